@@ -1,0 +1,50 @@
+-- A table's rule at each entry, from one test of the whole table; and a byte's step by a table whose rule is eight steps.
+-- Assumes nothing.
+use mathlib.Core.Path.{_≡_, refl, sym, ap, ap₂, _∙_}
+use mathlib.Core.List.{List, [], _∷_}
+use Prim.Native.Nat.{ℕ, zero, suc, _+_, _*_, _/_, _%_, _<_}
+use native.Mathlib.Nat.{add-zero, le-of-suc-le-suc, not-suc-le-zero}
+use native.Mathlib.Omega.{arith}
+use lib.Bits.{bitXor, xor-block, xor-lt, xor-zero-r}
+use lib.Dec.{lit≤}
+use lib.ListN.{getD}
+use lib.Pow as Pow
+use Rattle.crc.specs.Crc.{bitSteps, byteStep}
+use Rattle.crc.proofs.Split.{split}
+
+-- f at 0, 1, .., n of them
+unfoldable pub listed : (ℕ → ℕ) → ℕ → List ℕ
+listed f zero = []
+listed f (suc n) = f zero ∷ listed (λ k. f (suc k)) n
+
+listed-at : (f : ℕ → ℕ) (n k : ℕ) → k < n → getD (listed f n) k 0 ≡ f k
+unfolding listed
+listed-at f zero k h = absurd (not-suc-le-zero h)
+listed-at f (suc n) zero h = refl
+listed-at f (suc n) (suc k) h = listed-at (λ j. f (suc j)) n k (le-of-suc-le-suc h)
+
+-- the test is that two lists of numbers are one, which antt computes
+pub by-test : (f : ℕ → ℕ) (n : ℕ) {xs : List ℕ} → xs ≡ listed f n → (k : ℕ) → k < n → getD xs k 0 ≡ f k
+by-test f n test k h = ap (λ (l : List ℕ). getD l k 0) test ∙ listed-at f n k h
+
+-- the entry that a byte picks is one of the table's
+pub place-fits : {c b p : ℕ} → c < 65536 → b < 256 → p ≡ bitXor (c / 256) b → p < 256
+place-fits {c} {b} hc hb hp = rw hp (xor-lt 8 (c / 256) b (omega arith) hb)
+
+-- a byte is added to the upper half, and the lower stays
+added : (c b : ℕ) → bitXor c (b * 256) ≡ bitXor (c / 256) b * 256 + c % 256
+added c b =
+    ap₂ bitXor (sym (Pow.split c 8)) (sym (add-zero (b * 256)))
+    ∙ xor-block 8 (c / 256) b (c % 256) 0 (omega arith) (lit≤ tt)
+    ∙ ap (λ (x : ℕ). bitXor (c / 256) b * 256 + x) (xor-zero-r (c % 256))
+
+-- the entry at p with the lower half moved up is the register after the byte
+pub byte-by-table : {c b p r : ℕ} (t : List ℕ) → ((k : ℕ) → k < 256 → getD t k 0 ≡ bitSteps 8 (k * 256)) → c < 65536 → b < 256
+    → p ≡ bitXor (c / 256) b → r ≡ bitXor (c % 256 * 256) (getD t p 0) → r ≡ byteStep c b
+unfolding byteStep
+byte-by-table {c} {b} t rule hc hb hp hr =
+    hr
+    ∙ ap (λ (x : ℕ). bitXor (c % 256 * 256) (getD t x 0)) hp
+    ∙ ap (bitXor (c % 256 * 256)) (rule (bitXor (c / 256) b) (place-fits hc hb refl))
+    ∙ sym (split 8 8 (bitXor (c / 256) b) (c % 256) (omega arith) (lit≤ tt))
+    ∙ ap (bitSteps 8) (sym (added c b))

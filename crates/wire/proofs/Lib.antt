@@ -1,0 +1,5 @@
+pub mod Numbers
+pub mod Signed
+pub mod Doubles
+pub mod Fields
+pub mod Messages

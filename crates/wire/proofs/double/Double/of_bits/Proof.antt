@@ -1,0 +1,24 @@
+-- `wire::double::Double::of_bits` meets its contract, by cases on the pattern.
+use mathlib.Core.Path.{sym, _∙_}
+use borrow.Author.Needs.{needs}
+use lib.Ieee.{div, ofBits}
+use Rattle.wire.proofs.Doubles.{of-nan, of-number, no-nan-pattern}
+use Rattle.wire.proofs.double.Double.of_bits.Statement.{statement}
+use Rattle.wire.proofs.double.Double.of_bits.Tie as tie
+
+is-nan-pattern-requires : tie.Need-is-nan-pattern-requires
+is-nan-pattern-requires c κs = search needs
+
+-- 0.0 / 0.0 is the NaN
+returns : tie.Need-returns
+unfolding div ofBits
+returns c = sym (of-nan (c .before .before .args .n) (sym (c .before .is-nan-pattern .ensures) ∙ c .if1 .taken))
+
+float-from-bits-t4 : tie.Need-float-from-bits-t4
+float-from-bits-t4 c = no-nan-pattern (c .before .before .args .n) (sym (c .before .is-nan-pattern .ensures) ∙ c .if1 .left)
+
+returns-2 : tie.Need-returns-2
+returns-2 c = sym (of-number (c .before .before .args .n) (sym (c .before .is-nan-pattern .ensures) ∙ c .if1 .left))
+
+pub of-bits-spec : {M : Type 1} → statement M
+of-bits-spec = tie.close (tie.spec is-nan-pattern-requires returns float-from-bits-t4 returns-2)

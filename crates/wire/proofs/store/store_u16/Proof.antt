@@ -1,0 +1,57 @@
+-- `wire::store::store_u16` meets its contract: its two halves, where the whole has room.
+use mathlib.Core.Path.{sym, _∙_}
+use Prim.Native.Nat.{_+_}
+use native.Mathlib.Omega.{arith}
+use lib.ListN.{length}
+use borrow.Author.Needs.{needs}
+use borrow.Author.Tests.{leb-true}
+use Rattle.wire.proofs.Numbers.{stored-halves, stored-nowhere}
+use Rattle.wire.proofs.store.store_u16.Statement.{statement}
+use Rattle.wire.proofs.store.store_u16.Tie as tie
+
+room-requires : tie.Need-room-requires
+room-requires c κs = search needs
+
+cast-store-u8 : tie.Need-cast-store-u8
+cast-store-u8 c = search needs
+
+store-u8-requires : tie.Need-store-u8-requires
+store-u8-requires c κs = search needs
+
+add-store-u8 : tie.Need-add-store-u8
+add-store-u8 c =
+    let a = c .before .before .before .before .before .before .before .before .args in
+    omega (arith, leb-true (a .at + 2) (length (a .buf .now)) (sym (c .before .before .before .before .before .before .room .ensures) ∙ c .before .before .before .before .before .if1 .taken))
+
+cast-store-u8-2 : tie.Need-cast-store-u8-2
+cast-store-u8-2 c = search needs
+
+store-u8-requires-2 : tie.Need-store-u8-requires-2
+store-u8-requires-2 c κs = search needs
+
+same-length : tie.Need-same-length
+same-length c = search needs
+
+returns : tie.Need-returns
+returns c =
+    let a = c .before .before .before .before .before .before .before .before .before .before .before .args in
+    stored-halves 1 1 (a .v) (a .buf .now) (a .at) (sym (c .before .before .before .before .before .before .before .before .before .room .ensures) ∙ c .before .before .before .before .before .before .before .before .if1 .taken) (c .before .before .before .before .before .before .store-u8 .ensures) (c .before .before .store-u82 .ensures)
+
+returns-2 : tie.Need-returns-2
+returns-2 c =
+    let a = c .before .before .before .args in
+    stored-nowhere 2 (a .v) (a .buf .now) (a .at) (sym (c .before .room .ensures) ∙ c .if1 .left)
+
+pub store-u16-spec : {M : Type 1} → statement M
+store-u16-spec =
+    tie.close
+    (tie.spec
+    room-requires
+    cast-store-u8
+    store-u8-requires
+    add-store-u8
+    cast-store-u8-2
+    store-u8-requires-2
+    same-length
+    returns
+    returns-2)

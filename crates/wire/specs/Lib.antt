@@ -1,0 +1,4 @@
+pub mod Number
+pub mod Double
+pub mod Field
+pub mod Message

@@ -1,0 +1,35 @@
+-- A message: its fields, and its record as a row of them. Reading a payload answers 22, then 23; writing one answers 23.
+-- Assumes nothing.
+use Prim.Native.Nat.{ℕ}
+use mathlib.Core.Path.{_≡_}
+use mathlib.Core.Bool.{cond}
+use mathlib.Core.List.{List}
+use lib.Dec.{eqb}
+use lib.ListN.{length}
+use Rattle.wire.specs.Field.{Field, Row, size, encode, decode, allowedRow}
+
+-- what a call answers: what was asked for, or the number of its refusal
+pub data Answer (A : Type 0) : Type 0 where
+  given : A → Answer A
+  refused : ℕ → Answer A
+
+-- a record and a row of its fields are the same thing
+pub record Message (R : Type 0) : Type 0 where
+  pub fields : List Field
+  pub row : R → Row fields
+  pub make : Row fields → R
+  pub row-make : (v : Row fields) → row (make v) ≡ v
+  pub make-row : (r : R) → make (row r) ≡ r
+
+-- 23 where a ranged field is outside its range
+unfoldable pub judged : {R : Type 0} (m : Message R) → Row (m .fields) → Answer R
+judged m v = cond (allowedRow (m .fields) v) (given (m .make v)) (refused 23)
+
+-- the record in a payload: 22 for a wrong length, then 23
+unfoldable pub readAs : {R : Type 0} → Message R → List ℕ → Answer R
+unfolding judged
+readAs m s = cond (eqb (length s) (size (m .fields))) (judged m (decode (m .fields) s 0)) (refused 22)
+
+-- the payload of a record: 23, or its bytes
+unfoldable pub payloadOf : {R : Type 0} → Message R → R → Answer (List ℕ)
+payloadOf m r = cond (allowedRow (m .fields) (m .row r)) (given (encode (m .fields) (m .row r))) (refused 23)

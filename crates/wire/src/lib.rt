@@ -1,0 +1,22 @@
+// Numbers and doubles in bytes, little-endian, and the description of fields that every message is made of.
+// Read specs/Number.antt and specs/Double.antt first, then specs/Field.antt and specs/Message.antt.
+// Nothing here has a requires: a byte past the end reads 0, a store that runs past the end changes nothing.
+mod double;
+mod read;
+mod store;
+
+pub use double::Double;
+pub use read::read_double;
+pub use read::read_s16;
+pub use read::read_s32;
+pub use read::read_u8;
+pub use read::read_u16;
+pub use read::read_u32;
+pub use read::read_u64;
+pub use store::store_double;
+pub use store::store_s16;
+pub use store::store_s32;
+pub use store::store_u8;
+pub use store::store_u16;
+pub use store::store_u32;
+pub use store::store_u64;
