@@ -2,17 +2,17 @@
 -- so once they are turned over. Assumes nothing.
 use mathlib.Core.Path.{_≡_, sym, ap, _∙_}
 use mathlib.Core.Bool.{Bool, true, false, true≢false}
-use Prim.Native.Nat.{ℕ, suc, _-_, _^_, _<_}
-use native.Mathlib.Nat.{not-suc-le-zero}
+use Prim.Native.Nat.{ℕ, suc, _-_, _^_, _≤_, _<_}
+use native.Mathlib.Nat.{not-suc-le-zero, lt-of-lt-of-le}
 use native.Mathlib.Omega.{arith}
 use borrow.Author.Tests.{ltb-true}
 use lib.Arith.{sub-sub-self}
 use lib.Dec.{T}
 use lib.IntN.{ℤ, pos, negsuc, natAbs}
 use lib.Signed.{ltZ, nonNeg}
-use lib.Pow.{le-ones}
+use lib.Pow.{le-ones, pow-mono}
 use mir.Syntax.{Width}
-use mir.Val.{bits, Fits, SFits, toZ, ofZ}
+use mir.Val.{bits, hbits, Fits, SFits, toZ, ofZ}
 use mir.ValLaws.{toZ-pos, toZ-ofZ, ofZ-fits, half-full}
 
 -- the test z < 0 as the machine makes it
@@ -51,3 +51,7 @@ over-twice w z f e = ap (λ (x : ℤ). turned w (natAbs x)) (over w z f e) ∙ s
 -- a signed result made of bits that were read
 pub made-of : (w : Width) (z : ℤ) {m n : ℕ} → SFits w z → z ≡ toZ w m → m ≡ n → toZ w (ofZ w z) ≡ toZ w n
 made-of w z f p q = toZ-ofZ w z f ∙ p ∙ ap (toZ w) q
+
+-- a cast to a wider signed type
+pub widened : (w v : Width) (z : ℤ) → hbits w ≤ hbits v → SFits w z → SFits v (toZ w (ofZ w z))
+widened w v z h f = rw (toZ-ofZ w z f) (record { sfits = lt-of-lt-of-le (f .sfits) (pow-mono h) })

@@ -1,0 +1,11 @@
+// Runs published values and edge cases and prints what comes out; the file stdout beside src/ has the answers, worked out elsewhere.
+mod checksums;
+mod doubles;
+mod numbers;
+mod print;
+
+fn main() {
+    checksums::run();
+    numbers::run();
+    doubles::run();
+}

@@ -1,0 +1,49 @@
+// Words, numbers and bytes on standard output, each after a space but the first.
+pub fn word(text: &[u8]) {
+    io::write_all(1, text);
+}
+
+pub fn end() {
+    io::write_all(1, b"\n");
+}
+
+pub fn number(n: u64) {
+    io::write_all(1, b" ");
+    io::print_decimal(1, n);
+}
+
+pub fn signed(z: i64) {
+    if z < 0 {
+        io::write_all(1, b" -");
+        io::print_decimal(1, std::num::wrapping_add_u64((!z) as u64, 1));
+    } else {
+        number(z as u64);
+    }
+}
+
+pub fn signed_16(z: i16) {
+    signed(z as i64);
+}
+
+pub fn signed_32(z: i32) {
+    signed(z as i64);
+}
+
+pub fn hex(n: u64, width: usize) {
+    io::write_all(1, b" ");
+    io::print_hex(1, n, width);
+}
+
+// All bytes in hex, with nothing between them.
+pub fn bytes(s: &[u8]) {
+    io::write_all(1, b" ");
+    let mut i = 0;
+    while i < s.len() {
+        byte(s[i]);
+        i += 1;
+    }
+}
+
+fn byte(b: u8) {
+    io::print_hex(1, b as u64, 2);
+}
