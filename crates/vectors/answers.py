@@ -49,6 +49,74 @@ def doubles():
     yield "double one-with-pattern 3ff0000000000000"
 
 
-for part in checksums, numbers, doubles:
+def frame(kind, sender, payload):
+    body = struct.pack("<HHB", kind, sender, len(payload)) + payload
+    return b"\x55" + body + struct.pack("<H", binascii.crc_hqx(body, 0))
+
+
+def reading(data, growing):
+    """Document 01's five lines: the frames, the four counts, and how many bytes an open reading asks for (None: it ended)."""
+    p, found, counts = 0, [], dict(framed=0, junk=0, bad=0, short=0)
+    while p < len(data):
+        left = len(data) - p
+        need = 6 if left < 6 else data[p + 5] + 8
+        if data[p] != 0x55:
+            kind, step = "junk", 1
+        elif left < need:
+            if growing:
+                return found, counts, need
+            kind, step = "short", 1
+        elif binascii.crc_hqx(data[p + 1:p + need - 2], 0) != struct.unpack("<H", data[p + need - 2:p + need])[0]:
+            kind, step = "bad", 1
+        else:
+            found.append((p, *struct.unpack("<HH", data[p + 1:p + 5]), data[p + 6:p + need - 2]))
+            kind, step = "framed", need
+        counts[kind] += step
+        p += step
+    return found, counts, None
+
+
+def row(counts):
+    return "%(framed)d %(junk)d %(bad)d %(short)d" % counts
+
+
+def captures():
+    example = frame(0x0202, 1228, EXAMPLE[5:])
+    inside = bytes.fromhex("55010102020855000000000000 00aabb".replace(" ", ""))
+    cases = (
+        ("example", example), ("example-damaged", example[:-1] + b"\x95"), ("all-zero-frame", b"\x55" + bytes(7)), ("nothing", b""),
+        ("five-bytes", b"\x55" + bytes(4)), ("frame-inside-a-bad-one", inside), ("preamble-in-a-payload", frame(0x1234, 0x5678, b"\x55\x55")),
+        ("noise-around", b"\x01\x55" + bytes(7) + b"\x02\x03\x55"))
+    for name, data in cases:
+        for mode in "open", "closed":
+            found, counts, need = reading(data, mode == "open")
+            line = "%s %s" % (mode, name)
+            for at, kind, sender, payload in found:
+                line += " frame %d %d %d %d %s" % (at, kind, sender, len(payload), payload.hex())
+            yield line + (" end " if need is None else " needs %d " % need) + row(counts)
+        yield "totals %s %s" % (name, row(reading(data, False)[1]))
+
+
+def pattern(n, size):
+    return bytes((n % 256 + 3 * i) % 256 for i in range(size))
+
+
+def written():
+    for n in range(256):
+        data = frame(0x1234, 0x5678, pattern(n, n))
+        yield "length %d %d %04x ee %d" % (n, n + 8, struct.unpack("<H", data[-2:])[0], n)
+    data = frame(0x1234, 0x42, pattern(255, 255))
+    yield "write 255-into-263 263"
+    for n in range(264):
+        found, _, need = reading(data[:n], True)
+        told = "frame %d" % found[0][2] if found else "end" if need is None else "needs %d" % need
+        yield "cut %d %s %s" % (n, told, row(reading(data[:n], False)[1]))
+    untouched = "11" * 12
+    yield "write 5-into-12 refused 32 " + untouched
+    yield "write 256-into-12 refused 31 " + untouched
+    yield "write 3-into-12 11 " + frame(0x0102, 0x42, pattern(7, 3)).hex() + "11"
+
+
+for part in checksums, numbers, doubles, captures, written:
     for line in part():
         print(line)

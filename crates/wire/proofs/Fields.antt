@@ -7,13 +7,14 @@ use Prim.Native.Nat.{ℕ, _+_, _/_, _^_, _≤_, _<_}
 use native.Mathlib.Nat.{suc-ne-zero}
 use native.Mathlib.Omega.{arith}
 use lib.IntN.{ℤ}
+use lib.Signed.{mag}
 use lib.ListN.{length, take, drop, length-append, length-drop, take-append-drop}
 use lib.Seq.{sets, drop-drop, take-at, drop-at, length-take-le}
 use mir.Syntax.{Width, w8, w16, w32, w64, w128}
-use mir.Val.{bits, SFits}
+use mir.Val.{bits, hbits, SFits, toZ, ofZ}
 use mir.ValLaws.{toZ-ofZ, ofZ-toZ, ofZ-fits}
 use Rattle.wire.specs.Number.{Bytes, little, bytesOf, numberAt, storedAt}
-use Rattle.wire.specs.Field.{Kind, unsigned, signed, double, width, Value, Held, bitsOf, valueOf, valueAt, Field, any, ranged, rangedSigned, kindOf, allowed, Row, HeldRow, SettledRow, Settled, allowedRow, rowBits, size, encode, decode, rowStored}
+use Rattle.wire.specs.Field.{Kind, unsigned, signed, double, width, Value, Held, bitsOf, valueOf, valueAt, valueStored, Field, any, ranged, rangedSigned, kindOf, allowed, Row, HeldRow, SettledRow, Settled, allowedRow, rowBits, size, encode, decode, rowStored}
 use Rattle.wire.proofs.Numbers.{bytes-take, bytes-drop, little-lt, number-lt, length-bytesOf, little-bytesOf, bytesOf-little, stored-sets, length-stored, sets-append}
 use Rattle.wire.proofs.Doubles.{bits-doubleOf, doubleBits-lt}
 
@@ -144,3 +145,15 @@ row-sets (f ∷ fs) v s at h =
     row-sets fs (v .1) (storedAt w n s at) (at + w) room
     ∙ ap₂ (λ (t : List ℕ) (i : ℕ). sets t i (encode fs (v .1))) (stored-sets w n s at (omega arith)) (ap (λ (x : ℕ). at + x) (sym (length-bytesOf w n)))
     ∙ sym (sets-append s at (bytesOf w n) (encode fs (v .1)))
+
+-- one store more: s as it was found to be, then a value stored in it
+pub then : {s t u : List ℕ} (w n at : ℕ) → t ≡ s → u ≡ storedAt w n t at → u ≡ storedAt w n s at
+then w n at p q = q ∙ ap (λ (t : List ℕ). storedAt w n t at) p
+
+-- the same for a signed value as the machine hands it over
+pub then-signed : {s t u : List ℕ} (v : Width) (z : ℤ) (at : ℕ) → mag z < 2 ^ hbits v → t ≡ s → u ≡ storedAt (bits v / 8) (ofZ v (toZ v (ofZ v z))) t at → u ≡ storedAt (bits v / 8) (ofZ v z) s at
+then-signed v z at h p q = then (bits v / 8) (ofZ v z) at p (rw (toZ-ofZ v z (record { sfits = h })) at q)
+
+pub length-row : (fs : List Field) (v : Row fs) (s : List ℕ) (at : ℕ) → length (rowStored fs v s at) ≡ length s
+length-row [] v s at = refl
+length-row (f ∷ fs) v s at = length-row fs (v .1) (valueStored (kindOf f) (v .0) s at) (at + width (kindOf f)) ∙ length-stored (width (kindOf f)) (bitsOf (kindOf f) (v .0)) s at

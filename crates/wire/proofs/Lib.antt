@@ -3,3 +3,4 @@ pub mod Signed
 pub mod Doubles
 pub mod Fields
 pub mod Messages
+pub mod Flags

@@ -17,7 +17,7 @@ use Rattle.wire.proofs.Fields.{again, again-bits, again-settled, allowe
 same-given : {A : Type 0} {o : Answer A} {x y : A} → o ≡ given x → o ≡ given y → x ≡ y
 same-given p q = cc
 
-never-both : {A : Type 0} {o : Answer A} {x : A} {n : ℕ} → o ≡ given x → o ≡ refused n → ⊥
+pub never-both : {A : Type 0} {o : Answer A} {x : A} {n : ℕ} → o ≡ given x → o ≡ refused n → ⊥
 never-both p q = let z : _≡_ {A = ℕ} 0 1 = cc in omega arith
 
 same-refused : {A : Type 0} {o : Answer A} {m n : ℕ} → o ≡ refused m → o ≡ refused n → m ≡ n
@@ -96,7 +96,7 @@ module _ {R : Type 0} (m : Message R) where
   unfolding payloadOf
   payload-given r a = rw a
 
-  written : (r : R) (b : List ℕ) → payloadOf m r ≡ given b → (allowedRow (m .fields) (m .row r) ≡ true) × (b ≡ encode (m .fields) (m .row r))
+  pub written : (r : R) (b : List ℕ) → payloadOf m r ≡ given b → (allowedRow (m .fields) (m .row r) ≡ true) × (b ≡ encode (m .fields) (m .row r))
   written r b g = only (allowedRow (m .fields) (m .row r)) refl
     where
       only : (t : Bool) → allowedRow (m .fields) (m .row r) ≡ t → (allowedRow (m .fields) (m .row r) ≡ true) × (b ≡ encode (m .fields) (m .row r))
@@ -138,3 +138,18 @@ module _ {R : Type 0} (m : Message R) where
     -- and one such as reading makes comes back the same
     pub reads-same : SettledRow (m .fields) (m .row r) → readAs m b ≡ given r
     reads-same e = reads-again ∙ ap given (ap (m .make) (again-settled (m .fields) (m .row r) e) ∙ m .make-row r)
+
+  -- ---- as code answers: r is what it took from the bytes
+
+  pub gives-22 : (s : List ℕ) → (length s ≡ size (m .fields) → ⊥) → refused 22 ≡ readAs m s
+  gives-22 s e = sym (read-22 s e)
+
+  module _ (s : List ℕ) (r : R) (e : length s ≡ size (m .fields)) (taken : r ≡ m .make (decode (m .fields) s 0)) where
+    same-row : m .row r ≡ decode (m .fields) s 0
+    same-row = ap (m .row) taken ∙ m .row-make (decode (m .fields) s 0)
+
+    pub gives-23 : allowedRow (m .fields) (m .row r) ≡ false → refused 23 ≡ readAs m s
+    gives-23 a = sym (read-23 s e (ap (allowedRow (m .fields)) (sym same-row) ∙ a))
+
+    pub gives : allowedRow (m .fields) (m .row r) ≡ true → given r ≡ readAs m s
+    gives a = ap given taken ∙ sym (read-given s e (ap (allowedRow (m .fields)) (sym same-row) ∙ a))

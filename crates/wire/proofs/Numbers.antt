@@ -2,15 +2,15 @@
 -- and so do bytes as a number. Assumes nothing.
 use mathlib.Core.Path.{_≡_, refl, sym, ap, ap₂, _∙_, subst}
 use mathlib.Core.Bool.{Bool, cond, true, false}
-use mathlib.Core.List.{List, [], _∷_, _++_}
+use mathlib.Core.List.{List, [], _∷_, _++_, append-nil}
 use Prim.Native.Nat.{ℕ, zero, suc, _+_, _-_, _*_, _/_, _%_, _^_, _≤_, _<_}
-use native.Mathlib.Nat.{zero-add, add-zero, suc-add, add-suc, one-mul, mul-zero, pow-suc, pow-succ', mul-assoc, div-div-eq-div-mul, div-one, mod-eq-of-lt}
+use native.Mathlib.Nat.{zero-add, add-zero, suc-add, add-suc, one-mul, mul-zero, pow-suc, pow-succ', mul-assoc, div-div-eq-div-mul, div-one, mod-eq-of-lt, not-suc-le-zero, le-of-suc-le-suc}
 use native.Mathlib.Omega.{arith}
-use lib.Dec.{leb, lit<}
+use lib.Dec.{leb, ltb, lit<}
 use lib.Arith.{mod-mul}
-use lib.ListN.{length, getD, take, drop, set, drop-of-length-le}
-use lib.Seq.{sets, drop-drop, drop-cons, take-nil, getD-drop, length-sets}
-use borrow.Author.Tests.{le-leb, lt-leb, leb-true, leb-false}
+use lib.ListN.{length, getD, take, drop, set, length-drop, drop-of-length-le}
+use lib.Seq.{sets, drop-drop, drop-cons, take-nil, take-all, getD-drop, set-out, length-sets}
+use borrow.Author.Tests.{le-leb, lt-leb, leb-true, leb-false, ltb-true, ltb-false}
 use Rattle.wire.specs.Number.{Bytes, little, bytesOf, numberAt, storedAt}
 
 -- ---- lists of bytes
@@ -131,6 +131,14 @@ pub stored-byte : (v : ℕ) (s : List ℕ) (at : ℕ) → v < 256 → at < lengt
 unfolding bytesOf
 stored-byte v s at b h = sym (stored-sets 1 v s at (omega arith) ∙ ap (set s at) (mod-eq-of-lt b))
 
+-- one byte stored, or nothing where there is no such place
+pub set-byte : (v : ℕ) (s : List ℕ) (at : ℕ) → v < 256 → storedAt 1 v s at ≡ set s at v
+set-byte v s at b = go (ltb at (length s)) refl
+  where
+    go : (t : Bool) → ltb at (length s) ≡ t → storedAt 1 v s at ≡ set s at v
+    go true e = sym (stored-byte v s at b (ltb-true at (length s) e))
+    go false e = let past : length s ≤ at = ltb-false at (length s) e in stored-past 1 v s at (omega arith) ∙ sym (set-out s at v past)
+
 pub length-stored : (w n : ℕ) (s : List ℕ) (at : ℕ) → length (storedAt w n s at) ≡ length s
 unfolding storedAt
 length-stored w n s at = either (leb (at + w) (length s))
@@ -143,6 +151,25 @@ length-stored w n s at = either (leb (at + w) (length s))
 pub sets-append : (s : List ℕ) (i : ℕ) (xs ys : List ℕ) → sets s i (xs ++ ys) ≡ sets (sets s i xs) (i + length xs) ys
 sets-append s i [] ys = rw add-zero
 sets-append s i (x ∷ xs) ys = sets-append (set s i x) (suc i) xs ys ∙ rw (add-suc, suc-add)
+
+-- a run of stores in what stands from n on
+pub sets-part : (n : ℕ) (s : List ℕ) (i : ℕ) (vs : List ℕ) → n ≤ length s → take n s ++ sets (drop n s) i vs ≡ sets s (n + i) vs
+sets-part zero s i vs h = rw zero-add
+sets-part (suc n) [] i vs h = absurd (not-suc-le-zero h)
+sets-part (suc n) (x ∷ s) i vs h = ap (λ (t : List ℕ). x ∷ t) (sets-part n s i vs (le-of-suc-le-suc h)) ∙ rw suc-add (later x s (n + i) vs)
+  where
+    later : (x : ℕ) (s : List ℕ) (i : ℕ) (vs : List ℕ) → x ∷ sets s i vs ≡ sets (x ∷ s) (suc i) vs
+    later x s i [] = refl
+    later x s i (v ∷ vs) = later x (set s i v) (suc i) vs
+
+-- the same as code leaves it that lent the part from n on
+pub sets-lent : (n : ℕ) (s : List ℕ) (i : ℕ) (vs : List ℕ) {t : List ℕ} → n ≤ length s → t ≡ sets (take (length s - n) (drop n s)) i vs
+    → take n s ++ (t ++ drop (length s - n) (drop n s)) ≡ sets s (n + i) vs
+sets-lent n s i vs {t} h e =
+    let rest : length (drop n s) ≤ length s - n = rw length-drop (omega arith) in
+    ap (λ (u : List ℕ). take n s ++ (t ++ u)) (drop-of-length-le (drop n s) rest)
+    ∙ ap (λ (u : List ℕ). take n s ++ u) (append-nil t ∙ e ∙ ap (λ (u : List ℕ). sets u i vs) (take-all (length s - n) (drop n s) rest))
+    ∙ sets-part n s i vs h
 
 -- a number that has room, stored as its two halves
 halves-stored : (a b n : ℕ) (s : List ℕ) (at : ℕ) → at + (a + b) ≤ length s

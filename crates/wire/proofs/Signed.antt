@@ -9,7 +9,7 @@ use borrow.Author.Tests.{ltb-true}
 use lib.Arith.{sub-sub-self}
 use lib.Dec.{T}
 use lib.IntN.{ℤ, pos, negsuc, natAbs}
-use lib.Signed.{ltZ, nonNeg}
+use lib.Signed.{ltZ, nonNeg, mag}
 use lib.Pow.{le-ones, pow-mono}
 use mir.Syntax.{Width}
 use mir.Val.{bits, hbits, Fits, SFits, toZ, ofZ}
@@ -55,3 +55,7 @@ made-of w z f p q = toZ-ofZ w z f ∙ p ∙ ap (toZ w) q
 -- a cast to a wider signed type
 pub widened : (w v : Width) (z : ℤ) → hbits w ≤ hbits v → SFits w z → SFits v (toZ w (ofZ w z))
 widened w v z h f = rw (toZ-ofZ w z f) (record { sfits = lt-of-lt-of-le (f .sfits) (pow-mono h) })
+
+-- a signed result, as the machine carries it
+pub came-back : (w : Width) {z y : ℤ} → mag z < 2 ^ hbits w → z ≡ y → toZ w (ofZ w z) ≡ y
+came-back w {z} h e = toZ-ofZ w z (record { sfits = h }) ∙ e

@@ -1,9 +1,9 @@
 -- Whole numbers in bytes, little-endian: one definition over the width for all of them.
 -- Assumes nothing.
-use Prim.Native.Nat.{ℕ, zero, suc, _+_, _*_, _/_, _%_, _<_}
-use mathlib.Core.Bool.{cond}
+use Prim.Native.Nat.{ℕ, zero, suc, _+_, _*_, _/_, _%_, _^_, _<_}
+use mathlib.Core.Bool.{Bool, cond}
 use mathlib.Core.List.{List, [], _∷_}
-use lib.Dec.{leb}
+use lib.Dec.{leb, eqb}
 use lib.ListN.{length, getD, take, drop}
 use lib.Seq.{sets}
 
@@ -30,3 +30,7 @@ numberAt w s at = little (take w (drop at s))
 unfoldable pub storedAt : ℕ → ℕ → List ℕ → ℕ → List ℕ
 unfolding bytesOf
 storedAt w n s at = cond (leb (at + w) (length s)) (sets s at (bytesOf w n)) s
+
+-- bit k of a number, the lowest being bit 0
+unfoldable pub flagAt : ℕ → ℕ → Bool
+flagAt n k = eqb (n / 2 ^ k % 2) 1

@@ -1,0 +1,123 @@
+-- The answers of a cursor: the frames of the reading in order, one a call, then where the reading stops; and the counts of the whole reading
+-- with it. Assumes nothing.
+use mathlib.Core.Path.{_≡_, refl, sym, ap, ap₂, _∙_, subst, subst⁻¹}
+use mathlib.Core.Bool.{Bool, true, false, true≢false, false≢true}
+use mathlib.Core.List.{List, [], _∷_, _++_, append-assoc, append-nil}
+use Prim.Native.Nat.{ℕ, _^_, _≤_, _<_}
+use native.Mathlib.Omega.{arith}
+use lib.ListN.{length}
+use borrow.Author.Tests.{not-false}
+use Rattle.frames.specs.Step.{ends}
+use Rattle.frames.specs.Reading.{stops, steps, framesIn, framesOf, countsOf}
+use Rattle.frames.specs.Cursors.{countsIn, over, passes, ended, nextOf, after, Honest, Told, Led, start, more}
+use Rattle.frames.specs.declared.step.Step.{Step}
+use Rattle.frames.specs.declared.step.Step.the-variants.{Finished, Junk, Short, Bad, Found}
+use Rattle.frames.specs.declared.step.Frame.{Frame}
+use Rattle.frames.specs.declared.cursor.Cursor.{Cursor}
+use Rattle.frames.specs.declared.cursor.Next as Next
+use Rattle.frames.proofs.Steps.{at-end, past-end}
+use Rattle.frames.proofs.Readings.{steps-stop, steps-go}
+use Rattle.frames.proofs.Cursors.{here, passed-on, over-ends, over-further, by-next, honest-begun, honest-over, honest-counts}
+
+passed-no-frame : (growing : Bool) (x : Step) (fs : List Frame) → passes growing x ≡ true → framesIn x fs ≡ fs
+passed-no-frame growing Finished fs e = refl
+passed-no-frame growing Junk fs e = refl
+passed-no-frame growing (Short n) fs e = refl
+passed-no-frame growing Bad fs e = refl
+passed-no-frame growing (Found f) fs e = absurd (false≢true e)
+
+module _ (s : List ℕ) (small : length s < 2 ^ 64) (growing : Bool) where
+  -- ---- the counts
+
+  -- every answer's cursor is honest again
+  pub honest-next : (c : Cursor) → Honest growing s c → Honest growing s (after (nextOf s c))
+  honest-next = by-next s small (λ (c : Cursor) (n : Next.Next). Honest growing s c → Honest growing s (after n)) pass end
+    where
+      pass : (c : Cursor) (n : Next.Next) → passes (c .growing) (here s c) ≡ true → (Honest growing s (over c (here s c)) → Honest growing s (after n)) → Honest growing s c → Honest growing s (after n)
+      pass c n e rest h = rest (honest-over s small growing c h (passed-on growing (here s c) (subst (λ (g : Bool). passes g (here s c) ≡ true) (h .mode) e)))
+
+      at : (c : Cursor) → Honest growing s c → (x : Step) → here s c ≡ x → Honest growing s (after (ended c x))
+      at c h Finished q = h
+      at c h Junk q = h
+      at c h (Short n) q = h
+      at c h Bad q = h
+      at c h (Found f) q = subst (λ (x : Step). Honest growing s (over c x)) q (honest-over s small growing c h (ap (stops growing) q))
+
+      end : (c : Cursor) → passes (c .growing) (here s c) ≡ false → Honest growing s c → Honest growing s (after (ended c (here s c)))
+      end c e h = at c h (here s c) refl
+
+  -- ---- the answers of a cursor
+
+  -- the frames that are left
+  abbrev remaining : Cursor → List Frame
+  remaining c = framesOf (steps growing s (c .at))
+
+  -- a step that is passed over leaves them as they are
+  remaining-over : (c : Cursor) → passes growing (here s c) ≡ true → remaining c ≡ remaining (over c (here s c))
+  unfolding framesOf
+  remaining-over c e =
+      let goes = passed-on growing (here s c) e in
+      ap framesOf (steps-go growing s (c .at) goes)
+      ∙ passed-no-frame growing (here s c) (framesOf (steps growing s (ends s (c .at)))) e
+      ∙ ap (λ (p : ℕ). framesOf (steps growing s p)) (sym (over-ends s small growing c goes))
+
+  pub told : (c : Cursor) → c .growing ≡ growing → c .at ≤ length s → Told growing s (framesOf (steps growing s (c .at))) (nextOf s c)
+  unfolding framesOf
+  told = by-next s small (λ (c : Cursor) (n : Next.Next). c .growing ≡ growing → c .at ≤ length s → Told growing s (remaining c) n) pass end
+    where
+      pass : (c : Cursor) (n : Next.Next) → passes (c .growing) (here s c) ≡ true
+          → (over c (here s c) .growing ≡ growing → over c (here s c) .at ≤ length s → Told growing s (remaining (over c (here s c))) n)
+          → c .growing ≡ growing → c .at ≤ length s → Told growing s (remaining c) n
+      pass c n e rest m h =
+          let on = subst (λ (g : Bool). passes g (here s c) ≡ true) m e in
+          let goes = passed-on growing (here s c) on in
+          subst⁻¹ (λ (fs : List Frame). Told growing s fs n) (remaining-over c on) (rest m (over-further s small growing c goes .1))
+
+      at : (c : Cursor) → c .at ≤ length s → (x : Step) → here s c ≡ x → passes growing x ≡ false → Told growing s (remaining c) (ended c x)
+      at c h Finished q e = (ap framesOf (steps-stop growing s (c .at) (ap (stops growing) q)), omega (arith, at-end s (c .at) (ap (stops false) q)))
+      at c h Junk q e = absurd (true≢false e)
+      at c h (Short n) q e =
+          let open-reading = not-false growing e in
+          (ap framesOf (steps-stop growing s (c .at) (ap (stops growing) q ∙ open-reading)), q, open-reading)
+      at c h Bad q e = absurd (true≢false e)
+      at c h (Found f) q e =
+          let goes = ap (stops growing) q in
+          ap framesOf (steps-go growing s (c .at) goes)
+          ∙ ap₂ (λ (x : Step) (p : ℕ). framesIn x (framesOf (steps growing s p))) q (sym (over-ends s small growing c goes) ∙ ap (λ (x : Step). over c x .at) q)
+
+      end : (c : Cursor) → passes (c .growing) (here s c) ≡ false → c .growing ≡ growing → c .at ≤ length s → Told growing s (remaining c) (ended c (here s c))
+      end c e m h = at c h (here s c) refl (subst (λ (g : Bool). passes g (here s c) ≡ false) m e)
+
+  -- ---- both, of what next answered
+
+  said : {c : Cursor} {n : Next.Next} → Honest growing s c → nextOf s c ≡ n → Told growing s (remaining c) n × Honest growing s (after n)
+  said {c} h e = (subst (Told growing s (remaining c)) e (told c (h .mode) (h .inside)), subst (λ (n : Next.Next). Honest growing s (after n)) e (honest-next c h))
+
+  -- when no frame is left the counts are those of the whole reading
+  pub honest-end : {c d : Cursor} → Honest growing s c → nextOf s c ≡ Next.the-variants.End d → countsIn d ≡ countsOf (steps growing s 0)
+  honest-end {d = d} h e = let all = said h e in honest-counts s small growing d (all .1) (past-end s (d .at) growing (omega (arith, all .0 .1)))
+
+  pub honest-needs : {c d : Cursor} {n : ℕ} → Honest growing s c → nextOf s c ≡ Next.the-variants.Needs n d → countsIn d ≡ countsOf (steps growing s 0)
+  honest-needs {d = d} h e = let all = said h e in honest-counts s small growing d (all .1) (ap (stops growing) (all .0 .1) ∙ all .0 .2)
+
+  -- ---- calls of next from the start on
+
+  -- the frames handed out and those left are the frames of the whole reading
+  pub led : {fs : List Frame} {c : Cursor} → Led growing s fs c → Honest growing s c × (fs ++ framesOf (steps growing s (c .at)) ≡ framesOf (steps growing s 0))
+  led start = (honest-begun s small growing, refl)
+  led (more {fs = fs} {d = d} {f = f} l e) =
+      let before = led l in
+      let now = said (before .0) e in
+      (now .1, append-assoc fs (f ∷ []) (remaining d) ∙ ap (λ (gs : List Frame). fs ++ gs) (sym (now .0)) ∙ before .1)
+
+  -- when none is left, all were handed out
+  all-handed : {fs : List Frame} {c : Cursor} → Led growing s fs c → remaining c ≡ [] → fs ≡ framesOf (steps growing s 0)
+  all-handed {fs} l none = sym (append-nil fs) ∙ ap (λ (gs : List Frame). fs ++ gs) (sym none) ∙ led l .1
+
+  pub led-end : {fs : List Frame} {c d : Cursor} → Led growing s fs c → nextOf s c ≡ Next.the-variants.End d
+      → (fs ≡ framesOf (steps growing s 0)) × (countsIn d ≡ countsOf (steps growing s 0))
+  led-end l e = let h = led l .0 in (all-handed l (said h e .0 .0), honest-end h e)
+
+  pub led-needs : {fs : List Frame} {c d : Cursor} {n : ℕ} → Led growing s fs c → nextOf s c ≡ Next.the-variants.Needs n d
+      → (fs ≡ framesOf (steps growing s 0)) × (countsIn d ≡ countsOf (steps growing s 0))
+  led-needs l e = let h = led l .0 in (all-handed l (said h e .0 .0), honest-needs h e)

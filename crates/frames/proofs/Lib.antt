@@ -1,0 +1,11 @@
+pub mod Steps
+pub mod Frames
+pub mod Readings
+pub mod Tiling
+pub mod Cursors
+pub mod Answers
+pub mod WrittenPlan
+pub mod Written
+pub mod WrittenRead
+pub mod WrittenStream
+pub mod Messages

@@ -1,0 +1,114 @@
+-- Writing a message, once for every message: what the three ways through a typed writer answer and leave in the buffer; and both round
+-- trips through the frame. Assumes nothing.
+use mathlib.Core.Path.{_≡_, refl, sym, ap, ap₂, _∙_}
+use mathlib.Core.Bool.{Bool, true, false}
+use mathlib.Core.List.{List}
+use Prim.Native.Nat.{ℕ, _+_, _≤_, _<_}
+use lib.ListN.{length}
+use Rattle.wire.specs.Number.{Bytes}
+use Rattle.wire.specs.Field.{HeldRow, SettledRow, allowedRow, rowBits, size, encode, rowStored}
+use Rattle.wire.specs.Message.{Answer, given, refused, Message, readAs}
+use Rattle.wire.proofs.Fields.{length-encode}
+use Rattle.wire.proofs.Messages.{never-both, payload-given, written, writes-back, reads-back, reads-same}
+use Rattle.frames.specs.Step.{stepAt, payloadIn}
+use Rattle.frames.specs.Writer.{planned, sealed, framed}
+use Rattle.frames.specs.Message.{writeAnswer, writtenAs}
+use Rattle.frames.specs.declared.step.Frame.{Frame}
+use Rattle.frames.specs.declared.step.Step.the-variants.{Found}
+use Rattle.frames.proofs.WrittenPlan.{fits}
+use Rattle.frames.proofs.Written.{framed-unfit, writes-row}
+use Rattle.frames.proofs.WrittenRead.{framed-reads-back, framed-payload-back}
+
+module _ {R : Type 0} (m : Message R) (kind sender : ℕ) (r : R) (buf : List ℕ) where
+  -- what a writer answers, and the buffer as it leaves it
+  abbrev pub Wrote : Answer ℕ → List ℕ → Type 0
+  Wrote a u = (a ≡ writeAnswer m r (length buf)) × (u ≡ writtenAs m kind sender r buf)
+
+  -- a ranged field outside its range: nothing is written
+  pub wrote-23 : allowedRow (m .fields) (m .row r) ≡ false → Wrote (refused 23) buf
+  unfolding writeAnswer writtenAs
+  wrote-23 e = (rw e, rw e)
+
+  module _ (e : allowedRow (m .fields) (m .row r) ≡ true) {a : Answer ℕ} (plan : a ≡ planned (size (m .fields)) (length buf)) where
+    answers : a ≡ writeAnswer m r (length buf)
+    unfolding writeAnswer
+    answers = rw e plan
+
+    -- the frame has no room: nothing is written
+    pub wrote-nothing : {n : ℕ} → planned (size (m .fields)) (length buf) ≡ refused n → Wrote a buf
+    unfolding writtenAs
+    wrote-nothing q =
+        (answers, rw e (sym (framed-unfit kind sender (encode (m .fields) (m .row r)) buf (ap (λ (n : ℕ). planned n (length buf)) (length-encode (m .fields) (m .row r)) ∙ q))))
+
+    -- the fields stored one after the other, then sealed
+    pub wrote : {n : ℕ} {t u : List ℕ} → planned (size (m .fields)) (length buf) ≡ given n → t ≡ rowStored (m .fields) (m .row r) buf 6 → u ≡ sealed kind sender (size (m .fields)) t → Wrote a u
+    unfolding writtenAs
+    wrote q p s =
+        (answers, rw e (writes-row kind sender (m .fields) (m .row r) buf q p s))
+
+-- ---- through the frame
+
+module _ {R : Type 0} (m : Message R) (kind sender : ℕ) (r : R) (buf : List ℕ) where
+  -- a writer that answers a length found the record in its ranges and room for the frame
+  written-when : {n : ℕ} → writeAnswer m r (length buf) ≡ given n → (allowedRow (m .fields) (m .row r) ≡ true) × (planned (size (m .fields)) (length buf) ≡ given n)
+  unfolding writeAnswer
+  written-when {n} g = go (allowedRow (m .fields) (m .row r)) refl
+    where
+      go : (t : Bool) → allowedRow (m .fields) (m .row r) ≡ t → (allowedRow (m .fields) (m .row r) ≡ true) × (planned (size (m .fields)) (length buf) ≡ given n)
+      go true e = (e, rw e at g)
+      go false e = absurd (never-both {x = n} {n = 23} g (rw e))
+
+  frame-written : allowedRow (m .fields) (m .row r) ≡ true → writtenAs m kind sender r buf ≡ framed kind sender (encode (m .fields) (m .row r)) buf
+  unfolding writtenAs
+  frame-written e = rw e
+
+  -- the frame at the buffer's start
+  abbrev pub frameWritten : Frame
+  frameWritten = record { at = 0; kind = kind; sender = sender; length = size (m .fields) }
+
+  module _ {n : ℕ} (k : kind < 65536) (s : sender < 65536) (g : writeAnswer m r (length buf) ≡ given n) where
+    bytes : List ℕ
+    bytes = encode (m .fields) (m .row r)
+
+    few : length bytes ≤ 255
+    unfolding bytes
+    few = rw length-encode (fits (size (m .fields)) (length buf) (written-when g .1) .0)
+
+    room : length bytes + 8 ≤ length buf
+    unfolding bytes
+    room = rw length-encode (fits (size (m .fields)) (length buf) (written-when g .1) .1)
+
+    -- a frame written is found where it was written
+    pub found-through : stepAt (writtenAs m kind sender r buf) 0 ≡ Found frameWritten
+    unfolding bytes
+    found-through =
+        ap (λ (t : List ℕ). stepAt t 0) (frame-written (written-when g .0))
+        ∙ framed-reads-back kind sender bytes buf k s few room
+        ∙ ap (λ (l : ℕ). Found (record { at = 0; kind = kind; sender = sender; length = l })) (length-encode (m .fields) (m .row r))
+
+    payload-through : payloadIn (writtenAs m kind sender r buf) frameWritten ≡ bytes
+    unfolding bytes
+    payload-through =
+        ap₂ (λ (t : List ℕ) (l : ℕ). payloadIn t (record { at = 0; kind = kind; sender = sender; length = l }))
+        (frame-written (written-when g .0)) (sym (length-encode (m .fields) (m .row r)))
+        ∙ framed-payload-back kind sender bytes buf k s few room
+
+    -- and its payload gives the record back bit for bit
+    pub reads-through : HeldRow (m .fields) (m .row r)
+        → (q : R) × (readAs m (payloadIn (writtenAs m kind sender r buf) frameWritten) ≡ given q) × (rowBits (m .fields) (m .row q) ≡ rowBits (m .fields) (m .row r))
+    unfolding bytes
+    reads-through h =
+        let back = reads-back m r bytes h (payload-given m r (written-when g .0)) in
+        (back .0, ap (readAs m) payload-through ∙ back .1, back .2)
+
+    -- the very record, where it is such as reading makes
+    pub reads-through-same : HeldRow (m .fields) (m .row r) → SettledRow (m .fields) (m .row r)
+        → readAs m (payloadIn (writtenAs m kind sender r buf) frameWritten) ≡ given r
+    unfolding bytes
+    reads-through-same h e = ap (readAs m) payload-through ∙ reads-same m r bytes h (payload-given m r (written-when g .0)) e
+
+-- an accepted payload written again gives a frame of the same bytes
+pub writes-through : {R : Type 0} (m : Message R) (kind sender : ℕ) (r : R) (buf s : List ℕ) → Bytes s → readAs m s ≡ given r
+    → writtenAs m kind sender r buf ≡ framed kind sender s buf
+unfolding writtenAs
+writes-through m kind sender r buf s h g = let w = written m r s (writes-back m s r h g) in rw (w .0) (ap (λ (b : List ℕ). framed kind sender b buf) (sym (w .1)))

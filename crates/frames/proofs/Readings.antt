@@ -1,0 +1,85 @@
+-- Readings by position: a reading is the step at its place and then the reading from where that step ends, unless it stops there. And the
+-- one induction by which every fact of whole readings is shown. Assumes nothing.
+use mathlib.Core.Path.{_≡_, refl, ap, _∙_, subst⁻¹}
+use mathlib.Core.Bool.{Bool, true, false, true≢false, cond}
+use mathlib.Core.List.{List, [], _∷_}
+use Prim.Native.Nat.{ℕ, zero, suc, pred, _+_, _≤_, _<_}
+use native.Mathlib.Nat.{add-zero, add-suc, suc-add, not-suc-le-zero}
+use native.Mathlib.Omega.{arith}
+use lib.ListN.{length, drop}
+use lib.Seq.{drop-drop}
+use Rattle.frames.specs.Step.{stepOf, stepAt, passed, ends}
+use Rattle.frames.specs.Reading.{Placed, stops, readFrom, steps, placed}
+use Rattle.frames.specs.declared.step.Step.{Step}
+use Rattle.frames.specs.declared.step.Step.the-variants.{Finished, Junk, Short, Bad, Found}
+use Rattle.frames.proofs.Steps.{within}
+
+module _ (growing : Bool) where
+  -- skipping k bytes is reading from k further on
+  pub skipped : (k p : ℕ) (t : List ℕ) → readFrom growing k p t ≡ readFrom growing 0 (p + k) (drop k t)
+  unfolding readFrom
+  skipped zero p t = rw add-zero
+  skipped (suc k) p [] = refl
+  skipped (suc k) p (b ∷ t) = skipped k (suc p) t ∙ rw (suc-add, add-suc)
+
+  -- a step that a reading goes on by passes some bytes
+  pub passes-some : (x : Step) → stops growing x ≡ false → 0 < passed x
+  passes-some Finished e = absurd (true≢false e)
+  passes-some Junk e = omega arith
+  passes-some (Short n) e = omega arith
+  passes-some Bad e = omega arith
+  passes-some (Found f) e = omega arith
+
+  first : (p b : ℕ) (t : List ℕ)
+      → readFrom growing 0 p (b ∷ t)
+      ≡ cond (stops growing (stepOf p (b ∷ t))) [] (record { at = p; step = stepOf p (b ∷ t) } ∷ readFrom growing (pred (passed (stepOf p (b ∷ t)))) (suc p) t)
+  unfolding readFrom
+  first p b t = refl
+
+  past-first : (n p b : ℕ) (t : List ℕ) → 0 < n → readFrom growing (pred n) (suc p) t ≡ readFrom growing 0 (p + n) (drop n (b ∷ t))
+  past-first zero p b t h = absurd (not-suc-le-zero h)
+  past-first (suc n) p b t h = skipped n (suc p) t ∙ rw (suc-add, add-suc)
+
+  stop-at : (p : ℕ) (t : List ℕ) → stops growing (stepOf p t) ≡ true → readFrom growing 0 p t ≡ []
+  unfolding readFrom
+  stop-at p [] e = refl
+  stop-at p (b ∷ t) e = first p b t ∙ rw e
+
+  pub go-at : (p : ℕ) (t : List ℕ) → stops growing (stepOf p t) ≡ false
+      → readFrom growing 0 p t ≡ record { at = p; step = stepOf p t } ∷ readFrom growing 0 (p + passed (stepOf p t)) (drop (passed (stepOf p t)) t)
+  unfolding stepOf
+  go-at p [] e = absurd (true≢false e)
+  go-at p (b ∷ t) e =
+      first p b t ∙ rw e (ap (λ (xs : List Placed). record { at = p; step = stepOf p (b ∷ t) } ∷ xs) (past-first (passed (stepOf p (b ∷ t))) p b t (passes-some (stepOf p (b ∷ t)) e)))
+
+module _ (growing : Bool) (s : List ℕ) where
+  pub steps-stop : (p : ℕ) → stops growing (stepAt s p) ≡ true → steps growing s p ≡ []
+  steps-stop p e = stop-at growing p (drop p s) e
+
+  pub steps-go : (p : ℕ) → stops growing (stepAt s p) ≡ false → steps growing s p ≡ placed s p ∷ steps growing s (ends s p)
+  steps-go p e = go-at growing p (drop p s) e ∙ rw drop-drop
+
+  -- a step that a reading goes on by ends further on, and within the capture
+  pub goes-on : (p : ℕ) → stops growing (stepAt s p) ≡ false → (p < ends s p) × (ends s p ≤ length s)
+  goes-on p e = (omega (arith, passes-some growing (stepAt s p) e), within s p growing e)
+
+  module _ (P : ℕ → List Placed → Type 0)
+      (stop : (p : ℕ) → stops growing (stepAt s p) ≡ true → P p [])
+      (go : (p : ℕ) → stops growing (stepAt s p) ≡ false → p < ends s p → ends s p ≤ length s → P (ends s p) (steps growing s (ends s p)) → P p (placed s p ∷ steps growing s (ends s p)))
+    where
+      turn : (p : ℕ) → (p < ends s p → ends s p ≤ length s → P (ends s p) (steps growing s (ends s p))) → P p (steps growing s p)
+      turn p rest = by (stops growing (stepAt s p)) refl
+        where
+          by : (t : Bool) → stops growing (stepAt s p) ≡ t → P p (steps growing s p)
+          by true e = subst⁻¹ (P p) (steps-stop p e) (stop p e)
+          by false e =
+              let on = goes-on p e in
+              subst⁻¹ (P p) (steps-go p e) (go p e (on .0) (on .1) (rest (on .0) (on .1)))
+
+      by-fuel : (n p : ℕ) → length s ≤ p + n → P p (steps growing s p)
+      by-fuel zero p h = turn p (λ l r. absurd (omega arith))
+      by-fuel (suc n) p h = turn p (λ l r. by-fuel n (ends s p) (omega arith))
+
+      -- what holds where a reading stops, and of a step if it holds from where the step ends, holds of every reading
+      pub by-steps : (p : ℕ) → P p (steps growing s p)
+      by-steps p = by-fuel (length s) p (omega arith)

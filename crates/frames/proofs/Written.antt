@@ -1,0 +1,166 @@
+-- The stores of a frame writer make the frame: the head, the payload at 6 and the CRC after it. Assumes nothing.
+use mathlib.Core.Path.{_≡_, refl, sym, ap, ap₂, _∙_}
+use mathlib.Core.Bool.{Bool, true, false}
+use mathlib.Core.List.{List, [], _∷_, _++_, append-assoc}
+use Prim.Native.Nat.{ℕ, suc, _+_, _-_, _≤_, _<_, zero-le}
+use native.Mathlib.Numerals.{add-one}
+use native.Mathlib.Omega.{arith}
+use lib.Dec.{ltb}
+use lib.ListN.{length, getD, take, drop, set, length-append, length-drop, take-append-drop, drop-of-length-le}
+use lib.Seq.{sets, set-out, drop-drop, drop-cons, take-append-seam, drop-append-add, take-at, drop-at, length-take-le, length-sets, sets-eq}
+use borrow.Author.Tests.{ltb-true, ltb-false}
+use Rattle.wire.specs.Number.{bytesOf, storedAt}
+use Rattle.wire.specs.Field.{Field, Row, size, encode, rowStored}
+use Rattle.wire.specs.Message.{given, refused}
+use Rattle.wire.proofs.Numbers.{length-bytesOf, stored-sets, set-byte}
+use Rattle.wire.proofs.Fields.{length-encode, row-sets}
+use Rattle.crc.specs.Crc.{crcFrom}
+use Rattle.frames.specs.Frame.{covered, frameBytes}
+use Rattle.frames.specs.Writer.{planned, head, headRow, headed, sealed, framed}
+use Rattle.frames.proofs.WrittenPlan.{fits, fitting-true, unfit}
+
+-- ---- lengths
+
+pub length-covered : (kind sender : ℕ) (payload : List ℕ) → length (covered kind sender payload) ≡ length payload + 5
+unfolding bytesOf covered
+length-covered kind sender payload = omega arith
+
+pub length-frame : (kind sender : ℕ) (payload : List ℕ) → length (frameBytes kind sender payload) ≡ length payload + 8
+unfolding bytesOf frameBytes
+length-frame kind sender payload = simp length-append (omega arith)
+
+pub length-frame-then : (kind sender : ℕ) (payload rest : List ℕ) → length (frameBytes kind sender payload ++ rest) ≡ length payload + 8 + length rest
+length-frame-then kind sender payload rest = length-append (frameBytes kind sender payload) rest ∙ ap (λ (n : ℕ). n + length rest) (length-frame kind sender payload)
+
+-- ---- sealing
+
+drop-on : (m n k : ℕ) (s : List ℕ) → n + m ≡ k → drop m (drop n s) ≡ drop k s
+drop-on m n k s e = drop-drop m n s ∙ ap (λ (i : ℕ). drop i s) e
+
+-- a run of stores from where a list ends on
+sets-seam : (a b vs : List ℕ) (n : ℕ) → length a ≡ n → length vs ≤ length b → sets (a ++ b) n vs ≡ a ++ vs ++ drop (length vs) b
+sets-seam a b vs n e h =
+    ap (λ (k : ℕ). sets (a ++ b) k vs) (sym e)
+    ∙ sets-eq vs (a ++ b) (length a) (rw length-append (omega arith))
+    ∙ ap₂ (λ (x y : List ℕ). x ++ vs ++ y) (take-append-seam a b) (drop-append-add a b (length vs))
+
+-- the n payload bytes that stand in a buffer at 6
+pub length-payload : (n : ℕ) (buf : List ℕ) → n + 8 ≤ length buf → length (take n (drop 6 buf)) ≡ n
+length-payload n buf room = length-take-le n (drop 6 buf) (rw length-drop (omega arith))
+
+payload-split : (n : ℕ) (buf : List ℕ) → drop 6 buf ≡ take n (drop 6 buf) ++ drop (n + 6) buf
+payload-split n buf = sym (take-append-drop n (drop 6 buf)) ∙ ap (λ (t : List ℕ). take n (drop 6 buf) ++ t) (drop-on n 6 (n + 6) buf (omega arith))
+
+module _ (kind sender n : ℕ) (buf : List ℕ) where
+  module _ (room : n + 8 ≤ length buf) where
+    -- the head goes before the payload
+    front : headed kind sender n buf ≡ 0x55 ∷ covered kind sender (take n (drop 6 buf)) ++ drop (n + 6) buf
+    unfolding bytesOf covered
+    front =
+        row-sets head (headRow kind sender n) buf 0 (omega arith)
+        ∙ sets-seam [] buf (encode head (headRow kind sender n)) 0 refl (omega arith)
+        ∙ ap₂ (λ (m : ℕ) (t : List ℕ). encode head (headRow kind sender m) ++ t) (sym (length-payload n buf room)) (payload-split n buf)
+
+    -- the CRC is taken of all between the preamble and the payload's end
+    sum-of-covered : take (n + 6 - 1) (drop 1 (headed kind sender n buf)) ≡ covered kind sender (take n (drop 6 buf))
+    sum-of-covered =
+        ap (λ (t : List ℕ). take (n + 6 - 1) (drop 1 t)) front
+        ∙ take-at (covered kind sender (take n (drop 6 buf))) (drop (n + 6) buf) (n + 6 - 1)
+        (length-covered kind sender (take n (drop 6 buf)) ∙ omega (arith, length-payload n buf room))
+
+    -- and goes after the payload
+    pub sealing : storedAt 2 (crcFrom 0 (take (n + 6 - 1) (drop 1 (headed kind sender n buf)))) (headed kind sender n buf) (n + 6)
+        ≡ frameBytes kind sender (take n (drop 6 buf)) ++ drop (n + 8) buf
+    unfolding frameBytes
+    sealing =
+        let p = take n (drop 6 buf) in
+        let sum = crcFrom 0 (covered kind sender p) in
+        let before : length (0x55 ∷ covered kind sender p) ≡ n + 6 = omega (arith, length-covered kind sender p, length-payload n buf room) in
+        let after : length (drop (n + 6) buf) ≡ length buf - (n + 6) = length-drop (n + 6) buf in
+        ap₂ (λ (c : ℕ) (t : List ℕ). storedAt 2 c t (n + 6)) (ap (crcFrom 0) sum-of-covered) front
+        ∙ stored-sets 2 sum (0x55 ∷ covered kind sender p ++ drop (n + 6) buf) (n + 6) (rw length-append (omega arith))
+        ∙ sets-seam (0x55 ∷ covered kind sender p) (drop (n + 6) buf) (bytesOf 2 sum) (n + 6) before (rw length-bytesOf (omega arith))
+        ∙ ap (λ (t : List ℕ). 0x55 ∷ covered kind sender p ++ bytesOf 2 sum ++ t)
+        (drop-on (length (bytesOf 2 sum)) (n + 6) (n + 8) buf (rw length-bytesOf (omega arith)))
+
+  -- what the writer leaves, where the frame fits and where not
+  pub sealed-fits : n ≤ 255 → n + 8 ≤ length buf → sealed kind sender n buf ≡ frameBytes kind sender (take n (drop 6 buf)) ++ drop (n + 8) buf
+  unfolding sealed
+  sealed-fits h room = rw (fitting-true n (length buf) h room)
+
+  pub sealed-unfit : {k : ℕ} → planned n (length buf) ≡ refused k → sealed kind sender n buf ≡ buf
+  unfolding sealed
+  sealed-unfit r = rw (unfit n (length buf) r)
+
+  -- the stores of `seal`, one after the other
+  pub seals : {m from sum : ℕ} {first last : List ℕ} → planned n (length buf) ≡ given m → from ≡ sender → first ≡ headed kind from n buf
+      → sum ≡ crcFrom 0 (take (n + 6 - 1) (drop 1 first)) → last ≡ storedAt 2 sum first (n + 6) → last ≡ sealed kind sender n buf
+  seals {first} g e p q r =
+      let room = fits n (length buf) g in
+      let front : first ≡ headed kind sender n buf = p ∙ ap (λ (s : ℕ). headed kind s n buf) e in
+      r ∙ ap₂ (λ (c : ℕ) (t : List ℕ). storedAt 2 c t (n + 6)) (q ∙ ap (λ (t : List ℕ). crcFrom 0 (take (n + 6 - 1) (drop 1 t))) front) front
+      ∙ sealing (room .1)
+      ∙ sym (sealed-fits (room .0) (room .1))
+
+-- ---- the payload, then the seal
+
+module _ (kind sender : ℕ) (payload buf : List ℕ) where
+  pub framed-fits : length payload ≤ 255 → length payload + 8 ≤ length buf → framed kind sender payload buf ≡ frameBytes kind sender payload ++ drop (length payload + 8) buf
+  unfolding framed
+  framed-fits h room = rw (fitting-true (length payload) (length buf) h room)
+
+  pub framed-unfit : {k : ℕ} → planned (length payload) (length buf) ≡ refused k → framed kind sender payload buf ≡ buf
+  unfolding framed
+  framed-unfit r = rw (unfit (length payload) (length buf) r)
+
+  -- a payload stored at 6 and sealed is the frame
+  pub sealed-framed : length payload ≤ 255 → length payload + 8 ≤ length buf → sealed kind sender (length payload) (sets buf 6 payload) ≡ framed kind sender payload buf
+  sealed-framed h room =
+      let n = length payload in
+      let six : length (take 6 buf) ≡ 6 = length-take-le 6 buf (omega arith) in
+      let stored : drop 6 (sets buf 6 payload) ≡ payload ++ drop (6 + n) buf
+      = ap (drop 6) (sets-eq payload buf 6 (omega arith) ∙ append-assoc (take 6 buf) payload (drop (6 + n) buf))
+      ∙ drop-at (take 6 buf) (payload ++ drop (6 + n) buf) 6 six in
+      let after : drop (n + 8) (sets buf 6 payload) ≡ drop (n + 8) buf
+      = sym (drop-on (n + 2) 6 (n + 8) (sets buf 6 payload) (omega arith))
+      ∙ ap (drop (n + 2)) stored
+      ∙ drop-append-add payload (drop (6 + n) buf) 2
+      ∙ drop-on 2 (6 + n) (n + 8) buf (omega arith) in
+      sealed-fits kind sender n (sets buf 6 payload) h (rw length-sets room)
+      ∙ ap₂ (λ (p t : List ℕ). frameBytes kind sender p ++ t) (ap (take n) stored ∙ take-append-seam payload (drop (6 + n) buf)) after
+      ∙ sym (framed-fits h room)
+
+  -- what a writer does where its plan says that the frame fits
+  pub writes : {m : ℕ} {first last : List ℕ} → planned (length payload) (length buf) ≡ given m → first ≡ sets buf 6 payload
+      → last ≡ sealed kind sender (length payload) first → last ≡ framed kind sender payload buf
+  writes g p q =
+      let room = fits (length payload) (length buf) g in
+      q ∙ ap (sealed kind sender (length payload)) p ∙ sealed-framed (room .0) (room .1)
+
+-- the same of a row that is stored field after field, as the typed writers do
+pub writes-row : (kind sender : ℕ) (fs : List Field) (v : Row fs) (buf : List ℕ) {m : ℕ} {first last : List ℕ} → planned (size fs) (length buf) ≡ given m
+    → first ≡ rowStored fs v buf 6 → last ≡ sealed kind sender (size fs) first → last ≡ framed kind sender (encode fs v) buf
+writes-row kind sender fs v buf {first = first} g p q =
+    let room = fits (size fs) (length buf) g in
+    writes kind sender (encode fs v) buf (ap (λ (n : ℕ). planned n (length buf)) (length-encode fs v) ∙ g) (p ∙ row-sets fs v buf 6 (omega arith)) (q ∙ ap (λ (n : ℕ). sealed kind sender n first) (sym (length-encode fs v)))
+
+-- ---- the loop that copies a payload
+
+-- buf is what start has become once i bytes are copied
+abbrev pub Copied : List ℕ → List ℕ → List ℕ → ℕ → Type 0
+Copied start payload buf i = (i ≤ length payload) × (sets buf (6 + i) (drop i payload) ≡ sets start 6 payload)
+
+pub copied-none : (start payload : List ℕ) → Copied start payload start 0
+copied-none start payload = (zero-le, refl)
+
+module _ (start payload buf : List ℕ) (i : ℕ) (inv : Copied start payload buf i) where
+  pub copied-more : {next : List ℕ} → i < length payload → getD payload i 0 < 256 → next ≡ storedAt 1 (getD payload i 0) buf (6 + i) → Copied start payload next (i + 1)
+  copied-more h b e =
+      let place : 6 + (i + 1) ≡ suc (6 + i) = omega arith in
+      (omega arith, rw (e ∙ set-byte (getD payload i 0) buf (6 + i) b, place, add-one) (sym (ap (sets buf (6 + i)) (drop-cons payload i 0 h)) ∙ inv .1))
+
+  pub copied-all : length payload ≤ i → buf ≡ sets start 6 payload
+  copied-all h = sym (ap (sets buf (6 + i)) (drop-of-length-le payload h)) ∙ inv .1
+
+  pub copied-length : length buf ≡ length start
+  copied-length = sym (length-sets buf (6 + i) (drop i payload)) ∙ ap length (inv .1) ∙ length-sets start 6 payload

@@ -1,0 +1,64 @@
+-- `frames::cursor::Cursor::next` meets its contract. The loop's invariant: the answer is still that of the cursor handed in.
+-- Assumes nothing.
+use mathlib.Core.Path.{_≡_, refl, sym, _∙_}
+use Prim.Native.Nat.{_-_}
+use native.Mathlib.Omega.{arith}
+use borrow.Author.Needs.{needs}
+use lib.ListN.{length}
+use Rattle.frames.specs.Cursors.{nextOf}
+use Rattle.frames.proofs.Cursors.{passed-on, comes-further, next-kept, next-given}
+use Rattle.frames.proofs.cursor.Cursor.next.Statement.{statement}
+use Rattle.frames.proofs.cursor.Cursor.next.Tie as tie
+
+abbrev Inv-loop : tie.InvT-loop
+Inv-loop s c₀ c = nextOf s c ≡ nextOf s c₀
+
+abbrev μ-loop : tie.MeasureT-loop
+μ-loop s c₀ c = length s - c .at
+
+loop-holds : tie.Need-loop-holds Inv-loop μ-loop
+loop-holds c = refl
+
+step-at-requires : tie.Need-step-at-requires Inv-loop μ-loop
+step-at-requires c κs = search needs
+
+passes-requires : tie.Need-passes-requires Inv-loop μ-loop
+passes-requires c κs = search needs
+
+over-requires : tie.Need-over-requires Inv-loop μ-loop
+over-requires c κs = search needs
+
+loop-less : tie.Need-loop-less Inv-loop μ-loop
+loop-less c =
+    let k = c .before .before .before .before .loop .c in
+    let x = c .before .before .before .step-at in
+    let on = passed-on (k .growing) (x .result) (sym (c .before .before .passes .ensures) ∙ c .before .if1 .taken) in
+    omega (arith, comes-further (c .before .before .before .before .before .before .args .s .now) (c .before .before .before .before .before .before .good .1 .0 .0) k (x .ensures) (c .over .ensures) (k .growing) on)
+
+loop-again : tie.Need-loop-again Inv-loop μ-loop
+loop-again c =
+    let k = c .before .before .before .before .loop in
+    next-kept (c .before .before .before .before .before .before .args .s .now) (c .before .before .before .before .before .before .good .1 .0 .0) (k .c) (c .before .before .before .step-at .ensures) (c .over .ensures) (sym (c .before .before .passes .ensures) ∙ c .before .if1 .taken) ∙ k .inv
+
+ended-requires : tie.Need-ended-requires Inv-loop μ-loop
+ended-requires c κs = search needs
+
+returns : tie.Need-returns Inv-loop μ-loop
+returns c =
+    let k = c .before .before .before .before .loop in
+    next-given (c .before .before .before .before .before .before .args .s .now) (c .before .before .before .before .before .before .good .1 .0 .0) (k .c) (c .before .before .before .step-at .ensures) (sym (c .before .before .passes .ensures) ∙ c .before .if1 .left) (c .ended .ensures) ∙ k .inv
+
+pub next-spec : {M : Type 1} → statement M
+next-spec =
+    tie.close
+    (tie.spec
+    Inv-loop
+    μ-loop
+    loop-holds
+    step-at-requires
+    passes-requires
+    over-requires
+    loop-less
+    loop-again
+    ended-requires
+    returns)

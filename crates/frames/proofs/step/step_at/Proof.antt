@@ -1,0 +1,126 @@
+-- `frames::step::step_at` meets its contract: each return is one of the five lines.
+-- Assumes nothing.
+use mathlib.Core.Path.{sym, ap₂, _∙_}
+use Prim.Native.Nat.{ℕ, _+_}
+use native.Mathlib.Omega.{arith}
+use borrow.Author.Needs.{needs}
+use Rattle.frames.specs.declared.step.Step.the-variants.{Found}
+use Rattle.frames.proofs.Steps.{size, finished, junk, headless, cut, bad, found, decides, summed}
+use Rattle.frames.proofs.step.step_at.Statement.{statement}
+use Rattle.frames.proofs.step.step_at.Tie as tie
+
+returns : tie.Need-returns
+returns c =
+    let a = c .before .before .args in
+    decides (a .s .now) (a .at) (finished (c .if1 .taken))
+
+shared-slice-read-if2 : tie.Need-shared-slice-read-if2
+shared-slice-read-if2 c = search needs
+
+returns-2 : tie.Need-returns-2
+returns-2 c =
+    let a = c .before .before .before .before .args in
+    decides (a .s .now) (a .at) (junk (c .before .before .if1 .left) (c .if2 .taken))
+
+sub-left : tie.Need-sub-left
+sub-left c = search needs
+
+returns-3 : tie.Need-returns-3
+returns-3 c =
+    let a = c .before .before .before .before .before .args in
+    decides (a .s .now) (a .at) (headless (c .before .before .before .if1 .left) (c .before .if2 .left) (c .if3 .taken))
+
+add-length : tie.Need-add-length
+add-length c = search needs
+
+shared-slice-read-length : tie.Need-shared-slice-read-length
+shared-slice-read-length c = search needs
+
+cast-n : tie.Need-cast-n
+cast-n c = omega (arith, c .shared-slice-known3 .given (c .before .before .before .before .before .before .args .at + 5))
+
+add-if4 : tie.Need-add-if4
+add-if4 c = omega (arith, c .shared-slice-known3 .given (c .before .before .before .before .before .before .args .at + 5))
+
+add-t13 : tie.Need-add-t13
+add-t13 c = omega (arith, c .before .shared-slice-known3 .given (c .before .before .before .before .before .before .before .args .at + 5))
+
+returns-4 : tie.Need-returns-4
+returns-4 c =
+    let a = c .before .before .before .before .before .before .before .args in
+    decides (a .s .now) (a .at) (cut (c .before .before .before .if2 .left) (c .before .before .if3 .left) (omega arith))
+
+add-first : tie.Need-add-first
+add-first c = search needs
+
+add-end : tie.Need-add-end
+add-end c = search needs
+
+add-end-2 : tie.Need-add-end-2
+add-end-2 c = search needs
+
+sub-crc : tie.Need-sub-crc
+sub-crc c = search needs
+
+part-crc-start : tie.Need-part-crc-start
+part-crc-start c = search needs
+
+part-crc-end : tie.Need-part-crc-end
+part-crc-end c = search needs
+
+crc-requires : tie.Need-crc-requires
+crc-requires c κs = search needs
+
+read-u16-requires : tie.Need-read-u16-requires
+read-u16-requires c κs = search needs
+
+returns-5 : tie.Need-returns-5
+returns-5 c =
+    let a = c .before .before .before .before .before .before .before .before .before .before .before .args in
+    let same = summed (a .s .now) (a .at) (c .before .before .crc .ensures) in
+    decides (a .s .now) (a .at) (bad (c .before .before .before .before .before .before .before .if2 .left) (omega (arith, c .before .before .before .before .if4 .left)) (λ e. c .if5 .taken (same ∙ e ∙ sym (c .before .read-u16 .ensures))))
+
+read-u16-requires-2 : tie.Need-read-u16-requires-2
+read-u16-requires-2 c κs = search needs
+
+add-read-u16 : tie.Need-add-read-u16
+add-read-u16 c = search needs
+
+read-u16-requires-3 : tie.Need-read-u16-requires-3
+read-u16-requires-3 c κs = search needs
+
+returns-6 : tie.Need-returns-6
+returns-6 c =
+    let a = c .before .before .before .before .before .before .before .before .before .before .before .before .before .args in
+    let same = summed (a .s .now) (a .at) (c .before .before .before .before .crc .ensures) in
+    ap₂ (λ (k n : ℕ). Found (record { at = a .at; kind = k; sender = n; length = size (a .s .now) (a .at) })) (c .before .read-u162 .ensures) (c .read-u163 .ensures)
+    ∙ decides (a .s .now) (a .at) (found (c .before .before .before .before .before .before .before .before .before .if2 .left) (c .before .before .before .before .before .before .if4 .left) (sym same ∙ c .before .before .if5 .left ∙ c .before .before .before .read-u16 .ensures))
+
+pub step-at-spec : {M : Type 1} → statement M
+step-at-spec =
+    tie.close
+    (tie.spec
+    returns
+    shared-slice-read-if2
+    returns-2
+    sub-left
+    returns-3
+    add-length
+    shared-slice-read-length
+    cast-n
+    add-if4
+    add-t13
+    returns-4
+    add-first
+    add-end
+    add-end-2
+    sub-crc
+    part-crc-start
+    part-crc-end
+    crc-requires
+    read-u16-requires
+    returns-5
+    read-u16-requires-2
+    add-read-u16
+    read-u16-requires-3
+    returns-6)

@@ -1,0 +1,81 @@
+-- What a cursor answers, and what that has to do with the whole reading. Assumes nothing.
+use Prim.Native.Nat.{ℕ, _+_, _%_, _^_, _≤_}
+use mathlib.Core.Path.{_≡_}
+use mathlib.Core.Bool.{Bool, true, false, not, cond}
+use mathlib.Core.List.{List, [], _∷_, _++_}
+use lib.ListN.{length}
+use Rattle.frames.specs.Step.{stepAt, passed}
+use Rattle.frames.specs.Reading.{Placed, readFrom, steps, framesOf, counted, added, countsOf, sumOf}
+use Rattle.frames.specs.declared.step.Frame.{Frame}
+use Rattle.frames.specs.declared.step.Step.{Step}
+use Rattle.frames.specs.declared.step.Step.the-variants.{Finished, Junk, Short, Bad, Found}
+use Rattle.frames.specs.declared.cursor.Counts.{Counts}
+use Rattle.frames.specs.declared.cursor.Cursor.{Cursor}
+use Rattle.frames.specs.declared.cursor.Next as Next
+
+abbrev pub begun : Bool → Cursor
+begun growing = record { at = 0; growing = growing; framed = 0; junk = 0; bad = 0; short = 0 }
+
+abbrev pub countsIn : Cursor → Counts
+countsIn c = record { framed = c .framed; junk = c .junk; bad = c .bad; short = c .short }
+
+-- a sum that wraps, so that no value of a cursor traps
+abbrev pub plus : ℕ → ℕ → ℕ
+plus a b = (a + b) % 2 ^ 64
+
+-- past a step: further by the bytes that it passes, and with what it counts
+abbrev pub over : Cursor → Step → Cursor
+over c x =
+    let k = counted x in
+    record { at = plus (c .at) (passed x); growing = c .growing; framed = plus (c .framed) (k .framed); junk = plus (c .junk) (k .junk); bad = plus (c .bad) (k .bad); short = plus (c .short) (k .short) }
+
+-- what a cursor passes over on its way to the next frame
+abbrev pub passes : Bool → Step → Bool
+passes growing Finished = false
+passes growing Junk = true
+passes growing (Short n) = not growing
+passes growing Bad = true
+passes growing (Found f) = false
+
+-- its answer at a step that it does not pass over
+abbrev pub ended : Cursor → Step → Next.Next
+ended c Finished = Next.the-variants.End c
+ended c Junk = Next.the-variants.End c
+ended c (Short n) = Next.the-variants.Needs n c
+ended c Bad = Next.the-variants.End c
+ended c (Found f) = Next.the-variants.Frame f (over c (Found f))
+
+-- over the steps that are left to the first frame, or to where the reading stops
+unfoldable pub answer : List ℕ → Cursor → List Placed → Next.Next
+answer s c [] = ended c (stepAt s (c .at))
+answer s c (x ∷ xs) = cond (passes (c .growing) (x .step)) (answer s (over c (x .step)) xs) (ended c (x .step))
+
+unfoldable pub nextOf : List ℕ → Cursor → Next.Next
+unfolding readFrom answer
+nextOf s c = answer s c (steps (c .growing) s (c .at))
+
+-- the cursor that an answer hands back
+abbrev pub after : Next.Next → Cursor
+after (Next.the-variants.Frame f c) = c
+after (Next.the-variants.End c) = c
+after (Next.the-variants.Needs n c) = c
+
+-- ---- what a cursor has to do with the whole reading
+
+-- it stands in the capture, its counts are those of the bytes behind it, and with those of the steps left they make the reading's
+pub record Honest (growing : Bool) (s : List ℕ) (c : Cursor) : Type 0 where
+  pub mode : c .growing ≡ growing
+  pub inside : c .at ≤ length s
+  pub every : sumOf (countsIn c) ≡ c .at
+  pub whole : added (countsIn c) (countsOf (steps growing s (c .at))) ≡ countsOf (steps growing s 0)
+
+-- what an answer tells, where fs are the frames that were left: the first of them and a cursor from which the others are left, or that there are none
+abbrev pub Told : Bool → List ℕ → List Frame → Next.Next → Type 0
+Told growing s fs (Next.the-variants.Frame f c) = fs ≡ f ∷ framesOf (steps growing s (c .at))
+Told growing s fs (Next.the-variants.End c) = (fs ≡ []) × (c .at ≡ length s)
+Told growing s fs (Next.the-variants.Needs n c) = (fs ≡ []) × (stepAt s (c .at) ≡ Short n) × (growing ≡ true)
+
+-- calls of next from the start on have handed out the frames fs, and led to the cursor c
+pub data Led (growing : Bool) (s : List ℕ) : List Frame → Cursor → Type 0 where
+  start : Led growing s [] (begun growing)
+  more : {fs : List Frame} {c d : Cursor} {f : Frame} → Led growing s fs c → nextOf s c ≡ Next.the-variants.Frame f d → Led growing s (fs ++ f ∷ []) d

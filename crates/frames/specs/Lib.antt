@@ -1,0 +1,6 @@
+pub mod Frame
+pub mod Step
+pub mod Reading
+pub mod Cursors
+pub mod Writer
+pub mod Message

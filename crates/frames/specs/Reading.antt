@@ -1,0 +1,108 @@
+-- Whole readings: the steps of a capture, each with its position; closed and open differ only in what a short does. And the counts.
+-- Assumes nothing.
+use Prim.Native.Nat.{ℕ, zero, suc, pred, _+_, _<_}
+use mathlib.Core.Bool.{Bool, true, false, _&&_, cond}
+use mathlib.Core.List.{List, [], _∷_}
+use lib.Dec.{leb, ltb}
+use lib.ListN.{drop}
+use Rattle.frames.specs.Step.{stepOf, stepAt, passed, ends}
+use Rattle.frames.specs.declared.step.Frame.{Frame}
+use Rattle.frames.specs.declared.step.Step.{Step}
+use Rattle.frames.specs.declared.step.Step.the-variants.{Finished, Junk, Short, Bad, Found}
+use Rattle.frames.specs.declared.cursor.Counts.{Counts}
+
+-- ---- the steps
+
+pub record Placed : Type 0 where
+  pub at : ℕ
+  pub step : Step
+
+-- where a reading stops: at the end and, where the capture is growing (open reading), at a short
+abbrev pub stops : Bool → Step → Bool
+stops growing Finished = true
+stops growing Junk = false
+stops growing (Short n) = growing
+stops growing Bad = false
+stops growing (Found f) = false
+
+-- the steps from position p on, when k bytes of the frame before are still to be skipped
+unfoldable pub readFrom : Bool → ℕ → ℕ → List ℕ → List Placed
+unfolding stepOf
+readFrom growing k p [] = []
+readFrom growing zero p (b ∷ t) =
+    let step = stepOf p (b ∷ t) in
+    cond (stops growing step) [] (record { at = p; step = step } ∷ readFrom growing (pred (passed step)) (suc p) t)
+readFrom growing (suc k) p (b ∷ t) = readFrom growing k (suc p) t
+
+-- the steps from a position of a capture on
+abbrev pub steps : Bool → List ℕ → ℕ → List Placed
+steps growing s p = readFrom growing 0 p (drop p s)
+
+abbrev pub closedSteps : List ℕ → List Placed
+closedSteps s = steps false s 0
+
+abbrev pub openSteps : List ℕ → List Placed
+openSteps s = steps true s 0
+
+-- the step at p, with its position
+abbrev pub placed : List ℕ → ℕ → Placed
+placed s p = record { at = p; step = stepAt s p }
+
+-- steps that follow one another from p to e: each is the capture's own at its place, and the next begins where it ends
+pub data Tiled (s : List ℕ) : ℕ → ℕ → List Placed → Type 0 where
+  done : {p : ℕ} → Tiled s p p []
+  then : {p e : ℕ} {xs : List Placed} → p < e → Tiled s (ends s p) e xs → Tiled s p e (placed s p ∷ xs)
+
+-- whether position i lies in a step, and in how many of them
+abbrev pub holds : ℕ → Placed → Bool
+holds i x = leb (x .at) i && ltb i (x .at + passed (x .step))
+
+unfoldable pub holding : ℕ → List Placed → ℕ
+holding i [] = 0
+holding i (x ∷ xs) = cond (holds i x) 1 0 + holding i xs
+
+-- the steps before the first short
+abbrev pub isShort : Step → Bool
+isShort Finished = false
+isShort Junk = false
+isShort (Short n) = true
+isShort Bad = false
+isShort (Found f) = false
+
+unfoldable pub beforeShort : List Placed → List Placed
+beforeShort [] = []
+beforeShort (x ∷ xs) = cond (isShort (x .step)) [] (x ∷ beforeShort xs)
+
+-- the frames among steps
+abbrev pub framesIn : Step → List Frame → List Frame
+framesIn Finished fs = fs
+framesIn Junk fs = fs
+framesIn (Short n) fs = fs
+framesIn Bad fs = fs
+framesIn (Found f) fs = f ∷ fs
+
+unfoldable pub framesOf : List Placed → List Frame
+framesOf [] = []
+framesOf (x ∷ xs) = framesIn (x .step) (framesOf xs)
+
+-- ---- the counts
+
+-- what a step counts: the bytes that it passes, under its kind
+abbrev pub counted : Step → Counts
+counted Finished = record { framed = 0; junk = 0; bad = 0; short = 0 }
+counted Junk = record { framed = 0; junk = 1; bad = 0; short = 0 }
+counted (Short n) = record { framed = 0; junk = 0; bad = 0; short = 1 }
+counted Bad = record { framed = 0; junk = 0; bad = 1; short = 0 }
+counted (Found f) = record { framed = f .length + 8; junk = 0; bad = 0; short = 0 }
+
+abbrev pub added : Counts → Counts → Counts
+added a b = record { framed = a .framed + b .framed; junk = a .junk + b .junk; bad = a .bad + b .bad; short = a .short + b .short }
+
+-- each count is that of the steps of its kind
+unfoldable pub countsOf : List Placed → Counts
+countsOf [] = record { framed = 0; junk = 0; bad = 0; short = 0 }
+countsOf (x ∷ xs) = added (counted (x .step)) (countsOf xs)
+
+-- the four counts together
+abbrev pub sumOf : Counts → ℕ
+sumOf c = c .framed + c .junk + c .bad + c .short

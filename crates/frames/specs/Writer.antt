@@ -1,0 +1,63 @@
+-- What a frame writer answers, and what it leaves in the buffer. Assumes nothing.
+use Prim.Native.Nat.{ℕ, _+_}
+use mathlib.Core.Bool.{Bool, _&&_, cond}
+use mathlib.Core.List.{List, [], _∷_, _++_}
+use lib.Dec.{leb}
+use lib.ListN.{length, take, drop}
+use Rattle.wire.specs.Field.{Field, any, u8, u16, Row, rowStored}
+use Rattle.wire.specs.Message.{Answer, given, refused}
+use Rattle.frames.specs.Frame.{frameBytes, Outgoing}
+use Rattle.frames.specs.Reading.{Placed}
+use Rattle.frames.specs.declared.step.Frame.{Frame}
+use Rattle.frames.specs.declared.step.Step.the-variants.{Found}
+use Rattle.frames.specs.declared.write.Sender.{Sender}
+use Rattle.frames.specs.declared.write.Sender.the-variants.{Named, Unnamed}
+use Rattle.frames.specs.declared.write.Written.{Written}
+use Rattle.frames.specs.declared.write.Written.the-variants.{Bytes, Refused}
+
+-- document 01's values and numbers
+abbrev pub writtenAnswer : Written → Answer ℕ
+writtenAnswer (Bytes n) = given n
+writtenAnswer (Refused n) = refused n
+
+-- a writer that is given no sender uses 0x42
+abbrev pub senderOf : Sender → ℕ
+senderOf (Named n) = n
+senderOf Unnamed = 0x42
+
+-- a payload of n bytes into a buffer of some length: 31 over 255, then 32 for a buffer shorter than N + 8
+unfoldable pub planned : ℕ → ℕ → Answer ℕ
+planned n room = cond (leb n 255) (cond (leb (n + 8) room) (given (n + 8)) (refused 32)) (refused 31)
+
+abbrev pub fitting : ℕ → ℕ → Bool
+fitting n room = leb n 255 && leb (n + 8) room
+
+-- the buffer with a frame at its start, the bytes after untouched; as it was where the frame does not fit
+unfoldable pub framed : ℕ → ℕ → List ℕ → List ℕ → List ℕ
+framed kind sender payload buf =
+    cond (fitting (length payload) (length buf)) (frameBytes kind sender payload ++ drop (length payload + 8) buf) buf
+
+-- the same, of the n payload bytes that stand in the buffer at 6
+unfoldable pub sealed : ℕ → ℕ → ℕ → List ℕ → List ℕ
+sealed kind sender n buf =
+    cond (fitting n (length buf)) (frameBytes kind sender (take n (drop 6 buf)) ++ drop (n + 8) buf) buf
+
+-- what stands before the payload: preamble, type, sender, payload length
+abbrev pub head : List Field
+head = any u8 ∷ any u16 ∷ any u16 ∷ any u8 ∷ []
+
+abbrev pub headRow : ℕ → ℕ → ℕ → Row head
+headRow kind sender n = (0x55, (kind, (sender, (n, tt))))
+
+-- the buffer with that at its start
+abbrev pub headed : ℕ → ℕ → ℕ → List ℕ → List ℕ
+headed kind sender n buf = rowStored head (headRow kind sender n) buf 0
+
+-- what a written frame reads back as, at a position
+abbrev pub asRead : ℕ → Outgoing → Frame
+asRead p m = record { at = p; kind = m .kind; sender = m .sender; length = length (m .payload) }
+
+-- the steps over frames that stand one after the other
+unfoldable pub foundFrom : ℕ → List Outgoing → List Placed
+foundFrom p [] = []
+foundFrom p (m ∷ ms) = record { at = p; step = Found (asRead p m) } ∷ foundFrom (p + (length (m .payload) + 8)) ms

@@ -1,0 +1,22 @@
+// Frames: found in a lent capture by document 01's five lines, and written into a lent buffer.
+// Read specs/Frame.antt (a frame's bytes), specs/Step.antt (the five lines), specs/Reading.antt (whole readings and their
+// counts), specs/Cursors.antt, then specs/Writer.antt and specs/Message.antt.
+mod cursor;
+mod step;
+mod write;
+
+pub use cursor::Counts;
+pub use cursor::Cursor;
+pub use cursor::Next;
+pub use cursor::totals;
+pub use step::Frame;
+pub use step::Step;
+pub use step::payload;
+pub use step::step_at;
+pub use write::Sender;
+pub use write::Written;
+pub use write::place;
+pub use write::plan;
+pub use write::seal;
+pub use write::sender_number;
+pub use write::write_frame;
