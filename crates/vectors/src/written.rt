@@ -57,9 +57,15 @@ fn length(n: usize) {
     print::word(b"length");
     print::number(n as u64);
     told(w);
-    print::hex(wire::read_u16(&buf, std::num::wrapping_add_usize(n, 6)) as u64, 4);
+    print::hex(
+        wire::read_u16(&buf, std::num::wrapping_add_usize(n, 6)) as u64,
+        4,
+    );
     // the byte after the frame is as it was
-    print::hex(wire::read_u8(&buf, std::num::wrapping_add_usize(n, 8)) as u64, 2);
+    print::hex(
+        wire::read_u8(&buf, std::num::wrapping_add_usize(n, 8)) as u64,
+        2,
+    );
     if let Step::Found(f) = frames::step_at(&buf, 0) {
         print::number(f.length as u64);
     }
