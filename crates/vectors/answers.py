@@ -97,15 +97,15 @@ def captures():
         yield "totals %s %s" % (name, row(reading(data, False)[1]))
 
 
-def pattern(n, size):
-    return bytes((n % 256 + 3 * i) % 256 for i in range(size))
+def mixed(seed, step, size):
+    return bytes((seed + step * i) % 256 for i in range(size))
 
 
 def written():
     for n in range(256):
-        data = frame(0x1234, 0x5678, pattern(n, n))
+        data = frame(0x1234, 0x5678, mixed(n, 3, n))
         yield "length %d %d %04x ee %d" % (n, n + 8, struct.unpack("<H", data[-2:])[0], n)
-    data = frame(0x1234, 0x42, pattern(255, 255))
+    data = frame(0x1234, 0x42, mixed(255, 3, 255))
     yield "write 255-into-263 263"
     for n in range(264):
         found, _, need = reading(data[:n], True)
@@ -114,9 +114,57 @@ def written():
     untouched = "11" * 12
     yield "write 5-into-12 refused 32 " + untouched
     yield "write 256-into-12 refused 31 " + untouched
-    yield "write 3-into-12 11 " + frame(0x0102, 0x42, pattern(7, 3)).hex() + "11"
+    yield "write 3-into-12 11 " + frame(0x0102, 0x42, mixed(7, 3, 3)).hex() + "11"
 
 
-for part in checksums, numbers, doubles, captures, written:
+# name: type, struct format (d is printed as its bits), and the fix modes that flags may have
+MESSAGES = {
+    "gps-time": (0x0100, "HIiB", None), "dops": (0x0206, "IHHHHH", None), "pos-ecef": (0x0200, "IdddHBB", 2), "pos-llh": (0x0201, "IdddHHBB", 2),
+    "baseline-ecef": (0x0202, "IiiiHBB", 1), "vel-ecef": (0x0204, "IiiiHBB", None), "baseline-ned": (0x0203, "IiiiHHBB", 1),
+    "vel-ned": (0x0205, "IiiiHHBB", None), "baseline-heading": (0x0207, "IIBB", 1), "read-by-index-req": (0x00A2, "H", None),
+    "startup": (0xFF00, "I", None), "heartbeat": (0xFFFF, "I", None)}
+
+
+def answer(name, payload):
+    """0, 22 or 23."""
+    _, layout, last = MESSAGES[name]
+    if len(payload) != struct.calcsize("<" + layout):
+        return 22
+    if name == "gps-time" and not -500000 <= struct.unpack("<HIiB", payload)[2] <= 500000:
+        return 23
+    return 23 if last is not None and payload[-1] % 8 > last else 0
+
+
+def message(name, payload):
+    kind, layout, _ = MESSAGES[name]
+    refused = answer(name, payload)
+    if refused:
+        return "%s refused %d" % (name, refused)
+    fields = struct.unpack("<" + layout.replace("d", "Q"), payload)
+    shown = ["%016x" % v if c == "d" else "%d" % v for c, v in zip(layout, fields)]
+    return "%s %s %s" % (name, " ".join(shown), frame(kind, 0x0201, payload).hex())
+
+
+def each():
+    for seed in 0, 5:
+        for off in -1, 0, 1:
+            for name, (_, layout, _) in MESSAGES.items():
+                yield message(name, mixed(seed, 37, struct.calcsize("<" + layout) + off))
+    for ns in 500000, 500001, -500000, -500001:
+        yield message("gps-time", struct.pack("<HIiB", 0, 0, ns, 0))
+    for bits in 0x8000000000000000, 0x7FF0000000000001, 0xFFF8000000000123, 0x7FFFFFFFFFFFFFFF:
+        payload = struct.pack("<IQQQHHBB", 0, bits, bits, bits, 0, 0, 0, 0)
+        yield message("pos-llh", payload)
+        yield message("pos-ecef", payload[:32])
+    tables = ("single", "float", "fixed"), ("single", "fixed", "float"), ("float", "fixed")
+    for flags in range(256):
+        line = "flags %d" % flags
+        for name, table in zip(("pos-ecef", "pos-llh", "baseline-ecef"), tables):
+            size = struct.calcsize("<" + MESSAGES[name][1])
+            line += " %d %s" % (answer(name, bytes(size - 1) + bytes([flags])), (table + ("reserved",) * 8)[flags % 8])
+        yield line + "".join(" %d" % (flags >> k & 1) for k in (3, 4, 3, 4, 5))
+
+
+for part in checksums, numbers, doubles, captures, written, each:
     for line in part():
         print(line)

@@ -9,11 +9,10 @@ use Rattle.wire.specs.Number.{Bytes}
 use Rattle.wire.specs.Field.{HeldRow, SettledRow, allowedRow, rowBits, size, encode, rowStored}
 use Rattle.wire.specs.Message.{Answer, given, refused, Message, readAs}
 use Rattle.wire.proofs.Fields.{length-encode}
-use Rattle.wire.proofs.Messages.{never-both, payload-given, written, writes-back, reads-back, reads-same}
+use Rattle.wire.proofs.Messages.{never-both, payload-given, written, writes-back, reads-back, reads-same, exactly-22, exactly-23}
 use Rattle.frames.specs.Step.{stepAt, payloadIn}
 use Rattle.frames.specs.Writer.{planned, sealed, framed}
-use Rattle.frames.specs.Message.{writeAnswer, writtenAs}
-use Rattle.frames.specs.declared.step.Frame.{Frame}
+use Rattle.frames.specs.Message.{writeAnswer, writtenAs, frameWritten, Faithful}
 use Rattle.frames.specs.declared.step.Step.the-variants.{Found}
 use Rattle.frames.proofs.WrittenPlan.{fits}
 use Rattle.frames.proofs.Written.{framed-unfit, writes-row}
@@ -62,10 +61,6 @@ module _ {R : Type 0} (m : Message R) (kind sender : ℕ) (r : R) (buf : List �
   unfolding writtenAs
   frame-written e = rw e
 
-  -- the frame at the buffer's start
-  abbrev pub frameWritten : Frame
-  frameWritten = record { at = 0; kind = kind; sender = sender; length = size (m .fields) }
-
   module _ {n : ℕ} (k : kind < 65536) (s : sender < 65536) (g : writeAnswer m r (length buf) ≡ given n) where
     bytes : List ℕ
     bytes = encode (m .fields) (m .row r)
@@ -79,14 +74,14 @@ module _ {R : Type 0} (m : Message R) (kind sender : ℕ) (r : R) (buf : List �
     room = rw length-encode (fits (size (m .fields)) (length buf) (written-when g .1) .1)
 
     -- a frame written is found where it was written
-    pub found-through : stepAt (writtenAs m kind sender r buf) 0 ≡ Found frameWritten
+    pub found-through : stepAt (writtenAs m kind sender r buf) 0 ≡ Found (frameWritten m kind sender)
     unfolding bytes
     found-through =
         ap (λ (t : List ℕ). stepAt t 0) (frame-written (written-when g .0))
         ∙ framed-reads-back kind sender bytes buf k s few room
         ∙ ap (λ (l : ℕ). Found (record { at = 0; kind = kind; sender = sender; length = l })) (length-encode (m .fields) (m .row r))
 
-    payload-through : payloadIn (writtenAs m kind sender r buf) frameWritten ≡ bytes
+    payload-through : payloadIn (writtenAs m kind sender r buf) (frameWritten m kind sender) ≡ bytes
     unfolding bytes
     payload-through =
         ap₂ (λ (t : List ℕ) (l : ℕ). payloadIn t (record { at = 0; kind = kind; sender = sender; length = l }))
@@ -95,7 +90,7 @@ module _ {R : Type 0} (m : Message R) (kind sender : ℕ) (r : R) (buf : List �
 
     -- and its payload gives the record back bit for bit
     pub reads-through : HeldRow (m .fields) (m .row r)
-        → (q : R) × (readAs m (payloadIn (writtenAs m kind sender r buf) frameWritten) ≡ given q) × (rowBits (m .fields) (m .row q) ≡ rowBits (m .fields) (m .row r))
+        → (q : R) × (readAs m (payloadIn (writtenAs m kind sender r buf) (frameWritten m kind sender)) ≡ given q) × (rowBits (m .fields) (m .row q) ≡ rowBits (m .fields) (m .row r))
     unfolding bytes
     reads-through h =
         let back = reads-back m r bytes h (payload-given m r (written-when g .0)) in
@@ -103,7 +98,7 @@ module _ {R : Type 0} (m : Message R) (kind sender : ℕ) (r : R) (buf : List �
 
     -- the very record, where it is such as reading makes
     pub reads-through-same : HeldRow (m .fields) (m .row r) → SettledRow (m .fields) (m .row r)
-        → readAs m (payloadIn (writtenAs m kind sender r buf) frameWritten) ≡ given r
+        → readAs m (payloadIn (writtenAs m kind sender r buf) (frameWritten m kind sender)) ≡ given r
     unfolding bytes
     reads-through-same h e = ap (readAs m) payload-through ∙ reads-same m r bytes h (payload-given m r (written-when g .0)) e
 
@@ -112,3 +107,14 @@ pub writes-through : {R : Type 0} (m : Message R) (kind sender : ℕ) (r : R) (b
     → writtenAs m kind sender r buf ≡ framed kind sender s buf
 unfolding writtenAs
 writes-through m kind sender r buf s h g = let w = written m r s (writes-back m s r h g) in rw (w .0) (ap (λ (b : List ℕ). framed kind sender b buf) (sym (w .1)))
+
+-- what every message keeps, once its type number has 16 bits
+pub faithful : {R : Type 0} (m : Message R) (kind : ℕ) → kind < 65536 → Faithful m kind
+faithful m kind k = record {
+  found = λ sender r buf s g. found-through m kind sender r buf k s g;
+  back = λ sender r buf s g h. reads-through m kind sender r buf k s g h;
+  same = λ sender r buf s g h e. reads-through-same m kind sender r buf k s g h e;
+  again = λ sender r buf s h g. writes-through m kind sender r buf s h g;
+  refused-22 = exactly-22 m;
+  refused-23 = exactly-23 m;
+}

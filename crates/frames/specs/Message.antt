@@ -1,10 +1,18 @@
--- A message as a frame: what writing a record answers, and what it leaves in the buffer. Assumes nothing.
-use Prim.Native.Nat.{ℕ}
-use mathlib.Core.Bool.{cond}
+-- A message as a frame: what writing a record answers, what it leaves in the buffer, and what is promised of every message.
+-- Assumes nothing.
+use Prim.Native.Nat.{ℕ, _<_}
+use mathlib.Core.Path.{_≡_}
+use mathlib.Core.Bool.{cond, false}
 use mathlib.Core.List.{List}
-use Rattle.wire.specs.Field.{allowedRow, size, encode}
-use Rattle.wire.specs.Message.{Answer, refused, Message}
+use mathlib.Core.Logic.{_↔_}
+use lib.ListN.{length}
+use Rattle.wire.specs.Number.{Bytes}
+use Rattle.wire.specs.Field.{HeldRow, SettledRow, allowedRow, rowBits, size, encode, decode}
+use Rattle.wire.specs.Message.{Answer, given, refused, Message, readAs}
+use Rattle.frames.specs.Step.{stepAt, payloadIn}
 use Rattle.frames.specs.Writer.{planned, framed}
+use Rattle.frames.specs.declared.step.Frame.{Frame}
+use Rattle.frames.specs.declared.step.Step.the-variants.{Found}
 
 -- a record into a buffer of some length: 23, then 31 and 32
 unfoldable pub writeAnswer : {R : Type 0} → Message R → R → ℕ → Answer ℕ
@@ -13,3 +21,23 @@ writeAnswer m r room = cond (allowedRow (m .fields) (m .row r)) (planned (size (
 -- the buffer after it: the frame and the bytes after it as they were, or all as it was
 unfoldable pub writtenAs : {R : Type 0} → Message R → ℕ → ℕ → R → List ℕ → List ℕ
 writtenAs m kind sender r buf = cond (allowedRow (m .fields) (m .row r)) (framed kind sender (encode (m .fields) (m .row r)) buf) buf
+
+-- the frame of a message at the start of a buffer
+abbrev pub frameWritten : {R : Type 0} → Message R → ℕ → ℕ → Frame
+frameWritten m kind sender = record { at = 0; kind = kind; sender = sender; length = size (m .fields) }
+
+-- what is promised of every message under its type number
+pub record Faithful {R : Type 0} (m : Message R) (kind : ℕ) : Type 0 where
+  -- a record written is found as its frame, whose payload gives the record back bit for bit
+  pub found : (sender : ℕ) (r : R) (buf : List ℕ) {n : ℕ} → sender < 65536 → writeAnswer m r (length buf) ≡ given n
+      → stepAt (writtenAs m kind sender r buf) 0 ≡ Found (frameWritten m kind sender)
+  pub back : (sender : ℕ) (r : R) (buf : List ℕ) {n : ℕ} → sender < 65536 → writeAnswer m r (length buf) ≡ given n → HeldRow (m .fields) (m .row r)
+      → (q : R) × (readAs m (payloadIn (writtenAs m kind sender r buf) (frameWritten m kind sender)) ≡ given q) × (rowBits (m .fields) (m .row q) ≡ rowBits (m .fields) (m .row r))
+  -- the very record, where it is such as reading makes
+  pub same : (sender : ℕ) (r : R) (buf : List ℕ) {n : ℕ} → sender < 65536 → writeAnswer m r (length buf) ≡ given n → HeldRow (m .fields) (m .row r)
+      → SettledRow (m .fields) (m .row r) → readAs m (payloadIn (writtenAs m kind sender r buf) (frameWritten m kind sender)) ≡ given r
+  -- an accepted payload written again gives a frame of the same bytes
+  pub again : (sender : ℕ) (r : R) (buf s : List ℕ) → Bytes s → readAs m s ≡ given r → writtenAs m kind sender r buf ≡ framed kind sender s buf
+  -- a payload is refused exactly when one of its cases holds, by the first
+  pub refused-22 : (s : List ℕ) → (readAs m s ≡ refused 22) ↔ (length s ≡ size (m .fields) → ⊥)
+  pub refused-23 : (s : List ℕ) → (readAs m s ≡ refused 23) ↔ ((length s ≡ size (m .fields)) × (allowedRow (m .fields) (decode (m .fields) s 0) ≡ false))

@@ -2,7 +2,10 @@
 mod captures;
 mod checksums;
 mod doubles;
+mod each;
+mod messages;
 mod numbers;
+mod payload;
 mod print;
 mod written;
 
@@ -12,4 +15,5 @@ fn main() {
     doubles::run();
     captures::run();
     written::run();
+    each::run();
 }

@@ -1,6 +1,5 @@
 // Frames written and read back: every length, every cut, and the writer's refusals.
-ghost use mathlib.Core.Path.{_≡_};
-ghost use lib.ListN.{length};
+use crate::payload::mixed;
 use crate::print;
 use frames::Cursor;
 use frames::Next;
@@ -16,19 +15,6 @@ pub fn run() {
     }
     cuts();
     refusals();
-}
-
-// A payload whose byte i is n + 3i, so that preambles stand in many of them.
-fn filled(n: usize) -> [u8; 300]
-    ensures { λ r. ⌜ 300 ≡ length r ⌝ }
-{
-    let mut payload = [0u8; 300];
-    let mut i = 0;
-    while i < 300 {
-        payload[i] = ((n % 256 + 3 * i) % 256) as u8;
-        i += 1;
-    }
-    payload
 }
 
 fn told(w: Written) {
@@ -51,7 +37,7 @@ fn write(buf: &mut [u8], kind: u16, sender: Sender, payload: &[u8], n: usize) ->
 
 // A frame of n payload bytes: what was written, its CRC bytes, and whether the step there finds it whole.
 fn length(n: usize) {
-    let payload = filled(n);
+    let payload = mixed(n, 3);
     let mut buf = [0xeeu8; 300];
     let w = write(&mut buf, 0x1234, Sender::Named(0x5678), &payload, n);
     print::word(b"length");
@@ -74,7 +60,7 @@ fn length(n: usize) {
 
 // A frame of 263 bytes, cut at each place: open asks for 6, then for 263; closed, every byte is counted once.
 fn cuts() {
-    let payload = filled(255);
+    let payload = mixed(255, 3);
     let mut buf = [0u8; 263];
     print::word(b"write 255-into-263");
     told(write(&mut buf, 0x1234, Sender::Unnamed, &payload, 255));
@@ -114,7 +100,7 @@ fn cut(s: &[u8]) {
 
 // 31 before 32, and nothing written by either.
 fn refusals() {
-    let payload = filled(7);
+    let payload = mixed(7, 3);
     let mut buf = [0x11u8; 12];
     print::word(b"write 5-into-12");
     told(write(&mut buf, 1, Sender::Unnamed, &payload, 5));

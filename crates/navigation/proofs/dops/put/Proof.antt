@@ -1,0 +1,39 @@
+-- `navigation::dops::put` meets its contract: one store after the other.
+use borrow.Author.Needs.{needs}
+use Rattle.wire.proofs.Fields.{then}
+use Rattle.navigation.proofs.dops.put.Statement.{statement}
+use Rattle.navigation.proofs.dops.put.Tie as tie
+
+store-u32-requires : tie.Need-store-u32-requires
+store-u32-requires c κs = search needs
+
+store-u16-requires : tie.Need-store-u16-requires
+store-u16-requires c κs = search needs
+
+store-u16-requires-2 : tie.Need-store-u16-requires-2
+store-u16-requires-2 c κs = search needs
+
+store-u16-requires-3 : tie.Need-store-u16-requires-3
+store-u16-requires-3 c κs = search needs
+
+store-u16-requires-4 : tie.Need-store-u16-requires-4
+store-u16-requires-4 c κs = search needs
+
+store-u16-requires-5 : tie.Need-store-u16-requires-5
+store-u16-requires-5 c κs = search needs
+
+same-length : tie.Need-same-length
+same-length c = search needs
+
+returns : tie.Need-returns
+returns c =
+    let k6 = c .before .before in
+    let k5 = k6 .before .before .before .before in
+    let k4 = k5 .before .before .before .before in
+    let k3 = k4 .before .before .before .before in
+    let k2 = k3 .before .before .before .before in
+    let k1 = k2 .before .before .before .before in
+    then _ _ _ (then _ _ _ (then _ _ _ (then _ _ _ (then _ _ _ (k1 .store-u32 .ensures) (k2 .store-u16 .ensures)) (k3 .store-u162 .ensures)) (k4 .store-u163 .ensures)) (k5 .store-u164 .ensures)) (k6 .store-u165 .ensures)
+
+pub put-spec : {M : Type 1} → statement M
+put-spec = tie.close (tie.spec store-u32-requires store-u16-requires store-u16-requires-2 store-u16-requires-3 store-u16-requires-4 store-u16-requires-5 same-length returns)

@@ -1,0 +1,19 @@
+-- `navigation::dops::read_dops` meets its contract.
+use mathlib.Core.Path.{refl}
+use borrow.Author.Needs.{needs}
+use Rattle.wire.proofs.Messages.{gives-22, gives}
+use Rattle.navigation.specs.Dops.{dops}
+use Rattle.navigation.proofs.dops.read_dops.Statement.{statement}
+use Rattle.navigation.proofs.dops.read_dops.Tie as tie
+
+returns : tie.Need-returns
+returns c = gives-22 dops (c .before .before .args .s .now) (c .if1 .taken)
+
+take-requires : tie.Need-take-requires
+take-requires c κs = search needs
+
+returns-2 : tie.Need-returns-2
+returns-2 c = gives dops (c .before .before .before .args .s .now) (c .take .result) (c .before .if1 .left) (c .take .ensures) refl
+
+pub read-dops-spec : {M : Type 1} → statement M
+read-dops-spec = tie.close (tie.spec returns take-requires returns-2)

@@ -1,0 +1,29 @@
+-- `navigation::gps_time::read_gps_time` meets its contract.
+use mathlib.Core.Path.{sym, _∙_}
+use borrow.Author.Needs.{needs}
+use Rattle.wire.proofs.Messages.{gives-22, gives-23, gives}
+use Rattle.navigation.specs.GpsTime.{gpsTime}
+use Rattle.navigation.proofs.gps_time.read_gps_time.Statement.{statement}
+use Rattle.navigation.proofs.gps_time.read_gps_time.Tie as tie
+
+returns : tie.Need-returns
+returns c = gives-22 gpsTime (c .before .before .args .s .now) (c .if1 .taken)
+
+take-requires : tie.Need-take-requires
+take-requires c κs = search needs
+
+allowed-requires : tie.Need-allowed-requires
+allowed-requires c κs = search needs
+
+returns-2 : tie.Need-returns-2
+returns-2 c =
+    let t = c .before .before in
+    gives gpsTime (t .before .before .before .args .s .now) (t .take .result) (t .before .if1 .left) (t .take .ensures) (sym (c .before .allowed .ensures) ∙ c .if2 .taken)
+
+returns-3 : tie.Need-returns-3
+returns-3 c =
+    let t = c .before .before in
+    gives-23 gpsTime (t .before .before .before .args .s .now) (t .take .result) (t .before .if1 .left) (t .take .ensures) (sym (c .before .allowed .ensures) ∙ c .if2 .left)
+
+pub read-gps-time-spec : {M : Type 1} → statement M
+read-gps-time-spec = tie.close (tie.spec returns take-requires allowed-requires returns-2 returns-3)

@@ -1,0 +1,50 @@
+-- `navigation::pos_llh::put` meets its contract: one store after the other.
+use mathlib.Core.Path.{ap, _∙_}
+use lib.ListN.{length}
+use borrow.Author.Needs.{needs}
+use Rattle.wire.proofs.Fields.{then, length-row}
+use Rattle.navigation.specs.PosLlh.{posLlh}
+use Rattle.navigation.proofs.pos_llh.put.Statement.{statement}
+use Rattle.navigation.proofs.pos_llh.put.Tie as tie
+
+store-u32-requires : tie.Need-store-u32-requires
+store-u32-requires c κs = search needs
+
+store-double-requires : tie.Need-store-double-requires
+store-double-requires c κs = search needs
+
+store-double-requires-2 : tie.Need-store-double-requires-2
+store-double-requires-2 c κs = search needs
+
+store-double-requires-3 : tie.Need-store-double-requires-3
+store-double-requires-3 c κs = search needs
+
+store-u16-requires : tie.Need-store-u16-requires
+store-u16-requires c κs = search needs
+
+store-u16-requires-2 : tie.Need-store-u16-requires-2
+store-u16-requires-2 c κs = search needs
+
+store-u8-requires : tie.Need-store-u8-requires
+store-u8-requires c κs = search needs
+
+store-u8-requires-2 : tie.Need-store-u8-requires-2
+store-u8-requires-2 c κs = search needs
+
+returns : tie.Need-returns
+returns c =
+    let k8 = c .before .before in
+    let k7 = k8 .before .before .before .before in
+    let k6 = k7 .before .before .before .before in
+    let k5 = k6 .before .before .before .before in
+    let k4 = k5 .before .before .before .before in
+    let k3 = k4 .before .before .before .before in
+    let k2 = k3 .before .before .before .before in
+    let k1 = k2 .before .before .before .before in
+    then _ _ _ (then _ _ _ (then _ _ _ (then _ _ _ (then _ _ _ (then _ _ _ (then _ _ _ (k1 .store-u32 .ensures) (k2 .store-double .ensures)) (k3 .store-double2 .ensures)) (k4 .store-double3 .ensures)) (k5 .store-u16 .ensures)) (k6 .store-u162 .ensures)) (k7 .store-u8 .ensures)) (k8 .store-u82 .ensures)
+
+same-length : tie.Need-same-length
+same-length c = let a = c .before .before .before .before .before .before .before .before .before .before .before .before .before .before .before .before .before .before .before .before .before .before .before .before .before .before .before .before .before .before .before .before .before .args in ap length (returns c) ∙ length-row (posLlh .fields) (posLlh .row (a .r)) (a .buf .now) 6
+
+pub put-spec : {M : Type 1} → statement M
+put-spec = tie.close (tie.spec store-u32-requires store-double-requires store-double-requires-2 store-double-requires-3 store-u16-requires store-u16-requires-2 store-u8-requires store-u8-requires-2 same-length returns)

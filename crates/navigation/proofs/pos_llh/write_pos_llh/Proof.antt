@@ -1,0 +1,52 @@
+-- `navigation::pos_llh::write_pos_llh` meets its contract.
+use mathlib.Core.Path.{sym, _∙_}
+use borrow.Author.Needs.{needs}
+use Rattle.frames.specs.Writer.{senderOf}
+use Rattle.frames.proofs.WrittenPlan.{told}
+use Rattle.frames.proofs.Messages.{wrote, wrote-nothing, wrote-23}
+use Rattle.navigation.specs.PosLlh.{posLlh}
+use Rattle.navigation.proofs.pos_llh.write_pos_llh.Statement.{statement}
+use Rattle.navigation.proofs.pos_llh.write_pos_llh.Tie as tie
+
+allowed-requires : tie.Need-allowed-requires
+allowed-requires c κs = search needs
+
+plan-requires : tie.Need-plan-requires
+plan-requires c κs = search needs
+
+enum-told : tie.Need-enum-told
+enum-told c = search needs
+
+put-requires : tie.Need-put-requires
+put-requires c κs = search needs
+
+seal-requires : tie.Need-seal-requires
+seal-requires c κs = search needs
+
+enum-told-2 : tie.Need-enum-told-2
+enum-told-2 c = search needs
+
+same-length : tie.Need-same-length
+same-length c = search needs
+
+returns : tie.Need-returns
+returns c =
+    let p = c .before .before .before .before .before .before in
+    let at = p .before .before in
+    let a = at .before .before .before .before .before .before .args in
+    let plan = at .before .before .plan .ensures in
+    wrote posLlh 0x0201 (senderOf (a .sender)) (a .r) (a .buf .now) (sym (at .before .before .before .before .allowed .ensures) ∙ at .before .before .before .if1 .taken) plan (told plan (at .enum-told .given .1)) (p .put .ensures) (c .before .before .seal .ensures)
+
+returns-2 : tie.Need-returns-2
+returns-2 c =
+    let a = c .before .before .before .before .before .before .args in
+    let plan = c .before .before .plan .ensures in
+    wrote-nothing posLlh 0x0201 (senderOf (a .sender)) (a .r) (a .buf .now) (sym (c .before .before .before .before .allowed .ensures) ∙ c .before .before .before .if1 .taken) plan (told plan (c .enum-told2 .given .1))
+
+returns-3 : tie.Need-returns-3
+returns-3 c =
+    let a = c .before .before .before .args in
+    wrote-23 posLlh 0x0201 (senderOf (a .sender)) (a .r) (a .buf .now) (sym (c .before .allowed .ensures) ∙ c .if1 .left)
+
+pub write-pos-llh-spec : {M : Type 1} → statement M
+write-pos-llh-spec = tie.close (tie.spec allowed-requires plan-requires enum-told put-requires seal-requires enum-told-2 same-length returns returns-2 returns-3)

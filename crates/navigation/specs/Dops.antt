@@ -1,0 +1,21 @@
+-- DOPS, 0x0206: dilutions of precision, in 1/100. Assumes nothing.
+use mathlib.Core.Path.{refl}
+use mathlib.Core.List.{[], _∷_}
+use Rattle.wire.specs.Field.{any, u16, u32}
+use Rattle.wire.specs.Message.{Answer, given, refused, Message}
+use Rattle.navigation.specs.declared.dops.Dops.{Dops}
+use Rattle.navigation.specs.declared.dops.DopsRead.{DopsRead}
+use Rattle.navigation.specs.declared.dops.DopsRead.the-variants.{Record, Refused}
+
+abbrev pub dops : Message Dops
+dops = record {
+  fields = any u32 ∷ any u16 ∷ any u16 ∷ any u16 ∷ any u16 ∷ any u16 ∷ [];
+  row = λ r. (r .tow, (r .gdop, (r .pdop, (r .tdop, (r .hdop, (r .vdop, tt))))));
+  make = λ v. record { tow = v .0; gdop = v .1 .0; pdop = v .1 .1 .0; tdop = v .1 .1 .1 .0; hdop = v .1 .1 .1 .1 .0; vdop = v .1 .1 .1 .1 .1 .0 };
+  row-make = λ v. refl;
+  make-row = λ r. refl;
+}
+
+abbrev pub answerOf : DopsRead → Answer Dops
+answerOf (Record r) = given r
+answerOf (Refused n) = refused n

@@ -1,0 +1,32 @@
+-- BASELINE_ECEF, 0x0202, in mm, and VEL_ECEF, 0x0204, in mm/s: one layout, two meanings. Assumes nothing.
+use mathlib.Core.Path.{refl}
+use mathlib.Core.List.{[], _∷_}
+use mir.Syntax.{w8}
+use Rattle.wire.specs.Field.{any, ranged, u8, u16, u32, s32}
+use Rattle.wire.specs.Message.{Answer, given, refused, Message}
+use Rattle.navigation.specs.Range.{fixUpTo}
+use Rattle.navigation.specs.declared.ecef.EcefVector.{EcefVector}
+use Rattle.navigation.specs.declared.ecef.EcefVectorRead.{EcefVectorRead}
+use Rattle.navigation.specs.declared.ecef.EcefVectorRead.the-variants.{Record, Refused}
+
+abbrev pub baselineEcef : Message EcefVector
+baselineEcef = record {
+  fields = any u32 ∷ any s32 ∷ any s32 ∷ any s32 ∷ any u16 ∷ any u8 ∷ ranged w8 (fixUpTo 1) ∷ [];
+  row = λ r. (r .tow, (r .x, (r .y, (r .z, (r .accuracy, (r .«n_sats», (r .flags, tt)))))));
+  make = λ v. record { tow = v .0; x = v .1 .0; y = v .1 .1 .0; z = v .1 .1 .1 .0; accuracy = v .1 .1 .1 .1 .0; «n_sats» = v .1 .1 .1 .1 .1 .0; flags = v .1 .1 .1 .1 .1 .1 .0 };
+  row-make = λ v. refl;
+  make-row = λ r. refl;
+}
+
+abbrev pub velEcef : Message EcefVector
+velEcef = record {
+  fields = any u32 ∷ any s32 ∷ any s32 ∷ any s32 ∷ any u16 ∷ any u8 ∷ any u8 ∷ [];
+  row = λ r. (r .tow, (r .x, (r .y, (r .z, (r .accuracy, (r .«n_sats», (r .flags, tt)))))));
+  make = λ v. record { tow = v .0; x = v .1 .0; y = v .1 .1 .0; z = v .1 .1 .1 .0; accuracy = v .1 .1 .1 .1 .0; «n_sats» = v .1 .1 .1 .1 .1 .0; flags = v .1 .1 .1 .1 .1 .1 .0 };
+  row-make = λ v. refl;
+  make-row = λ r. refl;
+}
+
+abbrev pub answerOf : EcefVectorRead → Answer EcefVector
+answerOf (Record r) = given r
+answerOf (Refused n) = refused n

@@ -1,0 +1,23 @@
+-- POS_ECEF, 0x0200: the position, Earth centred, in m. Assumes nothing.
+use mathlib.Core.Path.{refl}
+use mathlib.Core.List.{[], _∷_}
+use mir.Syntax.{w8}
+use Rattle.wire.specs.Field.{any, ranged, u8, u16, u32, double}
+use Rattle.wire.specs.Message.{Answer, given, refused, Message}
+use Rattle.navigation.specs.Range.{fixUpTo}
+use Rattle.navigation.specs.declared.pos_ecef.PosEcef.{PosEcef}
+use Rattle.navigation.specs.declared.pos_ecef.PosEcefRead.{PosEcefRead}
+use Rattle.navigation.specs.declared.pos_ecef.PosEcefRead.the-variants.{Record, Refused}
+
+abbrev pub posEcef : Message PosEcef
+posEcef = record {
+  fields = any u32 ∷ any double ∷ any double ∷ any double ∷ any u16 ∷ any u8 ∷ ranged w8 (fixUpTo 2) ∷ [];
+  row = λ r. (r .tow, (r .x, (r .y, (r .z, (r .accuracy, (r .«n_sats», (r .flags, tt)))))));
+  make = λ v. record { tow = v .0; x = v .1 .0; y = v .1 .1 .0; z = v .1 .1 .1 .0; accuracy = v .1 .1 .1 .1 .0; «n_sats» = v .1 .1 .1 .1 .1 .0; flags = v .1 .1 .1 .1 .1 .1 .0 };
+  row-make = λ v. refl;
+  make-row = λ r. refl;
+}
+
+abbrev pub answerOf : PosEcefRead → Answer PosEcef
+answerOf (Record r) = given r
+answerOf (Refused n) = refused n

@@ -1,0 +1,69 @@
+// DOPS, 0x0206: dilutions of precision, in 1/100.
+ghost use mathlib.Core.Path.{_≡_};
+ghost use lib.ListN.{length};
+ghost use Rattle.wire.specs.Field.{decode, rowStored};
+ghost use Rattle.wire.specs.Message.{readAs};
+ghost use Rattle.frames.specs.Writer.{senderOf, writtenAnswer};
+ghost use Rattle.frames.specs.Message.{writeAnswer, writtenAs};
+ghost use Rattle.navigation.specs.Dops.{dops, answerOf};
+use frames::Sender;
+use frames::Written;
+
+pub struct Dops {
+    pub tow: u32,
+    pub gdop: u16,
+    pub pdop: u16,
+    pub tdop: u16,
+    pub hdop: u16,
+    pub vdop: u16,
+}
+
+pub enum DopsRead {
+    Record(Dops),
+    Refused(u8),
+}
+
+fn take(s: &[u8]) -> Dops
+    ensures { λ r. ⌜ r ≡ dops .make (decode (dops .fields) (now (s .entry)) 0) ⌝ }
+{
+    Dops {
+        tow: wire::read_u32(s, 0),
+        gdop: wire::read_u16(s, 4),
+        pdop: wire::read_u16(s, 6),
+        tdop: wire::read_u16(s, 8),
+        hdop: wire::read_u16(s, 10),
+        vdop: wire::read_u16(s, 12),
+    }
+}
+
+fn put(buf: &mut [u8], r: Dops)
+    ensures { λ _. ⌜ now (buf .exit) ≡ rowStored (dops .fields) (dops .row r) (now (buf .entry)) 6 ⌝ }
+{
+    wire::store_u32(buf, 6, r.tow);
+    wire::store_u16(buf, 10, r.gdop);
+    wire::store_u16(buf, 12, r.pdop);
+    wire::store_u16(buf, 14, r.tdop);
+    wire::store_u16(buf, 16, r.hdop);
+    wire::store_u16(buf, 18, r.vdop);
+}
+
+pub fn read_dops(s: &[u8]) -> DopsRead
+    ensures { λ r. ⌜ answerOf r ≡ readAs dops (now (s .entry)) ⌝ }
+{
+    if s.len() != 14 {
+        return DopsRead::Refused(22);
+    }
+    DopsRead::Record(take(s))
+}
+
+pub fn write_dops(buf: &mut [u8], sender: Sender, r: Dops) -> Written
+    ensures { λ w. ⌜ writtenAnswer w ≡ writeAnswer dops r (length (now (buf .entry))) ⌝ }
+    ensures { λ _. ⌜ now (buf .exit) ≡ writtenAs dops 0x0206 (senderOf sender) r (now (buf .entry)) ⌝ }
+{
+    let answer = frames::plan(14, buf.len());
+    if let Written::Bytes(_) = answer {
+        put(buf, r);
+        frames::seal(buf, 0x0206, sender, 14);
+    }
+    answer
+}

@@ -1,0 +1,107 @@
+// BASELINE_ECEF, 0x0202, in mm, and VEL_ECEF, 0x0204, in mm/s: one layout, two meanings.
+ghost use mathlib.Core.Path.{_≡_};
+ghost use lib.ListN.{length};
+ghost use Rattle.wire.specs.Field.{allowedRow, decode, rowStored};
+ghost use Rattle.wire.specs.Message.{readAs};
+ghost use Rattle.frames.specs.Writer.{senderOf, writtenAnswer};
+ghost use Rattle.frames.specs.Message.{writeAnswer, writtenAs};
+ghost use Rattle.navigation.specs.Ecef.{baselineEcef, velEcef, answerOf};
+use crate::range::fix_allowed;
+use frames::Sender;
+use frames::Written;
+
+pub struct EcefVector {
+    pub tow: u32,
+    pub x: i32,
+    pub y: i32,
+    pub z: i32,
+    pub accuracy: u16,
+    pub n_sats: u8,
+    pub flags: u8,
+}
+
+pub enum EcefVectorRead {
+    Record(EcefVector),
+    Refused(u8),
+}
+
+fn take(s: &[u8]) -> EcefVector
+    ensures { λ r. ⌜ r ≡ velEcef .make (decode (velEcef .fields) (now (s .entry)) 0) ⌝ }
+{
+    EcefVector {
+        tow: wire::read_u32(s, 0),
+        x: wire::read_s32(s, 4),
+        y: wire::read_s32(s, 8),
+        z: wire::read_s32(s, 12),
+        accuracy: wire::read_u16(s, 16),
+        n_sats: wire::read_u8(s, 18),
+        flags: wire::read_u8(s, 19),
+    }
+}
+
+fn put(buf: &mut [u8], r: EcefVector)
+    ensures { λ _. ⌜ now (buf .exit) ≡ rowStored (velEcef .fields) (velEcef .row r) (now (buf .entry)) 6 ⌝ }
+{
+    wire::store_u32(buf, 6, r.tow);
+    wire::store_s32(buf, 10, r.x);
+    wire::store_s32(buf, 14, r.y);
+    wire::store_s32(buf, 18, r.z);
+    wire::store_u16(buf, 22, r.accuracy);
+    wire::store_u8(buf, 24, r.n_sats);
+    wire::store_u8(buf, 25, r.flags);
+}
+
+fn allowed(r: EcefVector) -> bool
+    ensures { λ b. ⌜ b ≡ allowedRow (baselineEcef .fields) (baselineEcef .row r) ⌝ }
+{
+    fix_allowed(r.flags, 1)
+}
+
+pub fn read_baseline_ecef(s: &[u8]) -> EcefVectorRead
+    ensures { λ r. ⌜ answerOf r ≡ readAs baselineEcef (now (s .entry)) ⌝ }
+{
+    if s.len() != 20 {
+        return EcefVectorRead::Refused(22);
+    }
+    let r = take(s);
+    if allowed(r) {
+        return EcefVectorRead::Record(r);
+    }
+    EcefVectorRead::Refused(23)
+}
+
+pub fn write_baseline_ecef(buf: &mut [u8], sender: Sender, r: EcefVector) -> Written
+    ensures { λ w. ⌜ writtenAnswer w ≡ writeAnswer baselineEcef r (length (now (buf .entry))) ⌝ }
+    ensures { λ _. ⌜ now (buf .exit) ≡ writtenAs baselineEcef 0x0202 (senderOf sender) r (now (buf .entry)) ⌝ }
+{
+    if allowed(r) {
+        let answer = frames::plan(20, buf.len());
+        if let Written::Bytes(_) = answer {
+            put(buf, r);
+            frames::seal(buf, 0x0202, sender, 20);
+        }
+        return answer;
+    }
+    Written::Refused(23)
+}
+
+pub fn read_vel_ecef(s: &[u8]) -> EcefVectorRead
+    ensures { λ r. ⌜ answerOf r ≡ readAs velEcef (now (s .entry)) ⌝ }
+{
+    if s.len() != 20 {
+        return EcefVectorRead::Refused(22);
+    }
+    EcefVectorRead::Record(take(s))
+}
+
+pub fn write_vel_ecef(buf: &mut [u8], sender: Sender, r: EcefVector) -> Written
+    ensures { λ w. ⌜ writtenAnswer w ≡ writeAnswer velEcef r (length (now (buf .entry))) ⌝ }
+    ensures { λ _. ⌜ now (buf .exit) ≡ writtenAs velEcef 0x0204 (senderOf sender) r (now (buf .entry)) ⌝ }
+{
+    let answer = frames::plan(20, buf.len());
+    if let Written::Bytes(_) = answer {
+        put(buf, r);
+        frames::seal(buf, 0x0204, sender, 20);
+    }
+    answer
+}

@@ -1,0 +1,77 @@
+// BASELINE_HEADING, 0x0207: the heading from base to rover, in 1/1000 degree.
+ghost use mathlib.Core.Path.{_≡_};
+ghost use lib.ListN.{length};
+ghost use Rattle.wire.specs.Field.{allowedRow, decode, rowStored};
+ghost use Rattle.wire.specs.Message.{readAs};
+ghost use Rattle.frames.specs.Writer.{senderOf, writtenAnswer};
+ghost use Rattle.frames.specs.Message.{writeAnswer, writtenAs};
+ghost use Rattle.navigation.specs.Heading.{baselineHeading, answerOf};
+use crate::range::fix_allowed;
+use frames::Sender;
+use frames::Written;
+
+pub struct BaselineHeading {
+    pub tow: u32,
+    pub heading: u32,
+    pub n_sats: u8,
+    pub flags: u8,
+}
+
+pub enum BaselineHeadingRead {
+    Record(BaselineHeading),
+    Refused(u8),
+}
+
+fn take(s: &[u8]) -> BaselineHeading
+    ensures { λ r. ⌜ r ≡ baselineHeading .make (decode (baselineHeading .fields) (now (s .entry)) 0) ⌝ }
+{
+    BaselineHeading {
+        tow: wire::read_u32(s, 0),
+        heading: wire::read_u32(s, 4),
+        n_sats: wire::read_u8(s, 8),
+        flags: wire::read_u8(s, 9),
+    }
+}
+
+fn put(buf: &mut [u8], r: BaselineHeading)
+    ensures { λ _. ⌜ now (buf .exit) ≡ rowStored (baselineHeading .fields) (baselineHeading .row r) (now (buf .entry)) 6 ⌝ }
+{
+    wire::store_u32(buf, 6, r.tow);
+    wire::store_u32(buf, 10, r.heading);
+    wire::store_u8(buf, 14, r.n_sats);
+    wire::store_u8(buf, 15, r.flags);
+}
+
+fn allowed(r: BaselineHeading) -> bool
+    ensures { λ b. ⌜ b ≡ allowedRow (baselineHeading .fields) (baselineHeading .row r) ⌝ }
+{
+    fix_allowed(r.flags, 1)
+}
+
+pub fn read_baseline_heading(s: &[u8]) -> BaselineHeadingRead
+    ensures { λ r. ⌜ answerOf r ≡ readAs baselineHeading (now (s .entry)) ⌝ }
+{
+    if s.len() != 10 {
+        return BaselineHeadingRead::Refused(22);
+    }
+    let r = take(s);
+    if allowed(r) {
+        return BaselineHeadingRead::Record(r);
+    }
+    BaselineHeadingRead::Refused(23)
+}
+
+pub fn write_baseline_heading(buf: &mut [u8], sender: Sender, r: BaselineHeading) -> Written
+    ensures { λ w. ⌜ writtenAnswer w ≡ writeAnswer baselineHeading r (length (now (buf .entry))) ⌝ }
+    ensures { λ _. ⌜ now (buf .exit) ≡ writtenAs baselineHeading 0x0207 (senderOf sender) r (now (buf .entry)) ⌝ }
+{
+    if allowed(r) {
+        let answer = frames::plan(10, buf.len());
+        if let Written::Bytes(_) = answer {
+            put(buf, r);
+            frames::seal(buf, 0x0207, sender, 10);
+        }
+        return answer;
+    }
+    Written::Refused(23)
+}

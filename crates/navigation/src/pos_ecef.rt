@@ -1,0 +1,87 @@
+// POS_ECEF, 0x0200: the position, Earth centred, in m.
+ghost use mathlib.Core.Path.{_≡_};
+ghost use lib.ListN.{length};
+ghost use Rattle.wire.specs.Field.{allowedRow, decode, rowStored};
+ghost use Rattle.wire.specs.Message.{readAs};
+ghost use Rattle.frames.specs.Writer.{senderOf, writtenAnswer};
+ghost use Rattle.frames.specs.Message.{writeAnswer, writtenAs};
+ghost use Rattle.navigation.specs.PosEcef.{posEcef, answerOf};
+use crate::range::fix_allowed;
+use frames::Sender;
+use frames::Written;
+use wire::Double;
+
+pub struct PosEcef {
+    pub tow: u32,
+    pub x: Double,
+    pub y: Double,
+    pub z: Double,
+    pub accuracy: u16,
+    pub n_sats: u8,
+    pub flags: u8,
+}
+
+pub enum PosEcefRead {
+    Record(PosEcef),
+    Refused(u8),
+}
+
+fn take(s: &[u8]) -> PosEcef
+    ensures { λ r. ⌜ r ≡ posEcef .make (decode (posEcef .fields) (now (s .entry)) 0) ⌝ }
+{
+    PosEcef {
+        tow: wire::read_u32(s, 0),
+        x: wire::read_double(s, 4),
+        y: wire::read_double(s, 12),
+        z: wire::read_double(s, 20),
+        accuracy: wire::read_u16(s, 28),
+        n_sats: wire::read_u8(s, 30),
+        flags: wire::read_u8(s, 31),
+    }
+}
+
+fn put(buf: &mut [u8], r: PosEcef)
+    ensures { λ _. ⌜ now (buf .exit) ≡ rowStored (posEcef .fields) (posEcef .row r) (now (buf .entry)) 6 ⌝ }
+{
+    wire::store_u32(buf, 6, r.tow);
+    wire::store_double(buf, 10, r.x);
+    wire::store_double(buf, 18, r.y);
+    wire::store_double(buf, 26, r.z);
+    wire::store_u16(buf, 34, r.accuracy);
+    wire::store_u8(buf, 36, r.n_sats);
+    wire::store_u8(buf, 37, r.flags);
+}
+
+fn allowed(r: PosEcef) -> bool
+    ensures { λ b. ⌜ b ≡ allowedRow (posEcef .fields) (posEcef .row r) ⌝ }
+{
+    fix_allowed(r.flags, 2)
+}
+
+pub fn read_pos_ecef(s: &[u8]) -> PosEcefRead
+    ensures { λ r. ⌜ answerOf r ≡ readAs posEcef (now (s .entry)) ⌝ }
+{
+    if s.len() != 32 {
+        return PosEcefRead::Refused(22);
+    }
+    let r = take(s);
+    if allowed(r) {
+        return PosEcefRead::Record(r);
+    }
+    PosEcefRead::Refused(23)
+}
+
+pub fn write_pos_ecef(buf: &mut [u8], sender: Sender, r: PosEcef) -> Written
+    ensures { λ w. ⌜ writtenAnswer w ≡ writeAnswer posEcef r (length (now (buf .entry))) ⌝ }
+    ensures { λ _. ⌜ now (buf .exit) ≡ writtenAs posEcef 0x0200 (senderOf sender) r (now (buf .entry)) ⌝ }
+{
+    if allowed(r) {
+        let answer = frames::plan(32, buf.len());
+        if let Written::Bytes(_) = answer {
+            put(buf, r);
+            frames::seal(buf, 0x0200, sender, 32);
+        }
+        return answer;
+    }
+    Written::Refused(23)
+}

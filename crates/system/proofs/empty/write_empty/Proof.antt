@@ -1,0 +1,42 @@
+-- `system::empty::write_empty` meets its contract.
+use mathlib.Core.Path.{refl}
+use Rattle.frames.specs.Writer.{senderOf}
+use Rattle.frames.proofs.WrittenPlan.{told}
+use Rattle.frames.proofs.Messages.{wrote, wrote-nothing}
+use Rattle.system.specs.Empty.{nothing}
+use borrow.Author.Needs.{needs}
+use Rattle.system.proofs.empty.write_empty.Statement.{statement}
+use Rattle.system.proofs.empty.write_empty.Tie as tie
+
+plan-requires : tie.Need-plan-requires
+plan-requires c κs = search needs
+
+enum-told : tie.Need-enum-told
+enum-told c = search needs
+
+seal-requires : tie.Need-seal-requires
+seal-requires c κs = search needs
+
+enum-told-2 : tie.Need-enum-told-2
+enum-told-2 c = search needs
+
+same-length : tie.Need-same-length
+same-length c = search needs
+
+returns : tie.Need-returns
+returns c =
+    let at = c .before .before .before .before in
+    let a = at .before .before .before .before .args in
+    let plan = at .before .before .plan .ensures in
+    wrote nothing (a .kind) (senderOf (a .sender)) tt (a .buf .now) refl plan (told plan (at .enum-told .given .1)) refl (c .before .before .seal .ensures)
+
+returns-2 : tie.Need-returns-2
+returns-2 c =
+    let a = c .before .before .before .before .args in
+    let plan = c .before .before .plan .ensures in
+    wrote-nothing nothing (a .kind) (senderOf (a .sender)) tt (a .buf .now) refl plan (told plan (c .enum-told2 .given .1))
+
+pub write-empty-spec : {M : Type 1} → statement M
+write-empty-spec =
+    tie.close
+    (tie.spec plan-requires enum-told seal-requires enum-told-2 same-length returns returns-2)

@@ -1,0 +1,15 @@
+-- `system::settings::take` meets its contract, field by field.
+use borrow.Author.Needs.{needs}
+use Rattle.system.proofs.settings.take.Statement.{statement}
+use Rattle.system.proofs.settings.take.Tie as tie
+
+read-u16-requires : tie.Need-read-u16-requires
+read-u16-requires c κs = search needs
+
+returns : tie.Need-returns
+returns c = λ i. record {
+  index = c .read-u16 .ensures i;
+}
+
+pub take-spec : {M : Type 1} → statement M
+take-spec = tie.close (tie.spec read-u16-requires returns)

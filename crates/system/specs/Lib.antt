@@ -1,0 +1,6 @@
+pub mod Log
+pub mod Empty
+pub mod ReadByIndexReq
+pub mod Startup
+pub mod Heartbeat
+pub mod HeartbeatFlags

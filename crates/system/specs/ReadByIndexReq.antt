@@ -1,0 +1,21 @@
+-- READ_BY_INDEX_REQ, 0x00A2: asks for the setting at an index. Assumes nothing.
+use mathlib.Core.Path.{refl}
+use mathlib.Core.List.{[], _∷_}
+use Rattle.wire.specs.Field.{any, u16}
+use Rattle.wire.specs.Message.{Answer, given, refused, Message}
+use Rattle.system.specs.declared.settings.ReadByIndexReq.{ReadByIndexReq}
+use Rattle.system.specs.declared.settings.ReadByIndexReqRead.{ReadByIndexReqRead}
+use Rattle.system.specs.declared.settings.ReadByIndexReqRead.the-variants.{Record, Refused}
+
+abbrev pub readByIndexReq : Message ReadByIndexReq
+readByIndexReq = record {
+  fields = any u16 ∷ [];
+  row = λ r. (r .index, tt);
+  make = λ v. record { index = v .0 };
+  row-make = λ v. refl;
+  make-row = λ r. refl;
+}
+
+abbrev pub answerOf : ReadByIndexReqRead → Answer ReadByIndexReq
+answerOf (Record r) = given r
+answerOf (Refused n) = refused n

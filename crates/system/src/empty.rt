@@ -1,0 +1,60 @@
+// SETTINGS_SAVE, 0x00A1, and READ_BY_INDEX_DONE, 0x00A6: messages with no payload.
+ghost use mathlib.Core.Path.{_≡_};
+ghost use lib.ListN.{length};
+ghost use Rattle.wire.specs.Message.{readAs};
+ghost use Rattle.frames.specs.Writer.{senderOf, writtenAnswer};
+ghost use Rattle.frames.specs.Message.{writeAnswer, writtenAs};
+ghost use Rattle.system.specs.Empty.{nothing, emptyAnswer};
+use frames::Sender;
+use frames::Written;
+
+pub enum EmptyRead {
+    Empty,
+    Refused(u8),
+}
+
+fn read_empty(s: &[u8]) -> EmptyRead
+    ensures { λ r. ⌜ emptyAnswer r ≡ readAs nothing (now (s .entry)) ⌝ }
+{
+    if s.len() != 0 {
+        return EmptyRead::Refused(22);
+    }
+    EmptyRead::Empty
+}
+
+fn write_empty(buf: &mut [u8], kind: u16, sender: Sender) -> Written
+    ensures { λ w. ⌜ writtenAnswer w ≡ writeAnswer nothing tt (length (now (buf .entry))) ⌝ }
+    ensures { λ _. ⌜ now (buf .exit) ≡ writtenAs nothing kind (senderOf sender) tt (now (buf .entry)) ⌝ }
+{
+    let answer = frames::plan(0, buf.len());
+    if let Written::Bytes(_) = answer {
+        frames::seal(buf, kind, sender, 0);
+    }
+    answer
+}
+
+pub fn read_settings_save(s: &[u8]) -> EmptyRead
+    ensures { λ r. ⌜ emptyAnswer r ≡ readAs nothing (now (s .entry)) ⌝ }
+{
+    read_empty(s)
+}
+
+pub fn write_settings_save(buf: &mut [u8], sender: Sender) -> Written
+    ensures { λ w. ⌜ writtenAnswer w ≡ writeAnswer nothing tt (length (now (buf .entry))) ⌝ }
+    ensures { λ _. ⌜ now (buf .exit) ≡ writtenAs nothing 0x00a1 (senderOf sender) tt (now (buf .entry)) ⌝ }
+{
+    write_empty(buf, 0x00a1, sender)
+}
+
+pub fn read_read_by_index_done(s: &[u8]) -> EmptyRead
+    ensures { λ r. ⌜ emptyAnswer r ≡ readAs nothing (now (s .entry)) ⌝ }
+{
+    read_empty(s)
+}
+
+pub fn write_read_by_index_done(buf: &mut [u8], sender: Sender) -> Written
+    ensures { λ w. ⌜ writtenAnswer w ≡ writeAnswer nothing tt (length (now (buf .entry))) ⌝ }
+    ensures { λ _. ⌜ now (buf .exit) ≡ writtenAs nothing 0x00a6 (senderOf sender) tt (now (buf .entry)) ⌝ }
+{
+    write_empty(buf, 0x00a6, sender)
+}

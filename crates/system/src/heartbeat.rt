@@ -1,0 +1,54 @@
+// HEARTBEAT, 0xFFFF: the device runs, with its status flags.
+ghost use mathlib.Core.Path.{_≡_};
+ghost use lib.ListN.{length};
+ghost use Rattle.wire.specs.Field.{decode, rowStored};
+ghost use Rattle.wire.specs.Message.{readAs};
+ghost use Rattle.frames.specs.Writer.{senderOf, writtenAnswer};
+ghost use Rattle.frames.specs.Message.{writeAnswer, writtenAs};
+ghost use Rattle.system.specs.Heartbeat.{heartbeat, answerOf};
+use frames::Sender;
+use frames::Written;
+
+pub struct Heartbeat {
+    pub flags: u32,
+}
+
+pub enum HeartbeatRead {
+    Record(Heartbeat),
+    Refused(u8),
+}
+
+fn take(s: &[u8]) -> Heartbeat
+    ensures { λ r. ⌜ r ≡ heartbeat .make (decode (heartbeat .fields) (now (s .entry)) 0) ⌝ }
+{
+    Heartbeat {
+        flags: wire::read_u32(s, 0),
+    }
+}
+
+fn put(buf: &mut [u8], r: Heartbeat)
+    ensures { λ _. ⌜ now (buf .exit) ≡ rowStored (heartbeat .fields) (heartbeat .row r) (now (buf .entry)) 6 ⌝ }
+{
+    wire::store_u32(buf, 6, r.flags);
+}
+
+pub fn read_heartbeat(s: &[u8]) -> HeartbeatRead
+    ensures { λ r. ⌜ answerOf r ≡ readAs heartbeat (now (s .entry)) ⌝ }
+{
+    if s.len() != 4 {
+        return HeartbeatRead::Refused(22);
+    }
+    HeartbeatRead::Record(take(s))
+}
+
+pub fn write_heartbeat(buf: &mut [u8], sender: Sender, r: Heartbeat) -> Written
+    ensures { λ w. ⌜ writtenAnswer w ≡ writeAnswer heartbeat r (length (now (buf .entry))) ⌝ }
+    ensures { λ _. ⌜ now (buf .exit) ≡ writtenAs heartbeat 0xffff (senderOf sender) r (now (buf .entry)) ⌝ }
+{
+    let answer = frames::plan(4, buf.len());
+    if let Written::Bytes(_) = answer {
+        put(buf, r);
+        frames::seal(buf, 0xffff, sender, 4);
+    }
+    answer
+}

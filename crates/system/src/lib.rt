@@ -1,0 +1,34 @@
+// The logging, settings and system messages of 003, sections 6.1, 6.4 and 6.5: records, readers and writers.
+mod empty;
+mod flags;
+mod heartbeat;
+mod log;
+mod settings;
+mod startup;
+
+pub use empty::EmptyRead;
+pub use empty::read_read_by_index_done;
+pub use empty::read_settings_save;
+pub use empty::write_read_by_index_done;
+pub use empty::write_settings_save;
+pub use flags::external_antenna;
+pub use flags::io_error;
+pub use flags::nap_error;
+pub use flags::system_error;
+pub use heartbeat::Heartbeat;
+pub use heartbeat::HeartbeatRead;
+pub use heartbeat::read_heartbeat;
+pub use heartbeat::write_heartbeat;
+pub use log::Log;
+pub use log::LogRead;
+pub use log::log_text;
+pub use log::read_log;
+pub use log::write_log;
+pub use settings::ReadByIndexReq;
+pub use settings::ReadByIndexReqRead;
+pub use settings::read_read_by_index_req;
+pub use settings::write_read_by_index_req;
+pub use startup::Startup;
+pub use startup::StartupRead;
+pub use startup::read_startup;
+pub use startup::write_startup;

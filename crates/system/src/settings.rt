@@ -1,0 +1,54 @@
+// READ_BY_INDEX_REQ, 0x00A2: asks for the setting at an index.
+ghost use mathlib.Core.Path.{_≡_};
+ghost use lib.ListN.{length};
+ghost use Rattle.wire.specs.Field.{decode, rowStored};
+ghost use Rattle.wire.specs.Message.{readAs};
+ghost use Rattle.frames.specs.Writer.{senderOf, writtenAnswer};
+ghost use Rattle.frames.specs.Message.{writeAnswer, writtenAs};
+ghost use Rattle.system.specs.ReadByIndexReq.{readByIndexReq, answerOf};
+use frames::Sender;
+use frames::Written;
+
+pub struct ReadByIndexReq {
+    pub index: u16,
+}
+
+pub enum ReadByIndexReqRead {
+    Record(ReadByIndexReq),
+    Refused(u8),
+}
+
+fn take(s: &[u8]) -> ReadByIndexReq
+    ensures { λ r. ⌜ r ≡ readByIndexReq .make (decode (readByIndexReq .fields) (now (s .entry)) 0) ⌝ }
+{
+    ReadByIndexReq {
+        index: wire::read_u16(s, 0),
+    }
+}
+
+fn put(buf: &mut [u8], r: ReadByIndexReq)
+    ensures { λ _. ⌜ now (buf .exit) ≡ rowStored (readByIndexReq .fields) (readByIndexReq .row r) (now (buf .entry)) 6 ⌝ }
+{
+    wire::store_u16(buf, 6, r.index);
+}
+
+pub fn read_read_by_index_req(s: &[u8]) -> ReadByIndexReqRead
+    ensures { λ r. ⌜ answerOf r ≡ readAs readByIndexReq (now (s .entry)) ⌝ }
+{
+    if s.len() != 2 {
+        return ReadByIndexReqRead::Refused(22);
+    }
+    ReadByIndexReqRead::Record(take(s))
+}
+
+pub fn write_read_by_index_req(buf: &mut [u8], sender: Sender, r: ReadByIndexReq) -> Written
+    ensures { λ w. ⌜ writtenAnswer w ≡ writeAnswer readByIndexReq r (length (now (buf .entry))) ⌝ }
+    ensures { λ _. ⌜ now (buf .exit) ≡ writtenAs readByIndexReq 0x00a2 (senderOf sender) r (now (buf .entry)) ⌝ }
+{
+    let answer = frames::plan(2, buf.len());
+    if let Written::Bytes(_) = answer {
+        put(buf, r);
+        frames::seal(buf, 0x00a2, sender, 2);
+    }
+    answer
+}

@@ -1,0 +1,54 @@
+// STARTUP, 0xFF00: the device has started.
+ghost use mathlib.Core.Path.{_≡_};
+ghost use lib.ListN.{length};
+ghost use Rattle.wire.specs.Field.{decode, rowStored};
+ghost use Rattle.wire.specs.Message.{readAs};
+ghost use Rattle.frames.specs.Writer.{senderOf, writtenAnswer};
+ghost use Rattle.frames.specs.Message.{writeAnswer, writtenAs};
+ghost use Rattle.system.specs.Startup.{startup, answerOf};
+use frames::Sender;
+use frames::Written;
+
+pub struct Startup {
+    pub reserved: u32,
+}
+
+pub enum StartupRead {
+    Record(Startup),
+    Refused(u8),
+}
+
+fn take(s: &[u8]) -> Startup
+    ensures { λ r. ⌜ r ≡ startup .make (decode (startup .fields) (now (s .entry)) 0) ⌝ }
+{
+    Startup {
+        reserved: wire::read_u32(s, 0),
+    }
+}
+
+fn put(buf: &mut [u8], r: Startup)
+    ensures { λ _. ⌜ now (buf .exit) ≡ rowStored (startup .fields) (startup .row r) (now (buf .entry)) 6 ⌝ }
+{
+    wire::store_u32(buf, 6, r.reserved);
+}
+
+pub fn read_startup(s: &[u8]) -> StartupRead
+    ensures { λ r. ⌜ answerOf r ≡ readAs startup (now (s .entry)) ⌝ }
+{
+    if s.len() != 4 {
+        return StartupRead::Refused(22);
+    }
+    StartupRead::Record(take(s))
+}
+
+pub fn write_startup(buf: &mut [u8], sender: Sender, r: Startup) -> Written
+    ensures { λ w. ⌜ writtenAnswer w ≡ writeAnswer startup r (length (now (buf .entry))) ⌝ }
+    ensures { λ _. ⌜ now (buf .exit) ≡ writtenAs startup 0xff00 (senderOf sender) r (now (buf .entry)) ⌝ }
+{
+    let answer = frames::plan(4, buf.len());
+    if let Written::Bytes(_) = answer {
+        put(buf, r);
+        frames::seal(buf, 0xff00, sender, 4);
+    }
+    answer
+}

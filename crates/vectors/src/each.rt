@@ -1,0 +1,137 @@
+// Every message at its length and one off, at the ends of its ranges, and with every NaN and minus zero.
+use crate::messages;
+use crate::payload::front;
+use crate::payload::mixed;
+use crate::print;
+
+pub fn run() {
+    lengths(0);
+    lengths(5);
+    ns_ends();
+    doubles();
+    fixes();
+}
+
+// Payloads of the right length and of one less and one more.
+fn lengths(seed: usize) {
+    let s = mixed(seed, 37);
+    let mut n: usize = 0;
+    while n < 3 {
+        near(&s, n);
+        n += 1;
+    }
+}
+
+fn near(s: &[u8], n: usize) {
+    messages::gps_time(front(s, std::num::wrapping_add_usize(n, 10)));
+    messages::dops(front(s, std::num::wrapping_add_usize(n, 13)));
+    messages::pos_ecef(front(s, std::num::wrapping_add_usize(n, 31)));
+    messages::pos_llh(front(s, std::num::wrapping_add_usize(n, 33)));
+    messages::baseline_ecef(front(s, std::num::wrapping_add_usize(n, 19)));
+    messages::vel_ecef(front(s, std::num::wrapping_add_usize(n, 19)));
+    messages::baseline_ned(front(s, std::num::wrapping_add_usize(n, 21)));
+    messages::vel_ned(front(s, std::num::wrapping_add_usize(n, 21)));
+    messages::baseline_heading(front(s, std::num::wrapping_add_usize(n, 9)));
+    messages::read_by_index_req(front(s, std::num::wrapping_add_usize(n, 1)));
+    messages::startup(front(s, std::num::wrapping_add_usize(n, 3)));
+    messages::heartbeat(front(s, std::num::wrapping_add_usize(n, 3)));
+}
+
+// ns at both ends of its range and one past them.
+fn ns_ends() {
+    ns(500000);
+    ns(500001);
+    ns(-500000);
+    ns(-500001);
+}
+
+fn ns(value: i32) {
+    let mut s = [0u8; 11];
+    wire::store_s32(&mut s, 6, value);
+    messages::gps_time(&s);
+}
+
+// The same pattern in every double field.
+fn doubles() {
+    double(0x8000_0000_0000_0000);
+    double(0x7ff0_0000_0000_0001);
+    double(0xfff8_0000_0000_0123);
+    double(0x7fff_ffff_ffff_ffff);
+}
+
+fn double(bits: u64) {
+    let mut s = [0u8; 34];
+    wire::store_u64(&mut s, 4, bits);
+    wire::store_u64(&mut s, 12, bits);
+    wire::store_u64(&mut s, 20, bits);
+    messages::pos_llh(&s);
+    messages::pos_ecef(front(&s, 32));
+}
+
+// Flags at all values: the answer of each ranged message, what its fix mode means, and the other bits.
+fn fixes() {
+    let mut flags: usize = 0;
+    while flags < 256 {
+        fix((flags % 256) as u8);
+        flags += 1;
+    }
+}
+
+fn mode(fix: navigation::Fix) {
+    match fix {
+        navigation::Fix::SinglePoint => print::word(b" single"),
+        navigation::Fix::Float => print::word(b" float"),
+        navigation::Fix::Fixed => print::word(b" fixed"),
+        navigation::Fix::Reserved => print::word(b" reserved"),
+    }
+}
+
+fn bit(on: bool) {
+    if on {
+        print::word(b" 1");
+    } else {
+        print::word(b" 0");
+    }
+}
+
+fn fix(flags: u8) {
+    let mut s = [0u8; 34];
+    print::word(b"flags");
+    print::number(flags as u64);
+    wire::store_u8(&mut s, 31, flags);
+    ecef(navigation::read_pos_ecef(front(&s, 32)));
+    mode(navigation::pos_ecef_fix(flags));
+    wire::store_u8(&mut s, 33, flags);
+    llh(navigation::read_pos_llh(&s));
+    mode(navigation::pos_llh_fix(flags));
+    wire::store_u8(&mut s, 19, flags);
+    vector(navigation::read_baseline_ecef(front(&s, 20)));
+    mode(navigation::baseline_fix(flags));
+    bit(navigation::raim_available(flags));
+    bit(navigation::raim_repaired(flags));
+    bit(navigation::pos_llh_above_sea(flags));
+    bit(navigation::pos_llh_raim_available(flags));
+    bit(navigation::pos_llh_raim_repaired(flags));
+    print::end();
+}
+
+fn ecef(r: navigation::PosEcefRead) {
+    match r {
+        navigation::PosEcefRead::Record(_) => print::number(0),
+        navigation::PosEcefRead::Refused(n) => print::number(n as u64),
+    }
+}
+
+fn llh(r: navigation::PosLlhRead) {
+    match r {
+        navigation::PosLlhRead::Record(_) => print::number(0),
+        navigation::PosLlhRead::Refused(n) => print::number(n as u64),
+    }
+}
+
+fn vector(r: navigation::EcefVectorRead) {
+    match r {
+        navigation::EcefVectorRead::Record(_) => print::number(0),
+        navigation::EcefVectorRead::Refused(n) => print::number(n as u64),
+    }
+}

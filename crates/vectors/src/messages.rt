@@ -1,0 +1,274 @@
+// Every message with fields: a payload read, printed field by field, and written again as a frame.
+use crate::print;
+use frames::Sender;
+use frames::Written;
+use navigation::BaselineHeadingRead;
+use navigation::DopsRead;
+use navigation::EcefVectorRead;
+use navigation::GpsTimeRead;
+use navigation::NedVectorRead;
+use navigation::PosEcefRead;
+use navigation::PosLlhRead;
+use system::HeartbeatRead;
+use system::ReadByIndexReqRead;
+use system::StartupRead;
+
+// What was written: the frame, or the refusal.
+fn written(buf: &[u8], w: Written) {
+    match w {
+        Written::Bytes(n) => {
+            if n <= buf.len() {
+                print::bytes(&buf[0..n]);
+            }
+        }
+        Written::Refused(n) => refused(n),
+    }
+    print::end();
+}
+
+pub fn refused(n: u8) {
+    print::word(b" refused");
+    print::number(n as u64);
+}
+
+pub fn gps_time(s: &[u8]) {
+    print::word(b"gps-time");
+    match navigation::read_gps_time(s) {
+        GpsTimeRead::Record(r) => {
+            print::number(r.wn as u64);
+            print::number(r.tow as u64);
+            print::signed_32(r.ns);
+            print::number(r.flags as u64);
+            let mut buf = [0u8; 64];
+            let w = navigation::write_gps_time(&mut buf, Sender::Named(0x0201), r);
+            written(&buf, w);
+        }
+        GpsTimeRead::Refused(n) => {
+            refused(n);
+            print::end();
+        }
+    }
+}
+
+pub fn dops(s: &[u8]) {
+    print::word(b"dops");
+    match navigation::read_dops(s) {
+        DopsRead::Record(r) => {
+            print::number(r.tow as u64);
+            print::number(r.gdop as u64);
+            print::number(r.pdop as u64);
+            print::number(r.tdop as u64);
+            print::number(r.hdop as u64);
+            print::number(r.vdop as u64);
+            let mut buf = [0u8; 64];
+            let w = navigation::write_dops(&mut buf, Sender::Named(0x0201), r);
+            written(&buf, w);
+        }
+        DopsRead::Refused(n) => {
+            refused(n);
+            print::end();
+        }
+    }
+}
+
+pub fn pos_ecef(s: &[u8]) {
+    print::word(b"pos-ecef");
+    match navigation::read_pos_ecef(s) {
+        PosEcefRead::Record(r) => {
+            print::number(r.tow as u64);
+            print::hex(r.x.bits(), 16);
+            print::hex(r.y.bits(), 16);
+            print::hex(r.z.bits(), 16);
+            print::number(r.accuracy as u64);
+            print::number(r.n_sats as u64);
+            print::number(r.flags as u64);
+            let mut buf = [0u8; 64];
+            let w = navigation::write_pos_ecef(&mut buf, Sender::Named(0x0201), r);
+            written(&buf, w);
+        }
+        PosEcefRead::Refused(n) => {
+            refused(n);
+            print::end();
+        }
+    }
+}
+
+pub fn pos_llh(s: &[u8]) {
+    print::word(b"pos-llh");
+    match navigation::read_pos_llh(s) {
+        PosLlhRead::Record(r) => {
+            print::number(r.tow as u64);
+            print::hex(r.lat.bits(), 16);
+            print::hex(r.lon.bits(), 16);
+            print::hex(r.height.bits(), 16);
+            print::number(r.h_accuracy as u64);
+            print::number(r.v_accuracy as u64);
+            print::number(r.n_sats as u64);
+            print::number(r.flags as u64);
+            let mut buf = [0u8; 64];
+            let w = navigation::write_pos_llh(&mut buf, Sender::Named(0x0201), r);
+            written(&buf, w);
+        }
+        PosLlhRead::Refused(n) => {
+            refused(n);
+            print::end();
+        }
+    }
+}
+
+pub fn baseline_ecef(s: &[u8]) {
+    print::word(b"baseline-ecef");
+    match navigation::read_baseline_ecef(s) {
+        EcefVectorRead::Record(r) => {
+            print::number(r.tow as u64);
+            print::signed_32(r.x);
+            print::signed_32(r.y);
+            print::signed_32(r.z);
+            print::number(r.accuracy as u64);
+            print::number(r.n_sats as u64);
+            print::number(r.flags as u64);
+            let mut buf = [0u8; 64];
+            let w = navigation::write_baseline_ecef(&mut buf, Sender::Named(0x0201), r);
+            written(&buf, w);
+        }
+        EcefVectorRead::Refused(n) => {
+            refused(n);
+            print::end();
+        }
+    }
+}
+
+pub fn vel_ecef(s: &[u8]) {
+    print::word(b"vel-ecef");
+    match navigation::read_vel_ecef(s) {
+        EcefVectorRead::Record(r) => {
+            print::number(r.tow as u64);
+            print::signed_32(r.x);
+            print::signed_32(r.y);
+            print::signed_32(r.z);
+            print::number(r.accuracy as u64);
+            print::number(r.n_sats as u64);
+            print::number(r.flags as u64);
+            let mut buf = [0u8; 64];
+            let w = navigation::write_vel_ecef(&mut buf, Sender::Named(0x0201), r);
+            written(&buf, w);
+        }
+        EcefVectorRead::Refused(n) => {
+            refused(n);
+            print::end();
+        }
+    }
+}
+
+pub fn baseline_ned(s: &[u8]) {
+    print::word(b"baseline-ned");
+    match navigation::read_baseline_ned(s) {
+        NedVectorRead::Record(r) => {
+            print::number(r.tow as u64);
+            print::signed_32(r.n);
+            print::signed_32(r.e);
+            print::signed_32(r.d);
+            print::number(r.h_accuracy as u64);
+            print::number(r.v_accuracy as u64);
+            print::number(r.n_sats as u64);
+            print::number(r.flags as u64);
+            let mut buf = [0u8; 64];
+            let w = navigation::write_baseline_ned(&mut buf, Sender::Named(0x0201), r);
+            written(&buf, w);
+        }
+        NedVectorRead::Refused(n) => {
+            refused(n);
+            print::end();
+        }
+    }
+}
+
+pub fn vel_ned(s: &[u8]) {
+    print::word(b"vel-ned");
+    match navigation::read_vel_ned(s) {
+        NedVectorRead::Record(r) => {
+            print::number(r.tow as u64);
+            print::signed_32(r.n);
+            print::signed_32(r.e);
+            print::signed_32(r.d);
+            print::number(r.h_accuracy as u64);
+            print::number(r.v_accuracy as u64);
+            print::number(r.n_sats as u64);
+            print::number(r.flags as u64);
+            let mut buf = [0u8; 64];
+            let w = navigation::write_vel_ned(&mut buf, Sender::Named(0x0201), r);
+            written(&buf, w);
+        }
+        NedVectorRead::Refused(n) => {
+            refused(n);
+            print::end();
+        }
+    }
+}
+
+pub fn baseline_heading(s: &[u8]) {
+    print::word(b"baseline-heading");
+    match navigation::read_baseline_heading(s) {
+        BaselineHeadingRead::Record(r) => {
+            print::number(r.tow as u64);
+            print::number(r.heading as u64);
+            print::number(r.n_sats as u64);
+            print::number(r.flags as u64);
+            let mut buf = [0u8; 64];
+            let w = navigation::write_baseline_heading(&mut buf, Sender::Named(0x0201), r);
+            written(&buf, w);
+        }
+        BaselineHeadingRead::Refused(n) => {
+            refused(n);
+            print::end();
+        }
+    }
+}
+
+pub fn read_by_index_req(s: &[u8]) {
+    print::word(b"read-by-index-req");
+    match system::read_read_by_index_req(s) {
+        ReadByIndexReqRead::Record(r) => {
+            print::number(r.index as u64);
+            let mut buf = [0u8; 64];
+            let w = system::write_read_by_index_req(&mut buf, Sender::Named(0x0201), r);
+            written(&buf, w);
+        }
+        ReadByIndexReqRead::Refused(n) => {
+            refused(n);
+            print::end();
+        }
+    }
+}
+
+pub fn startup(s: &[u8]) {
+    print::word(b"startup");
+    match system::read_startup(s) {
+        StartupRead::Record(r) => {
+            print::number(r.reserved as u64);
+            let mut buf = [0u8; 64];
+            let w = system::write_startup(&mut buf, Sender::Named(0x0201), r);
+            written(&buf, w);
+        }
+        StartupRead::Refused(n) => {
+            refused(n);
+            print::end();
+        }
+    }
+}
+
+pub fn heartbeat(s: &[u8]) {
+    print::word(b"heartbeat");
+    match system::read_heartbeat(s) {
+        HeartbeatRead::Record(r) => {
+            print::number(r.flags as u64);
+            let mut buf = [0u8; 64];
+            let w = system::write_heartbeat(&mut buf, Sender::Named(0x0201), r);
+            written(&buf, w);
+        }
+        HeartbeatRead::Refused(n) => {
+            refused(n);
+            print::end();
+        }
+    }
+}
