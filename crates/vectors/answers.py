@@ -121,7 +121,8 @@ def written():
 MESSAGES = {
     "gps-time": (0x0100, "HIiB", None), "dops": (0x0206, "IHHHHH", None), "pos-ecef": (0x0200, "IdddHBB", 2), "pos-llh": (0x0201, "IdddHHBB", 2),
     "baseline-ecef": (0x0202, "IiiiHBB", 1), "vel-ecef": (0x0204, "IiiiHBB", None), "baseline-ned": (0x0203, "IiiiHHBB", 1),
-    "vel-ned": (0x0205, "IiiiHHBB", None), "baseline-heading": (0x0207, "IIBB", 1), "read-by-index-req": (0x00A2, "H", None),
+    "vel-ned": (0x0205, "IiiiHHBB", None), "baseline-heading": (0x0207, "IIBB", 1), "base-pos-llh": (0x0044, "ddd", None),
+    "base-pos-ecef": (0x0048, "ddd", None), "read-by-index-req": (0x00A2, "H", None),
     "startup": (0xFF00, "I", None), "heartbeat": (0xFFFF, "I", None)}
 
 
@@ -156,6 +157,8 @@ def each():
         payload = struct.pack("<IQQQHHBB", 0, bits, bits, bits, 0, 0, 0, 0)
         yield message("pos-llh", payload)
         yield message("pos-ecef", payload[:32])
+        yield message("base-pos-llh", payload[4:28])
+        yield message("base-pos-ecef", payload[4:28])
     tables = ("single", "float", "fixed"), ("single", "fixed", "float"), ("float", "fixed")
     for flags in range(256):
         line = "flags %d" % flags
@@ -165,6 +168,54 @@ def each():
         yield line + "".join(" %d" % (flags >> k & 1) for k in (3, 4, 3, 4, 5))
 
 
-for part in checksums, numbers, doubles, captures, written, each:
+def is_obs(size):
+    return size in range(7, 248, 16)
+
+
+def entry(payload, i):
+    if not is_obs(len(payload)):
+        return "refused 22"
+    if i >= (len(payload) - 7) // 16:
+        return "refused 25"
+    return "%d %d %d %d %d %d %d %d" % struct.unpack_from("<IiBBHHBB", payload, 7 + 16 * i)
+
+
+def observations():
+    data = mixed(3, 37, 300)
+    for size in 6, 7, 8, 39, 247, 263:
+        payload = data[:size]
+        yield "obs %d %s" % (size, "%d %d %d %d" % (*struct.unpack_from("<IHB", payload), (size - 7) // 16) if is_obs(size) else "refused 22")
+        for i in 0, 1, 2, 15:
+            yield "observation %d %s" % (i, entry(payload, i))
+    for count in 2, 15, 16:
+        whole = data[:39] + bytes(16 * (count - 2))
+        yield "write-obs " + (frame(0x0049, 0, whole).hex() if count <= 15 else "refused 31")
+    for size in 0, 1, 9, 255, 256:
+        told = "%d %d %s" % (data[0], size - 1, data[1:size].hex()) if 1 <= size <= 255 else "refused 22"
+        yield "log %d %s" % (size, told)
+    buf = b""
+    for size, room in (0, 9), (5, 14), (5, 13), (254, 264), (255, 264):
+        buf = buf if len(buf) == room else b"\xee" * room
+        refusal = 31 if size > 254 else 32 if room < size + 9 else 0
+        if not refusal:
+            made = frame(0x0401, 0x42, b"\x06" + data[:size])
+            buf = made + buf[len(made):]
+        yield "write-log %d %s %s" % (size, "refused %d" % refusal if refusal else "%d" % (size + 9), buf.hex())
+    for whole, part in (-3, 128), (-1, 255), (0, 0), (-2**31, 0), (2**31 - 1, 255):
+        yield "phase %d %d %d" % (whole, part, 256 * whole + part)
+    for z in -640, -1, 0, 255, 256, -256, -257, 2**39 - 1, 2**39, -2**39, -2**39 - 1, -2**63:
+        yield "parts %d %s" % (z, "%d %d" % (z // 256, z % 256) if -2**39 <= z < 2**39 else "refused 33")
+
+
+def types():
+    sizes = {kind: [struct.calcsize("<" + layout)] for kind, layout, _ in MESSAGES.values()}
+    sizes.update({0x0049: range(7, 248, 16), 0x0401: range(1, 256), 0x00A1: [0], 0x00A6: [0]})
+    order = (0x0100, 0x0206, 0x0200, 0x0201, 0x0202, 0x0204, 0x0203, 0x0205, 0x0207, 0x0044, 0x0048, 0x0049, 0x0401, 0x00A1, 0x00A6, 0x00A2, 0xFF00, 0xFFFF)
+    for kind in order:
+        yield "lengths %04x %s" % (kind, " ".join("%d" % n for n in sizes[kind]))
+    yield "types %d %d" % (65536 - len(order), sum(0 not in sizes[kind] for kind in order))
+
+
+for part in checksums, numbers, doubles, captures, written, each, observations, types:
     for line in part():
         print(line)

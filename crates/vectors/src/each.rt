@@ -32,6 +32,8 @@ fn near(s: &[u8], n: usize) {
     messages::baseline_ned(front(s, std::num::wrapping_add_usize(n, 21)));
     messages::vel_ned(front(s, std::num::wrapping_add_usize(n, 21)));
     messages::baseline_heading(front(s, std::num::wrapping_add_usize(n, 9)));
+    messages::base_pos_llh(front(s, std::num::wrapping_add_usize(n, 23)));
+    messages::base_pos_ecef(front(s, std::num::wrapping_add_usize(n, 23)));
     messages::read_by_index_req(front(s, std::num::wrapping_add_usize(n, 1)));
     messages::startup(front(s, std::num::wrapping_add_usize(n, 3)));
     messages::heartbeat(front(s, std::num::wrapping_add_usize(n, 3)));
@@ -66,6 +68,12 @@ fn double(bits: u64) {
     wire::store_u64(&mut s, 20, bits);
     messages::pos_llh(&s);
     messages::pos_ecef(front(&s, 32));
+    let mut t = [0u8; 24];
+    wire::store_u64(&mut t, 0, bits);
+    wire::store_u64(&mut t, 8, bits);
+    wire::store_u64(&mut t, 16, bits);
+    messages::base_pos_llh(&t);
+    messages::base_pos_ecef(&t);
 }
 
 // Flags at all values: the answer of each ranged message, what its fix mode means, and the other bits.

@@ -1,10 +1,12 @@
 // Runs published values and edge cases and prints what comes out; the file stdout beside src/ has the answers, worked out elsewhere.
+mod answers;
 mod captures;
 mod checksums;
 mod doubles;
 mod each;
 mod messages;
 mod numbers;
+mod observations;
 mod payload;
 mod print;
 mod written;
@@ -16,4 +18,6 @@ fn main() {
     captures::run();
     written::run();
     each::run();
+    observations::run();
+    answers::run();
 }

@@ -9,6 +9,8 @@ use navigation::GpsTimeRead;
 use navigation::NedVectorRead;
 use navigation::PosEcefRead;
 use navigation::PosLlhRead;
+use observation::BasePosEcefRead;
+use observation::BasePosLlhRead;
 use system::HeartbeatRead;
 use system::ReadByIndexReqRead;
 use system::StartupRead;
@@ -219,6 +221,42 @@ pub fn baseline_heading(s: &[u8]) {
             written(&buf, w);
         }
         BaselineHeadingRead::Refused(n) => {
+            refused(n);
+            print::end();
+        }
+    }
+}
+
+pub fn base_pos_llh(s: &[u8]) {
+    print::word(b"base-pos-llh");
+    match observation::read_base_pos_llh(s) {
+        BasePosLlhRead::Record(r) => {
+            print::hex(r.lat.bits(), 16);
+            print::hex(r.lon.bits(), 16);
+            print::hex(r.height.bits(), 16);
+            let mut buf = [0u8; 64];
+            let w = observation::write_base_pos_llh(&mut buf, Sender::Named(0x0201), r);
+            written(&buf, w);
+        }
+        BasePosLlhRead::Refused(n) => {
+            refused(n);
+            print::end();
+        }
+    }
+}
+
+pub fn base_pos_ecef(s: &[u8]) {
+    print::word(b"base-pos-ecef");
+    match observation::read_base_pos_ecef(s) {
+        BasePosEcefRead::Record(r) => {
+            print::hex(r.x.bits(), 16);
+            print::hex(r.y.bits(), 16);
+            print::hex(r.z.bits(), 16);
+            let mut buf = [0u8; 64];
+            let w = observation::write_base_pos_ecef(&mut buf, Sender::Named(0x0201), r);
+            written(&buf, w);
+        }
+        BasePosEcefRead::Refused(n) => {
             refused(n);
             print::end();
         }

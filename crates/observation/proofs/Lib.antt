@@ -1,0 +1,10 @@
+pub mod Answers
+pub mod Layouts
+pub mod Rows
+pub mod RowsStored
+pub mod Payloads
+pub mod ObsWritten
+pub mod Phases
+pub mod PhaseBits
+pub mod ObsThrough
+pub mod Promises

@@ -1,0 +1,19 @@
+-- `observation::base_pos_ecef::read_base_pos_ecef` meets its contract.
+use mathlib.Core.Path.{refl}
+use borrow.Author.Needs.{needs}
+use Rattle.wire.proofs.Messages.{gives-22, gives}
+use Rattle.observation.specs.BasePosEcef.{basePosEcef}
+use Rattle.observation.proofs.base_pos_ecef.read_base_pos_ecef.Statement.{statement}
+use Rattle.observation.proofs.base_pos_ecef.read_base_pos_ecef.Tie as tie
+
+returns : tie.Need-returns
+returns c = gives-22 basePosEcef (c .before .before .args .s .now) (c .if1 .taken)
+
+take-requires : tie.Need-take-requires
+take-requires c κs = search needs
+
+returns-2 : tie.Need-returns-2
+returns-2 c = gives basePosEcef (c .before .before .before .args .s .now) (c .take .result) (c .before .if1 .left) (c .take .ensures) refl
+
+pub read-base-pos-ecef-spec : {M : Type 1} → statement M
+read-base-pos-ecef-spec = tie.close (tie.spec returns take-requires returns-2)

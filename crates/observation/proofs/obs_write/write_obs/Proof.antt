@@ -1,0 +1,92 @@
+-- `observation::obs_write::write_obs` meets its contract.
+use Prim.Native.Nat.{_≤_}
+use native.Mathlib.Omega.{arith}
+use lib.ListN.{length}
+use borrow.Author.Needs.{needs}
+use Rattle.frames.specs.Writer.{senderOf}
+use Rattle.frames.proofs.WrittenPlan.{told, fits}
+use Rattle.observation.proofs.ObsWritten.{sizeFor, wrote-31, wrote-nothing, wrote}
+use Rattle.observation.proofs.obs_write.write_obs.Statement.{statement}
+use Rattle.observation.proofs.obs_write.write_obs.Tie as tie
+
+cast-k : tie.Need-cast-k
+cast-k c = search needs
+
+returns : tie.Need-returns
+returns c =
+    let a = c .before .before .before .args in
+    wrote-31 (senderOf (a .sender)) (a .obs) (a .entries) (a .buf .now) (omega arith)
+
+mul-n : tie.Need-mul-n
+mul-n c = search needs
+
+add-n : tie.Need-add-n
+add-n c = search needs
+
+plan-requires : tie.Need-plan-requires
+plan-requires c κs = search needs
+
+enum-told : tie.Need-enum-told
+enum-told c = search needs
+
+put-head-requires : tie.Need-put-head-requires
+put-head-requires c κs = search needs
+
+put-entries-requires : tie.Need-put-entries-requires
+put-entries-requires c κs =
+    let at = c .before .before .before .before .before in
+    let a = at .before .before .before .before .before .before .args in
+    let room = fits (sizeFor (a .obs)) (length (a .buf .now)) (told (at .before .before .plan .ensures) (at .enum-told .given .1)) in
+    omega (arith, room, c .before .before .before .put-head .kept)
+
+seal-requires : tie.Need-seal-requires
+seal-requires c κs = search needs
+
+enum-told-2 : tie.Need-enum-told-2
+enum-told-2 c = search needs
+
+same-length : tie.Need-same-length
+same-length c = search needs
+
+-- the array has 15 observations, which owning it tells
+holds : (c : tie.Start) → c .args .obs .count ≤ 15 → c .args .obs .count ≤ length (c .args .entries)
+holds c few = omega (arith, c .good .1 .1 .1 .0 .1 .0 .1)
+
+returns-2 : tie.Need-returns-2
+returns-2 c =
+    let put = c .before .before .before .before .before .before in
+    let header = put .before .before .before .before in
+    let at = header .before .before in
+    let few = at .before .before .before in
+    let start = few .before .before .before in
+    let a = start .args in
+    let plan = at .before .before .plan .ensures in
+    wrote (senderOf (a .sender)) (a .obs) (a .entries) (a .buf .now) (few .if1 .left) (holds start (few .if1 .left)) plan
+    (told plan (at .enum-told .given .1)) (header .put-head .ensures) (put .put-entries .ensures) (c .before .before .seal .ensures)
+
+returns-3 : tie.Need-returns-3
+returns-3 c =
+    let few = c .before .before .before in
+    let start = few .before .before .before in
+    let a = start .args in
+    let plan = c .before .before .plan .ensures in
+    wrote-nothing (senderOf (a .sender)) (a .obs) (a .entries) (a .buf .now) (few .if1 .left) (holds start (few .if1 .left)) plan
+    (told plan (c .enum-told2 .given .1))
+
+pub write-obs-spec : {M : Type 1} → statement M
+write-obs-spec =
+    tie.close
+    (tie.spec
+    cast-k
+    returns
+    mul-n
+    add-n
+    plan-requires
+    enum-told
+    put-head-requires
+    put-entries-requires
+    seal-requires
+    enum-told-2
+    same-length
+    returns-2
+    returns-3)

@@ -1,0 +1,6 @@
+pub mod Layout
+pub mod Obs
+pub mod ObsWriter
+pub mod Phase
+pub mod BasePosLlh
+pub mod BasePosEcef

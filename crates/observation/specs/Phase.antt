@@ -1,0 +1,30 @@
+-- The carrier phase in 1/256 cycle: 256 × L.i + L.f, signed. Assumes nothing.
+use Prim.Native.Nat.{_-_, _/_, _%_}
+use mathlib.Core.Bool.{Bool, cond}
+use lib.Dec.{ltb}
+use lib.IntN.{ℤ, pos, negsuc, _+ℤ_, _*ℤ_}
+use lib.Signed.{mag}
+use Rattle.wire.specs.Message.{Answer, given, refused}
+use Rattle.observation.specs.declared.phase.Phase.{Phase}
+use Rattle.observation.specs.declared.phase.PhaseParts.{PhaseParts}
+use Rattle.observation.specs.declared.phase.PhaseParts.the-variants.{Parts, Refused}
+
+abbrev pub phaseOf : Phase → ℤ
+phaseOf p = pos 256 *ℤ p .«l_i» +ℤ pos (p .«l_f»)
+
+-- from -549755813888 to 549755813887
+abbrev pub inPhase : ℤ → Bool
+inPhase z = ltb (mag z) 549755813888
+
+-- the one pair: L.i rounds down, so that L.f is never negative
+abbrev pub partsOf : ℤ → Phase
+partsOf (pos n) = record { «l_i» = pos (n / 256); «l_f» = n % 256 }
+partsOf (negsuc n) = record { «l_i» = negsuc (n / 256); «l_f» = 255 - n % 256 }
+
+-- 33 outside the range
+unfoldable pub readPhase : ℤ → Answer Phase
+readPhase z = cond (inPhase z) (given (partsOf z)) (refused 33)
+
+abbrev pub partsAnswer : PhaseParts → Answer Phase
+partsAnswer (Parts p) = given p
+partsAnswer (Refused n) = refused n

@@ -1,0 +1,61 @@
+// BASE_POS_LLH, 0x0044: the base station, in degrees and m.
+ghost use mathlib.Core.Path.{_≡_};
+ghost use lib.ListN.{length};
+ghost use Rattle.wire.specs.Field.{decode, rowStored};
+ghost use Rattle.wire.specs.Message.{readAs};
+ghost use Rattle.frames.specs.Writer.{senderOf, writtenAnswer};
+ghost use Rattle.frames.specs.Message.{writeAnswer, writtenAs};
+ghost use Rattle.observation.specs.BasePosLlh.{basePosLlh, answerOf};
+use frames::Sender;
+use frames::Written;
+use wire::Double;
+
+pub struct BasePosLlh {
+    pub lat: Double,
+    pub lon: Double,
+    pub height: Double,
+}
+
+pub enum BasePosLlhRead {
+    Record(BasePosLlh),
+    Refused(u8),
+}
+
+fn take(s: &[u8]) -> BasePosLlh
+    ensures { λ r. ⌜ r ≡ basePosLlh .make (decode (basePosLlh .fields) (now (s .entry)) 0) ⌝ }
+{
+    BasePosLlh {
+        lat: wire::read_double(s, 0),
+        lon: wire::read_double(s, 8),
+        height: wire::read_double(s, 16),
+    }
+}
+
+fn put(buf: &mut [u8], r: BasePosLlh)
+    ensures { λ _. ⌜ now (buf .exit) ≡ rowStored (basePosLlh .fields) (basePosLlh .row r) (now (buf .entry)) 6 ⌝ }
+{
+    wire::store_double(buf, 6, r.lat);
+    wire::store_double(buf, 14, r.lon);
+    wire::store_double(buf, 22, r.height);
+}
+
+pub fn read_base_pos_llh(s: &[u8]) -> BasePosLlhRead
+    ensures { λ r. ⌜ answerOf r ≡ readAs basePosLlh (now (s .entry)) ⌝ }
+{
+    if s.len() != 24 {
+        return BasePosLlhRead::Refused(22);
+    }
+    BasePosLlhRead::Record(take(s))
+}
+
+pub fn write_base_pos_llh(buf: &mut [u8], sender: Sender, r: BasePosLlh) -> Written
+    ensures { λ w. ⌜ writtenAnswer w ≡ writeAnswer basePosLlh r (length (now (buf .entry))) ⌝ }
+    ensures { λ _. ⌜ now (buf .exit) ≡ writtenAs basePosLlh 0x0044 (senderOf sender) r (now (buf .entry)) ⌝ }
+{
+    let answer = frames::plan(24, buf.len());
+    if let Written::Bytes(_) = answer {
+        put(buf, r);
+        frames::seal(buf, 0x0044, sender, 24);
+    }
+    answer
+}

@@ -1,0 +1,66 @@
+// One observation of an OBS payload.
+ghost use mathlib.Core.Path.{_≡_};
+ghost use Rattle.wire.specs.Field.{decode, rowStored};
+ghost use Rattle.observation.specs.Obs.{observation, readEntry, entryAnswer};
+use crate::obs::is_obs_length;
+
+// 003's P, L.i, L.f, cn0, lock, sid.sat, sid.code and sid.reserved.
+pub struct Observation {
+    pub p: u32,
+    pub l_i: i32,
+    pub l_f: u8,
+    pub cn0: u8,
+    pub lock: u16,
+    pub sat: u16,
+    pub code: u8,
+    pub reserved: u8,
+}
+
+pub enum ObservationRead {
+    Record(Observation),
+    Refused(u8),
+}
+
+fn take(s: &[u8]) -> Observation
+    ensures { λ r. ⌜ r ≡ observation .make (decode (observation .fields) (now (s .entry)) 0) ⌝ }
+{
+    Observation {
+        p: wire::read_u32(s, 0),
+        l_i: wire::read_s32(s, 4),
+        l_f: wire::read_u8(s, 8),
+        cn0: wire::read_u8(s, 9),
+        lock: wire::read_u16(s, 10),
+        sat: wire::read_u16(s, 12),
+        code: wire::read_u8(s, 14),
+        reserved: wire::read_u8(s, 15),
+    }
+}
+
+// Stores an observation at the start of buf.
+pub fn put(buf: &mut [u8], r: Observation)
+    ensures { λ _. ⌜ now (buf .exit) ≡ rowStored (observation .fields) (observation .row r) (now (buf .entry)) 0 ⌝ }
+{
+    wire::store_u32(buf, 0, r.p);
+    wire::store_s32(buf, 4, r.l_i);
+    wire::store_u8(buf, 8, r.l_f);
+    wire::store_u8(buf, 9, r.cn0);
+    wire::store_u16(buf, 10, r.lock);
+    wire::store_u16(buf, 12, r.sat);
+    wire::store_u8(buf, 14, r.code);
+    wire::store_u8(buf, 15, r.reserved);
+}
+
+// Observation i of a payload: 22 where the payload is no OBS, then 25 where it has no such observation.
+pub fn read_observation(s: &[u8], i: usize) -> ObservationRead
+    ensures { λ r. ⌜ entryAnswer r ≡ readEntry (now (s .entry)) i ⌝ }
+{
+    if is_obs_length(s.len()) {
+        if i < (s.len() - 7) / 16 {
+            let start = 7 + i * 16;
+            let end = start + 16;
+            return ObservationRead::Record(take(&s[start..end]));
+        }
+        return ObservationRead::Refused(25);
+    }
+    ObservationRead::Refused(22)
+}

@@ -1,0 +1,28 @@
+// The observation messages of 003, section 6.3: OBS with its header and observations, the carrier phase, both base positions.
+// Read specs/Layout.antt (which lengths an edition has), specs/Obs.antt (header, observations, a whole payload) and specs/Phase.antt.
+mod base_pos_ecef;
+mod base_pos_llh;
+mod entry;
+mod obs;
+mod obs_write;
+mod phase;
+
+pub use base_pos_ecef::BasePosEcef;
+pub use base_pos_ecef::BasePosEcefRead;
+pub use base_pos_ecef::read_base_pos_ecef;
+pub use base_pos_ecef::write_base_pos_ecef;
+pub use base_pos_llh::BasePosLlh;
+pub use base_pos_llh::BasePosLlhRead;
+pub use base_pos_llh::read_base_pos_llh;
+pub use base_pos_llh::write_base_pos_llh;
+pub use entry::Observation;
+pub use entry::ObservationRead;
+pub use entry::read_observation;
+pub use obs::Obs;
+pub use obs::ObsRead;
+pub use obs::read_obs;
+pub use obs_write::write_obs;
+pub use phase::Phase;
+pub use phase::PhaseParts;
+pub use phase::carrier_phase;
+pub use phase::phase_parts;

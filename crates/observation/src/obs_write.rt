@@ -1,0 +1,57 @@
+// OBS written into a lent buffer.
+ghost use Prim.Native.Nat.{_+_, _*_, _≤_};
+ghost use mathlib.Core.Path.{_≡_};
+ghost use lib.ListN.{length, take};
+ghost use lib.Seq.{sets};
+ghost use Rattle.wire.specs.Field.{rowStored};
+ghost use Rattle.frames.specs.Writer.{senderOf, writtenAnswer};
+ghost use Rattle.observation.specs.Obs.{head, entriesBytes};
+ghost use Rattle.observation.specs.ObsWriter.{headOf, obsWriteAnswer, obsWritten};
+use crate::entry::Observation;
+use crate::entry::put;
+use crate::obs::Obs;
+use frames::Sender;
+use frames::Written;
+
+// Stores the header at buf[6..].
+fn put_head(buf: &mut [u8], obs: Obs)
+    ensures { λ _. ⌜ now (buf .exit) ≡ rowStored (head .fields) (head .row (headOf obs)) (now (buf .entry)) 6 ⌝ }
+{
+    wire::store_u32(buf, 6, obs.tow);
+    wire::store_u16(buf, 10, obs.wn);
+    wire::store_u8(buf, 12, obs.n_obs);
+}
+
+// Stores the first k observations one after the other at buf[13..].
+fn put_entries(buf: &mut [u8], entries: [Observation; 15], k: usize)
+    requires { ⌜ k ≤ 15 ⌝ }
+    requires { ⌜ 13 + k * 16 ≤ length (now buf) ⌝ }
+    ensures { λ _. ⌜ now (buf .exit) ≡ sets (now (buf .entry)) 13 (entriesBytes (take k entries)) ⌝ }
+{
+    let mut i = 0;
+    while i < k {
+        let start = 13 + i * 16;
+        let o = entries[i];
+        put(&mut buf[start..], o);
+        i += 1;
+    }
+}
+
+// A header and the first count of the observations: 31 for over 15, then 32.
+pub fn write_obs(buf: &mut [u8], sender: Sender, obs: Obs, entries: [Observation; 15]) -> Written
+    ensures { λ w. ⌜ writtenAnswer w ≡ obsWriteAnswer obs (length (now (buf .entry))) ⌝ }
+    ensures { λ _. ⌜ now (buf .exit) ≡ obsWritten (senderOf sender) obs entries (now (buf .entry)) ⌝ }
+{
+    let k = obs.count as usize;
+    if 15 < k {
+        return Written::Refused(31);
+    }
+    let n = 7 + k * 16;
+    let answer = frames::plan(n, buf.len());
+    if let Written::Bytes(_) = answer {
+        put_head(buf, obs);
+        put_entries(buf, entries, k);
+        frames::seal(buf, 0x0049, sender, n);
+    }
+    answer
+}

@@ -1,0 +1,29 @@
+-- A type's line of the table is found, and a type with no line is 21. And what a typed reader answered, under the message's name.
+-- Assumes nothing.
+use mathlib.Core.Path.{_≡_, refl, sym, ap, _∙_}
+use mathlib.Core.List.{List, [], _∷_}
+use Prim.Native.Nat.{ℕ}
+use borrow.Author.Tests.{ne-eqb}
+use Rattle.wire.specs.Message.{Answer, refused}
+use Rattle.payloads.specs.Table.{named, Line, lookUp, readFor}
+use Rattle.payloads.specs.declared.Message.{Message}
+
+-- e is what a reader returned, and x the case of it that was met
+pub as-met : {R E : Type 0} (answer : E → Answer R) {e x : E} {a : Answer R} → answer e ≡ a → e ≡ x → answer x ≡ a
+as-met answer p q = sym (ap answer q) ∙ p
+
+pub under-name : {R E : Type 0} (name : R → Message) (answer : E → Answer R) {e x : E} {a : Answer R} → answer e ≡ a → e ≡ x → named name (answer x) ≡ named name a
+under-name name answer p q = ap (named name) (as-met answer p q)
+
+pub at-kind : (s : List ℕ) {k kind : ℕ} {a : Answer Message} → a ≡ readFor k s → kind ≡ k → a ≡ readFor kind s
+at-kind s p q = p ∙ sym (ap (λ (k : ℕ). readFor k s) q)
+
+-- no line has the type
+abbrev pub Absent : List Line → ℕ → Type 0
+Absent [] kind = Unit {0}
+Absent (l ∷ ls) kind = (kind ≡ l .kind → ⊥) × Absent ls kind
+
+pub at-none : (ls : List Line) (kind : ℕ) (s : List ℕ) → Absent ls kind → refused 21 ≡ lookUp ls kind s
+unfolding lookUp
+at-none [] kind s h = refl
+at-none (l ∷ ls) kind s h = rw (ne-eqb kind (l .kind) (h .0)) (at-none ls kind s (h .1))
