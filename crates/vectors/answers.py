@@ -216,6 +216,80 @@ def types():
     yield "types %d %d" % (65536 - len(order), sum(0 not in sizes[kind] for kind in order))
 
 
-for part in checksums, numbers, doubles, captures, written, each, observations, types:
+def obs(tow, wn, n_obs, count):
+    return struct.pack("<IHB", tow, wn, n_obs) + bytes(16 * count)
+
+
+def made(roster):
+    return 41 if not 1 <= len(roster) <= 8 else 42 if len(set(roster)) < len(roster) else 0
+
+
+class Sorter:
+    """Document 01's epochs by their meaning: the well-formed frames of each listed sender, and whether the last n of them are one."""
+
+    def __init__(self, *roster):
+        self.own = {sender: [] for sender in roster}
+
+    def feed(self, kind, sender, payload):
+        if kind != 0x0049:
+            return " refused 46"
+        if not is_obs(len(payload)):
+            return " refused 22"
+        if sender not in self.own:
+            return " refused 43"
+        tow, wn, n_obs = struct.unpack_from("<IHB", payload)
+        n, i = divmod(n_obs, 16)
+        if not i < n:
+            return " refused %d" % (45 if n else 44)
+        own = self.own[sender]
+        own.append((tow, wn, n, i, (len(payload) - 7) // 16))
+        run = own[-n:]
+        if [packet[:4] for packet in run] != [(tow, wn, n, k) for k in range(n)]:
+            return " taken"
+        return " epoch %d %d %d %d %d" % (sender, wn, tow, n, sum(packet[4] for packet in run))
+
+
+def fed(name, sorter, *packets):
+    return name + "".join(sorter.feed(0x0049, sender, obs(*packet)) for sender, *packet in packets)
+
+
+def replayed(name, data):
+    sorter = Sorter(1228, 0)
+    told = [sorter.feed(kind, sender, payload) for _, kind, sender, payload in reading(data, False)[0]]
+    epochs = [t for t in told if t.startswith(" epoch")]
+    yield name + "".join(epochs)
+    yield "%s 0 %d %d" % (name, *(sum(t.startswith(" epoch %d " % s) for t in epochs) for s in (1228, 0)))
+
+
+def collated():
+    rosters = (), (7,), (0, 65535), range(1, 9), range(1, 10), (5, 6, 5), (1, 1, 3, 4, 5, 6, 7, 8, 9)
+    yield "rosters" + "".join(" %d" % made(roster) for roster in rosters)
+    listed = 1228, 0, 65535
+    yield fed("halves", Sorter(*listed), (0, 1, 2, 0x00, 0), (0, 1, 2, 0x11, 0), (0, 1, 2, 0x10, 3), (0, 1, 2, 0x02, 0), (0, 1, 2, 0x10, 15), (65535, 9, 8, 0x10, 0))
+    c, zeros = Sorter(*listed), obs(1, 2, 0, 1)
+    yield (fed("refusals", c, (0, 5, 6, 0x20, 1)) + c.feed(0x004A, 9, zeros[:8]) + c.feed(0x0049, 9, zeros[:8]) + c.feed(0x0049, 9, zeros[:7])
+           + c.feed(0x0049, 0, zeros[:7]) + fed("", c, (0, 5, 6, 0x12, 1), (1228, 5, 6, 0x21, 1), (0, 5, 6, 0x21, 2)))
+    c = Sorter(*listed)
+    yield fed("repeated", c, (0, 5, 6, 0x30, 1), (0, 5, 6, 0x31, 1), (0, 5, 6, 0x31, 1), (0, 5, 6, 0x32, 1))
+    yield fed("begun-again", c, (0, 5, 6, 0x30, 1), (0, 5, 6, 0x31, 1), (0, 5, 6, 0x30, 4), (0, 5, 6, 0x31, 5), (0, 5, 6, 0x32, 6), (0, 5, 6, 0x32, 6))
+    yield fed("other-week", c, (0, 5, 6, 0x20, 1), (0, 5, 7, 0x21, 1), (0, 5, 6, 0x21, 1))
+    yield fed("other-time-and-size", c, (0, 5, 6, 0x20, 1), (0, 4, 6, 0x21, 1), (0, 5, 6, 0x20, 1), (0, 5, 6, 0x31, 1))
+    yield fed("two-senders-one-time", c, (0, 5, 6, 0x20, 1), (1228, 5, 6, 0x20, 10), (0, 5, 6, 0x21, 2), (1228, 5, 6, 0x21, 5))
+    for n in range(1, 16):
+        yield fed("packets %d" % n, c, *((65535, 100, 1900, 16 * n + i, 15) for i in range(n)))
+    c, told = Sorter(*listed), ""
+    for tow in range(400):
+        packets = (1228, 0x30, 12), (0, 0x20, 9), (77, 0x21, 9), (1228, 0x31, 12), (0, 0x00, 1), (0, 0x21, 4), (1228, 0x32, 1)
+        told += fed("", c, *((sender, tow, 1900, n_obs, count) for sender, n_obs, count in packets))
+    yield "ticket %d %d" % (told.count(" epoch 1228 "), told.count(" epoch 0 "))
+    base = (1228, 10, 1900, 0x20, 1), (1228, 10, 1900, 0x21, 2), (1228, 20, 1900, 0x10, 3)
+    rover = (0, 10, 1900, 0x20, 2), (0, 10, 1900, 0x21, 1), (0, 20, 1900, 0x20, 1)
+    stranger = 77, 10, 1900, 0x21, 1
+    in_a_row = lambda *packets: b"".join(frame(0x0049, sender, obs(*packet)) for sender, *packet in packets)
+    yield from replayed("ordered", in_a_row(*base, *rover))
+    yield from replayed("shuffled", bytes(3) + in_a_row(rover[0], base[0], stranger, base[1]) + bytes(5) + in_a_row(*rover[1:], base[2]))
+
+
+for part in checksums, numbers, doubles, captures, written, each, observations, types, collated:
     for line in part():
         print(line)

@@ -2,6 +2,7 @@
 mod answers;
 mod captures;
 mod checksums;
+mod collated;
 mod doubles;
 mod each;
 mod messages;
@@ -20,4 +21,5 @@ fn main() {
     each::run();
     observations::run();
     answers::run();
+    collated::run();
 }

@@ -1,0 +1,11 @@
+pub mod Rosters
+pub mod Keys
+pub mod Judgements
+pub mod Making
+pub mod Runs
+pub mod Places
+pub mod Epochs
+pub mod Feeding
+pub mod Senders
+pub mod Collations
+pub mod Captures

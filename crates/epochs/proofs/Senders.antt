@@ -1,0 +1,160 @@
+-- Senders do not mix: the state of a collator is one place for each listed sender, made of that sender's own packets, and a frame moves its own
+-- sender's place alone. Nothing here looks inside a step. Assumes nothing.
+use mathlib.Core.Path.{_≡_, refl, sym, ap, _∙_}
+use mathlib.Core.Bool.{Bool, true, false, cond}
+use mathlib.Core.List.{List, [], _∷_, _++_, map}
+use Prim.Native.Nat.{ℕ, zero, suc, _+_, _≤_, _<_}
+use native.Mathlib.Omega.{arith}
+use lib.Dec.{eqb}
+use lib.ListN.{length, getD, set, take, replicate, length-map, List·getD-append}
+use lib.Seq.{take-take, take-append-seam, getD-take, take-set-lt, set-append-left}
+use borrow.Author.Tests.{eq-eqb, ne-eqb}
+use Rattle.epochs.specs.Packet.{seatOf, judged}
+use Rattle.epochs.specs.Collator.{idle, stepped, told, rosterOf, fed, fresh, names, repeats}
+use Rattle.epochs.specs.Epoch.{placeOf, Item, own, kept, packetsOf, ofSender, fedItem, after, stateOf}
+use Rattle.epochs.specs.declared.judging.Packet.{Packet}
+use Rattle.epochs.specs.declared.judging.Seat.the-variants.{At}
+use Rattle.epochs.specs.declared.judging.Judged.{Judged}
+use Rattle.epochs.specs.declared.judging.Judged.the-variants as J
+use Rattle.epochs.specs.declared.placing.Place.{Place}
+use Rattle.epochs.specs.declared.collating.Collator.{Collator}
+use Rattle.epochs.specs.declared.collating.Happened.{Happened}
+use Rattle.epochs.specs.declared.collating.Happened.the-variants as H
+use Rattle.epochs.specs.declared.collating.Fed.{Fed}
+use Rattle.epochs.proofs.Rosters.{seat-below, seat-names, seat-listed, seat-unlisted, map-others, map-seat, map-at}
+use Rattle.epochs.proofs.Judgements.{moved, judged-listed, judged-unlisted}
+use Rattle.epochs.proofs.Feeding.{fed-refused, fed-for}
+
+-- the packets of every sender once a frame is fed: its own sender's has one more, where it is well-formed
+abbrev pub heardBy : Item → (ℕ → List Packet) → ℕ → List Packet
+heardBy x past s = cond (eqb (x .sender) s) (kept (own x) (past s)) (past s)
+
+-- what a frame of a listed sender tells
+abbrev pub tells : ℕ → List Packet → Judged → Happened
+tells sender past (J.Refused n) = H.Refused n
+tells sender past (J.For i p) = told sender p (stepped (placeOf past) p .ended)
+
+pub state-ext : (roster : List ℕ) {a b : ℕ → List Packet} → ((s : ℕ) → a s ≡ b s) → stateOf roster a ≡ stateOf roster b
+state-ext roster e = ap (stateOf roster) (λ i s. e s i)
+
+-- the frame's own sender, and the others
+heard-own : (x : Item) (past : ℕ → List Packet) → heardBy x past (x .sender) ≡ kept (own x) (past (x .sender))
+heard-own x past = rw (eq-eqb (x .sender) (x .sender) refl)
+
+heard-other : (x : Item) (past : ℕ → List Packet) (s : ℕ) → (s ≡ x .sender → ⊥) → past s ≡ heardBy x past s
+heard-other x past s other = rw (ne-eqb (x .sender) s (λ e. other (sym e)))
+
+module _ (roster : List ℕ) (few : length roster ≤ 8) where
+  pub roster-kept : (past : ℕ → List Packet) → rosterOf (stateOf roster past) ≡ roster
+  roster-kept past = take-take (length roster) 8 (roster ++ replicate 8 0) few ∙ take-append-seam roster (replicate 8 0)
+
+  -- a made collator has heard nothing
+  pub fresh-state : fresh roster ≡ stateOf roster (λ (s : ℕ). [])
+  unfolding placeOf
+  fresh-state = ap (λ (ps : List Place). record { places = ps; roster = take 8 (roster ++ replicate 8 0); count = length roster }) (sym (all-idle roster 8 8 (omega arith)))
+    where
+      all-idle : (xs : List ℕ) (m n : ℕ) → m ≤ n → take m (map (λ (s : ℕ). idle) xs ++ replicate n idle) ≡ replicate m idle
+      all-idle xs zero n h = refl
+      all-idle [] (suc m) zero h = absurd (omega arith)
+      all-idle [] (suc m) (suc n) h = ap (λ (ps : List Place). idle ∷ ps) (all-idle [] m n (omega arith))
+      all-idle (x ∷ xs) (suc m) n h = ap (λ (ps : List Place). idle ∷ ps) (all-idle xs m n (omega arith))
+
+  module _ (once : repeats roster ≡ false) (past : ℕ → List Packet) (x : Item) where
+    abbrev c : Collator
+    c = stateOf roster past
+
+    at-roster : judged (rosterOf c) (x .kind) (x .sender) (x .payload) ≡ judged roster (x .kind) (x .sender) (x .payload)
+    at-roster = ap (λ (r : List ℕ). judged r (x .kind) (x .sender) (x .payload)) (roster-kept past)
+
+    abbrev told-of : List Place → Happened → Fed
+    told-of places h = record { collator = record { places = places; roster = c .roster; count = c .count }; happened = h }
+
+    -- a frame that is not well-formed leaves every sender's packets as they were
+    unheard : {n : ℕ} → own x ≡ J.Refused n → c ≡ stateOf roster (heardBy x past)
+    unheard q = state-ext roster (λ s. both (eqb (x .sender) s) ∙ ap (λ (j : Judged). cond (eqb (x .sender) s) (kept j (past s)) (past s)) (sym q))
+      where
+        both : {ps : List Packet} (t : Bool) → ps ≡ cond t ps ps
+        both true = refl
+        both false = refl
+
+    -- ---- a frame of a listed sender
+
+    module _ (i : ℕ) (e : seatOf roster (x .sender) 0 ≡ At i) where
+      below : i < length roster
+      below = omega (arith, seat-below roster (x .sender) 0 e .1)
+
+      named : getD roster i 0 ≡ x .sender
+      named = let start : i ≡ 0 + i = omega arith in seat-names roster (x .sender) 0 i (e ∙ ap At start)
+
+      -- the place at its seat is that of its own packets
+      own-place : getD (c .places) i idle ≡ placeOf (past (x .sender))
+      own-place =
+          let size : length (map (λ (s : ℕ). placeOf (past s)) roster) ≡ length roster = length-map roster (λ (s : ℕ). placeOf (past s)) in
+          getD-take 8 (map (λ (s : ℕ). placeOf (past s)) roster ++ replicate 8 idle) i idle (omega (arith, below))
+          ∙ List·getD-append (map (λ (s : ℕ). placeOf (past s)) roster) (replicate 8 idle) idle i (omega (arith, below))
+          ∙ map-at (λ (s : ℕ). placeOf (past s)) roster i idle below
+          ∙ ap (λ (s : ℕ). placeOf (past s)) named
+
+      -- and once it has the next packet the others are as they were
+      placed : {j : ℕ} {p : Packet} → own x ≡ J.For j p → set (c .places) i (stepped (placeOf (past (x .sender))) p .place) ≡ stateOf roster (heardBy x past) .places
+      unfolding placeOf
+      placed {p = p} q =
+          let size : length (map (λ (s : ℕ). placeOf (past s)) roster) ≡ length roster = length-map roster (λ (s : ℕ). placeOf (past s)) in
+          let v = stepped (placeOf (past (x .sender))) p .place in
+          let next : v ≡ placeOf (heardBy x past (x .sender)) = sym (ap placeOf (heard-own x past ∙ ap (λ (j : Judged). kept j (past (x .sender))) q)) in
+          sym (take-set-lt 8 (map (λ (s : ℕ). placeOf (past s)) roster ++ replicate 8 idle) i v (omega (arith, below)))
+          ∙ ap (take 8) (set-append-left (map (λ (s : ℕ). placeOf (past s)) roster) (replicate 8 idle) i v (omega (arith, below)))
+          ∙ ap (λ (ps : List Place). take 8 (ps ++ replicate 8 idle))
+          (ap (set (map (λ (s : ℕ). placeOf (past s)) roster) i) next
+          ∙ map-seat (x .sender) (λ y other. ap placeOf (heard-other x past y other)) roster i once below named)
+
+      fed-at : (j : Judged) → own x ≡ j → fed c (x .kind) (x .sender) (x .payload) ≡ told-of (stateOf roster (heardBy x past) .places) (tells (x .sender) (past (x .sender)) j)
+      fed-at (J.Refused n) q =
+          fed-refused c (x .kind) (x .sender) (x .payload) (at-roster ∙ judged-listed roster (x .kind) (x .sender) (x .payload) e ∙ ap (moved i) q)
+          ∙ ap (λ (d : Collator). record { collator = d; happened = H.Refused n }) (unheard q)
+      fed-at (J.For j p) q =
+          fed-for c (x .kind) (x .sender) (x .payload) (at-roster ∙ judged-listed roster (x .kind) (x .sender) (x .payload) e ∙ ap (moved i) q)
+          ∙ ap (λ (place : Place). told-of (set (c .places) i (stepped place p .place)) (told (x .sender) p (stepped place p .ended))) own-place
+          ∙ ap (λ (ps : List Place). told-of ps (tells (x .sender) (past (x .sender)) (J.For j p))) (placed q)
+
+    pub fed-listed : names roster (x .sender) ≡ true
+        → fed c (x .kind) (x .sender) (x .payload) ≡ record { collator = stateOf roster (heardBy x past); happened = tells (x .sender) (past (x .sender)) (own x) }
+    fed-listed n = let seat = seat-listed roster (x .sender) 0 n in fed-at (seat .0) (seat .1) (own x) refl
+
+    -- ---- a frame of another sender is refused, and leaves no trace
+
+    pub fed-unlisted : names roster (x .sender) ≡ false
+        → (n : ℕ) × (fed c (x .kind) (x .sender) (x .payload) ≡ record { collator = stateOf roster (heardBy x past); happened = H.Refused n })
+    fed-unlisted n =
+        let r = judged-unlisted roster (x .kind) (x .sender) (x .payload) (seat-unlisted roster (x .sender) 0 n) in
+        let others : map (λ (s : ℕ). placeOf (past s)) roster ≡ map (λ (s : ℕ). placeOf (heardBy x past s)) roster
+        = map-others (x .sender) (λ y other. ap placeOf (heard-other x past y other)) roster n in (
+          r .0,
+          fed-refused c (x .kind) (x .sender) (x .payload) (at-roster ∙ r .1)
+              ∙ ap (λ (ps : List Place). told-of (take 8 (ps ++ replicate 8 idle)) (H.Refused (r .0))) others,
+        )
+
+    -- either way the state is that of each sender's own packets
+    pub fed-state : fedItem c x .collator ≡ stateOf roster (heardBy x past)
+    fed-state = by (names roster (x .sender)) refl
+      where
+        by : (t : Bool) → names roster (x .sender) ≡ t → fedItem c x .collator ≡ stateOf roster (heardBy x past)
+        by true n = ap (λ (f : Fed). f .collator) (fed-listed n)
+        by false n = ap (λ (f : Fed). f .collator) (fed-unlisted n .1)
+
+  -- ---- frames fed in order
+
+  packets-on : (x : Item) (xs : List Item) (past : ℕ → List Packet) (s : ℕ) → packetsOf (ofSender s xs) (heardBy x past s) ≡ packetsOf (ofSender s (x ∷ xs)) (past s)
+  unfolding packetsOf ofSender
+  packets-on x xs past s = by (eqb (x .sender) s)
+    where
+      by : (t : Bool) → packetsOf (ofSender s xs) (cond t (kept (own x) (past s)) (past s)) ≡ packetsOf (cond t (x ∷ ofSender s xs) (ofSender s xs)) (past s)
+      by true = refl
+      by false = refl
+
+  -- the end state is one place for each listed sender, made of that sender's own packets
+  pub after-state : repeats roster ≡ false → (xs : List Item) (past : ℕ → List Packet) → after (stateOf roster past) xs ≡ stateOf roster (λ (s : ℕ). packetsOf (ofSender s xs) (past s))
+  unfolding after packetsOf ofSender
+  after-state once [] past = refl
+  after-state once (x ∷ xs) past =
+      ap (λ (c : Collator). after c xs) (fed-state once past x) ∙ after-state once xs (heardBy x past) ∙ state-ext roster (packets-on x xs past)

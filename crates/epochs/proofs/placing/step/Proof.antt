@@ -1,0 +1,96 @@
+-- `epochs::placing::step` meets its contract, way by way.
+-- Assumes nothing.
+use mathlib.Core.Path.{_≡_, sym, _∙_}
+use mathlib.Core.Bool.{_&&_, cond}
+use Prim.Native.Nat.{_+_, _%_}
+use lib.Dec.{eqb}
+use borrow.Author.Needs.{needs}
+use borrow.Author.Tests.{eq-eqb, ne-eqb}
+use Rattle.epochs.specs.Packet.{sameKey}
+use Rattle.epochs.specs.Collator.{dropped, goesOn, continued, stepped}
+use Rattle.epochs.proofs.placing.step.Statement.{statement}
+use Rattle.epochs.proofs.placing.step.Tie as tie
+
+cast-added : tie.Need-cast-added
+cast-added c = search needs
+
+added-requires : tie.Need-added-requires
+added-requires c κs = search needs
+
+returns : tie.Need-returns
+unfolding stepped continued
+returns c = rw (eq-eqb _ _ (c .before .before .if1 .taken)) (c .added .ensures)
+
+enum-told : tie.Need-enum-told
+enum-told c = search needs
+
+idle-requires : tie.Need-idle-requires
+idle-requires c κs = search needs
+
+enum-known-run : tie.Need-enum-known-run
+enum-known-run c = search needs
+
+same-key-requires : tie.Need-same-key-requires
+same-key-requires c κs = search needs
+
+cast-wrapping-add-u16 : tie.Need-cast-wrapping-add-u16
+cast-wrapping-add-u16 c = search needs
+
+wrapping-add-u16-requires : tie.Need-wrapping-add-u16-requires
+wrapping-add-u16-requires c κs = search needs
+
+added-requires-2 : tie.Need-added-requires-2
+added-requires-2 c κs = search needs
+
+-- a packet that does not begin a run, where one is open
+opened : (c : tie.After-known-told)
+    → stepped (c .before .before .before .before .before .args .place) (c .before .before .before .before .before .args .packet)
+    ≡ cond (sameKey (c .before .run .given .0 .0 .key) (c .before .before .before .before .before .args .packet .key) && eqb (c .before .run .given .0 .0 .next) (c .before .before .before .before .before .args .packet .counter)) (goesOn (c .before .before .before .before .before .args .packet) ((c .before .run .given .0 .0 .total + c .before .before .before .before .before .args .packet .observations) % 65536)) dropped
+unfolding stepped continued
+opened c = rw (ne-eqb _ _ (c .before .before .before .if1 .left), c .before .run .given .1)
+
+returns-2 : tie.Need-returns-2
+returns-2 c =
+    let same = sym (c .before .before .before .before .before .before .before .same-key .ensures) ∙ c .before .before .before .before .before .before .if2 .taken in
+    rw (opened (c .before .before .before .before .before .before .before .before), same, eq-eqb _ _ (c .before .before .before .if3 .taken), ← c .before .wrapping-add-u16 .ensures) (c .added2 .ensures)
+
+idle-requires-2 : tie.Need-idle-requires-2
+idle-requires-2 c κs = search needs
+
+returns-3 : tie.Need-returns-3
+returns-3 c =
+    let same = sym (c .before .before .before .before .before .same-key .ensures) ∙ c .before .before .before .before .if2 .taken in
+    rw (opened (c .before .before .before .before .before .before), same, ne-eqb _ _ (c .before .if3 .left)) (c .idle2 .ensures)
+
+idle-requires-3 : tie.Need-idle-requires-3
+idle-requires-3 c κs = search needs
+
+returns-4 : tie.Need-returns-4
+unfolding stepped continued
+returns-4 c = rw (ne-eqb _ _ (c .before .before .before .if1 .left), c .before .enum-told .given .1) (c .idle .ensures)
+
+returns-5 : tie.Need-returns-5
+returns-5 c =
+    let other = sym (c .before .before .same-key .ensures) ∙ c .before .if2 .left in
+    rw (opened (c .before .before .before), other) (c .idle3 .ensures)
+
+pub step-spec : {M : Type 1} → statement M
+step-spec =
+    tie.close
+    (tie.spec
+    cast-added
+    added-requires
+    returns
+    enum-told
+    idle-requires
+    enum-known-run
+    same-key-requires
+    cast-wrapping-add-u16
+    wrapping-add-u16-requires
+    added-requires-2
+    returns-2
+    idle-requires-2
+    returns-3
+    idle-requires-3
+    returns-4
+    returns-5)

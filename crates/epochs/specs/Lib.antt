@@ -1,0 +1,4 @@
+pub mod Packet
+pub mod Collator
+pub mod Epoch
+pub mod Capture

@@ -1,0 +1,24 @@
+// The collator: observation epochs, sender by sender. Each listed sender has one place, and no frame of another sender touches it.
+// Read specs/Packet.antt (which frames count), specs/Epoch.antt (document 01's words), specs/Collator.antt (step by step).
+mod capturing;
+mod collating;
+mod judging;
+mod placing;
+
+pub use capturing::Collated;
+pub use capturing::collate;
+pub use collating::Collator;
+pub use collating::Fed;
+pub use collating::Happened;
+pub use collating::Made;
+pub use collating::Report;
+pub use judging::Judged;
+pub use judging::Key;
+pub use judging::Packet;
+pub use judging::Seat;
+pub use judging::judge;
+pub use placing::Ended;
+pub use placing::Part;
+pub use placing::Place;
+pub use placing::Run;
+pub use placing::Stepped;

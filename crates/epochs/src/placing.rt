@@ -1,0 +1,88 @@
+// One sender's place: idle, or an open run.
+ghost use mathlib.Core.Path.{_≡_};
+ghost use Rattle.epochs.specs.Collator.{goesOn, dropped, stepped};
+use crate::judging::Key;
+use crate::judging::Packet;
+use crate::judging::same_key;
+
+// An open run: its key, the counter that comes next, and the observations so far.
+pub struct Part {
+    pub key: Key,
+    pub next: u8,
+    pub total: u16,
+}
+
+pub enum Run {
+    Idle,
+    Open(Part),
+}
+
+pub struct Place {
+    pub run: Run,
+}
+
+// Whether a packet ended an epoch, and with how many observations.
+pub enum Ended {
+    Not,
+    Whole(u16),
+}
+
+pub struct Stepped {
+    pub place: Place,
+    pub ended: Ended,
+}
+
+// The run with a packet that fits it: whole after the last counter, else waiting for the next.
+fn added(packet: Packet, total: u16) -> Stepped
+    ensures { λ r. ⌜ r ≡ goesOn packet total ⌝ }
+{
+    let key = packet.key;
+    let next = std::num::wrapping_add_u8(packet.counter, 1);
+    if next == key.n {
+        return Stepped {
+            place: Place { run: Run::Idle },
+            ended: Ended::Whole(total),
+        };
+    }
+    Stepped {
+        place: Place {
+            run: Run::Open(Part { key, next, total }),
+        },
+        ended: Ended::Not,
+    }
+}
+
+// Counter 0 begins a run; the next counter of the open run goes on; anything else leaves the place idle.
+pub fn step(place: Place, packet: Packet) -> Stepped
+    ensures { λ r. ⌜ r ≡ stepped place packet ⌝ }
+{
+    if packet.counter == 0 {
+        return added(packet, packet.observations as u16);
+    }
+    let run = place.run;
+    match run {
+        Run::Idle => idle(),
+        Run::Open(part) => {
+            if same_key(part.key, packet.key) {
+                if part.next == packet.counter {
+                    return added(
+                        packet,
+                        std::num::wrapping_add_u16(part.total, packet.observations as u16),
+                    );
+                }
+                return idle();
+            }
+            idle()
+        }
+    }
+}
+
+// Nothing is open, and nothing ended.
+fn idle() -> Stepped
+    ensures { λ r. ⌜ r ≡ dropped ⌝ }
+{
+    Stepped {
+        place: Place { run: Run::Idle },
+        ended: Ended::Not,
+    }
+}

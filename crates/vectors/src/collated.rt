@@ -1,0 +1,407 @@
+// The collator: document 01's cases, the ticket that this project is about, and two captures that differ only between senders.
+use crate::payload::front;
+use crate::print;
+use epochs::Collator;
+use epochs::Happened;
+use frames::Cursor;
+use frames::Next;
+use frames::Sender;
+use frames::Written;
+
+pub fn run() {
+    rosters();
+    halves();
+    refusals();
+    runs();
+    sizes();
+    ticket();
+    captures();
+}
+
+// An OBS payload: its time, n and counter, and how many observations (zeros).
+struct Header {
+    tow: u32,
+    wn: u16,
+    n_obs: u8,
+    count: usize,
+}
+
+fn payload(p: Header) -> [u8; 247] {
+    let mut s = [0u8; 247];
+    wire::store_u32(&mut s, 0, p.tow);
+    wire::store_u16(&mut s, 4, p.wn);
+    wire::store_u8(&mut s, 6, p.n_obs);
+    s
+}
+
+fn size(count: usize) -> usize {
+    if 15 < count {
+        return 0;
+    }
+    7 + 16 * count
+}
+
+fn say(h: Happened) {
+    match h {
+        Happened::Refused(n) => {
+            print::word(b" refused");
+            print::number(n as u64);
+        }
+        Happened::Taken => print::word(b" taken"),
+        Happened::Epoch(r) => {
+            print::word(b" epoch");
+            print::number(r.sender as u64);
+            print::number(r.wn as u64);
+            print::number(r.tow as u64);
+            print::number(r.n as u64);
+            print::number(r.observations as u64);
+        }
+    }
+}
+
+// Feeds one packet and says what happened.
+fn fed(c: Collator, sender: u16, p: Header) -> Collator {
+    let count = p.count;
+    let s = payload(p);
+    let f = c.feed(0x0049, sender, front(&s, size(count)));
+    let happened = f.happened;
+    say(happened);
+    f.collator
+}
+
+fn sent(tow: u32, wn: u16, n_obs: u8, count: usize) -> Header {
+    Header {
+        tow,
+        wn,
+        n_obs,
+        count,
+    }
+}
+
+// ---- made from a roster
+
+fn rosters() {
+    print::word(b"rosters");
+    number(&[]);
+    number(&[7]);
+    number(&[0, 65535]);
+    number(&[1, 2, 3, 4, 5, 6, 7, 8]);
+    number(&[1, 2, 3, 4, 5, 6, 7, 8, 9]);
+    number(&[5, 6, 5]);
+    number(&[1, 1, 3, 4, 5, 6, 7, 8, 9]);
+    print::end();
+}
+
+fn number(roster: &[u16]) {
+    let made = Collator::made(roster);
+    print::number(made.number as u64);
+}
+
+fn listed() -> Collator {
+    let made = Collator::made(&[1228, 0, 65535]);
+    made.collator
+}
+
+// ---- single cases
+
+// n from the upper half of n_obs, the counter from the lower.
+fn halves() {
+    print::word(b"halves");
+    let mut c = listed();
+    c = fed(c, 0, sent(1, 2, 0x00, 0));
+    c = fed(c, 0, sent(1, 2, 0x11, 0));
+    c = fed(c, 0, sent(1, 2, 0x10, 3));
+    c = fed(c, 0, sent(1, 2, 0x02, 0));
+    c = fed(c, 0, sent(1, 2, 0x10, 15));
+    fed(c, 65535, sent(9, 8, 0x10, 0));
+    print::end();
+}
+
+fn other(c: Collator, kind: u16, sender: u16, n: usize) -> Collator {
+    let s = payload(sent(1, 2, 0x00, 0));
+    let f = c.feed(kind, sender, front(&s, n));
+    let happened = f.happened;
+    say(happened);
+    f.collator
+}
+
+// 46, 22, 43, 44, 45: each before the next, and none of them breaks the open run.
+fn refusals() {
+    print::word(b"refusals");
+    let mut c = listed();
+    c = fed(c, 0, sent(5, 6, 0x20, 1));
+    c = other(c, 0x004a, 9, 8);
+    c = other(c, 0x0049, 9, 8);
+    c = other(c, 0x0049, 9, 7);
+    c = other(c, 0x0049, 0, 7);
+    c = fed(c, 0, sent(5, 6, 0x12, 1));
+    c = fed(c, 1228, sent(5, 6, 0x21, 1));
+    fed(c, 0, sent(5, 6, 0x21, 2));
+    print::end();
+}
+
+// Runs that break, and runs that begin anew.
+fn runs() {
+    print::word(b"repeated");
+    let mut c = listed();
+    c = fed(c, 0, sent(5, 6, 0x30, 1));
+    c = fed(c, 0, sent(5, 6, 0x31, 1));
+    c = fed(c, 0, sent(5, 6, 0x31, 1));
+    c = fed(c, 0, sent(5, 6, 0x32, 1));
+    print::end();
+    print::word(b"begun-again");
+    c = fed(c, 0, sent(5, 6, 0x30, 1));
+    c = fed(c, 0, sent(5, 6, 0x31, 1));
+    c = fed(c, 0, sent(5, 6, 0x30, 4));
+    c = fed(c, 0, sent(5, 6, 0x31, 5));
+    c = fed(c, 0, sent(5, 6, 0x32, 6));
+    c = fed(c, 0, sent(5, 6, 0x32, 6));
+    print::end();
+    print::word(b"other-week");
+    c = fed(c, 0, sent(5, 6, 0x20, 1));
+    c = fed(c, 0, sent(5, 7, 0x21, 1));
+    c = fed(c, 0, sent(5, 6, 0x21, 1));
+    print::end();
+    print::word(b"other-time-and-size");
+    c = fed(c, 0, sent(5, 6, 0x20, 1));
+    c = fed(c, 0, sent(4, 6, 0x21, 1));
+    c = fed(c, 0, sent(5, 6, 0x20, 1));
+    c = fed(c, 0, sent(5, 6, 0x31, 1));
+    print::end();
+    print::word(b"two-senders-one-time");
+    c = fed(c, 0, sent(5, 6, 0x20, 1));
+    c = fed(c, 1228, sent(5, 6, 0x20, 10));
+    c = fed(c, 0, sent(5, 6, 0x21, 2));
+    fed(c, 1228, sent(5, 6, 0x21, 5));
+    print::end();
+}
+
+// Epochs of 1 to 15 packets, of 15 observations each.
+fn sizes() {
+    let mut c = listed();
+    let mut n: usize = 1;
+    while n <= 15 {
+        c = whole(c, n);
+        n += 1;
+    }
+}
+
+fn whole(start: Collator, n: usize) -> Collator {
+    print::word(b"packets");
+    print::number(n as u64);
+    let mut c = start;
+    let mut i: usize = 0;
+    while i < n {
+        c = fed(
+            c,
+            65535,
+            sent(100, 1900, ((n % 16 * 16 + i % 16) % 256) as u8, 15),
+        );
+        i += 1;
+    }
+    print::end();
+    c
+}
+
+// ---- the ticket: 400 epochs of a base and of the rover that it relays as sender 0, on one line
+
+struct Tally {
+    collator: Collator,
+    base: u64,
+    rover: u64,
+}
+
+fn counted(t: Tally, sender: u16, p: Header) -> Tally {
+    let count = p.count;
+    let s = payload(p);
+    let c = t.collator;
+    let f = c.feed(0x0049, sender, front(&s, size(count)));
+    let after = f.collator;
+    let happened = f.happened;
+    match happened {
+        Happened::Refused(_) => Tally {
+            collator: after,
+            base: t.base,
+            rover: t.rover,
+        },
+        Happened::Taken => Tally {
+            collator: after,
+            base: t.base,
+            rover: t.rover,
+        },
+        Happened::Epoch(r) => {
+            if r.sender == 0 {
+                return Tally {
+                    collator: after,
+                    base: t.base,
+                    rover: std::num::wrapping_add_u64(t.rover, 1),
+                };
+            }
+            Tally {
+                collator: after,
+                base: std::num::wrapping_add_u64(t.base, 1),
+                rover: t.rover,
+            }
+        }
+    }
+}
+
+// One epoch of each, packet by packet, with a third sender's packets and a refused frame between.
+fn both(start: Tally, tow: u32) -> Tally {
+    let mut t = start;
+    t = counted(t, 1228, sent(tow, 1900, 0x30, 12));
+    t = counted(t, 0, sent(tow, 1900, 0x20, 9));
+    t = counted(t, 77, sent(tow, 1900, 0x21, 9));
+    t = counted(t, 1228, sent(tow, 1900, 0x31, 12));
+    t = counted(t, 0, sent(tow, 1900, 0x00, 1));
+    t = counted(t, 0, sent(tow, 1900, 0x21, 4));
+    counted(t, 1228, sent(tow, 1900, 0x32, 1))
+}
+
+fn ticket() {
+    let mut t = Tally {
+        collator: listed(),
+        base: 0,
+        rover: 0,
+    };
+    let mut e: u32 = 0;
+    while e < 400 {
+        t = both(t, e);
+        e += 1;
+    }
+    print::word(b"ticket");
+    print::number(t.base);
+    print::number(t.rover);
+    print::end();
+}
+
+// ---- two captures with the same frames for each sender, shuffled between senders, with noise and an unlisted sender in one
+
+fn put(buf: &mut [u8], at: usize, sender: u16, p: Header) -> usize {
+    let count = p.count;
+    let s = payload(p);
+    if buf.len() < at {
+        return at;
+    }
+    match frames::write_frame(
+        &mut buf[at..],
+        0x0049,
+        Sender::Named(sender),
+        front(&s, size(count)),
+    ) {
+        Written::Bytes(n) => std::num::wrapping_add_usize(at, n),
+        Written::Refused(_) => at,
+    }
+}
+
+fn captures() {
+    let mut first = [0u8; 400];
+    ordered(&mut first);
+    replay(b"ordered", &first);
+    let mut second = [0u8; 400];
+    shuffled(&mut second);
+    replay(b"shuffled", &second);
+}
+
+fn ordered(buf: &mut [u8]) {
+    let at = base_alone(buf, 0);
+    rover_alone(buf, at);
+}
+
+fn base_alone(buf: &mut [u8], from: usize) -> usize {
+    let mut at = from;
+    at = put(buf, at, 1228, sent(10, 1900, 0x20, 1));
+    at = put(buf, at, 1228, sent(10, 1900, 0x21, 2));
+    put(buf, at, 1228, sent(20, 1900, 0x10, 3))
+}
+
+fn rover_alone(buf: &mut [u8], from: usize) -> usize {
+    let mut at = from;
+    at = put(buf, at, 0, sent(10, 1900, 0x20, 2));
+    at = put(buf, at, 0, sent(10, 1900, 0x21, 1));
+    put(buf, at, 0, sent(20, 1900, 0x20, 1))
+}
+
+// The same for each of them, with three bytes of noise before, five between, and a third sender.
+fn shuffled(buf: &mut [u8]) {
+    let at = begun_mixed(buf, 3);
+    ended_mixed(buf, std::num::wrapping_add_usize(at, 5));
+}
+
+fn begun_mixed(buf: &mut [u8], from: usize) -> usize {
+    let mut at = from;
+    at = put(buf, at, 0, sent(10, 1900, 0x20, 2));
+    at = put(buf, at, 1228, sent(10, 1900, 0x20, 1));
+    at = put(buf, at, 77, sent(10, 1900, 0x21, 1));
+    put(buf, at, 1228, sent(10, 1900, 0x21, 2))
+}
+
+fn ended_mixed(buf: &mut [u8], from: usize) -> usize {
+    let mut at = from;
+    at = put(buf, at, 0, sent(10, 1900, 0x21, 1));
+    at = put(buf, at, 0, sent(20, 1900, 0x20, 1));
+    put(buf, at, 1228, sent(20, 1900, 0x10, 3))
+}
+
+struct Turn {
+    cursor: Cursor,
+    collator: Collator,
+    done: bool,
+}
+
+fn once(cursor: Cursor, collator: Collator, s: &[u8]) -> Turn {
+    match cursor.next(s) {
+        Next::Frame(f, after) => {
+            let t = collator.feed(f.kind, f.sender, frames::payload(s, f));
+            let happened = t.happened;
+            if let Happened::Epoch(_) = happened {
+                say(happened);
+            }
+            let c = t.collator;
+            Turn {
+                cursor: after,
+                collator: c,
+                done: false,
+            }
+        }
+        Next::End(after) => Turn {
+            cursor: after,
+            collator,
+            done: true,
+        },
+        Next::Needs(_, after) => Turn {
+            cursor: after,
+            collator,
+            done: true,
+        },
+    }
+}
+
+fn replay(name: &[u8], s: &[u8]) {
+    print::word(name);
+    reports(s);
+    print::end();
+    print::word(name);
+    let c = epochs::collate(s, &[1228, 0]);
+    print::number(c.number as u64);
+    let reports = c.reports;
+    print::number(reports[0] as u64);
+    print::number(reports[1] as u64);
+    print::end();
+}
+
+fn reports(s: &[u8]) {
+    let made = Collator::made(&[1228, 0]);
+    let mut collator = made.collator;
+    let mut cursor = Cursor::closed();
+    let mut turn = 0;
+    while turn <= s.len() {
+        let t = once(cursor, collator, s);
+        if t.done {
+            return;
+        }
+        cursor = t.cursor;
+        collator = t.collator;
+        turn += 1;
+    }
+}
