@@ -277,6 +277,8 @@ def collated():
     yield fed("two-senders-one-time", c, (0, 5, 6, 0x20, 1), (1228, 5, 6, 0x20, 10), (0, 5, 6, 0x21, 2), (1228, 5, 6, 0x21, 5))
     for n in range(1, 16):
         yield fed("packets %d" % n, c, *((65535, 100, 1900, 16 * n + i, 15) for i in range(n)))
+    each_once = [(sender, 5, 6, n_obs, count) for n_obs in (0x20, 0x21) for sender, count in zip((65535, 6, 5, 4, 3, 2, 1, 0, 7), (7, 6, 5, 4, 3, 2, 1, 0, 8))]
+    yield fed("eight-senders", Sorter(0, 1, 2, 3, 4, 5, 6, 65535), *each_once)
     c, told = Sorter(*listed), ""
     for tow in range(400):
         packets = (1228, 0x30, 12), (0, 0x20, 9), (77, 0x21, 9), (1228, 0x31, 12), (0, 0x00, 1), (0, 0x21, 4), (1228, 0x32, 1)

@@ -14,6 +14,7 @@ pub fn run() {
     refusals();
     runs();
     sizes();
+    eight();
     ticket();
     captures();
 }
@@ -201,6 +202,29 @@ fn whole(start: Collator, n: usize) -> Collator {
     }
     print::end();
     c
+}
+
+// Eight senders packet by packet at one time, and a ninth that is not listed.
+fn eight() {
+    print::word(b"eight-senders");
+    let made = Collator::made(&[0, 1, 2, 3, 4, 5, 6, 65535]);
+    let mut c = made.collator;
+    c = nine(c, 0x20);
+    nine(c, 0x21);
+    print::end();
+}
+
+fn nine(start: Collator, n_obs: u8) -> Collator {
+    let mut c = start;
+    c = fed(c, 65535, sent(5, 6, n_obs, 7));
+    c = fed(c, 6, sent(5, 6, n_obs, 6));
+    c = fed(c, 5, sent(5, 6, n_obs, 5));
+    c = fed(c, 4, sent(5, 6, n_obs, 4));
+    c = fed(c, 3, sent(5, 6, n_obs, 3));
+    c = fed(c, 2, sent(5, 6, n_obs, 2));
+    c = fed(c, 1, sent(5, 6, n_obs, 1));
+    c = fed(c, 0, sent(5, 6, n_obs, 0));
+    fed(c, 7, sent(5, 6, n_obs, 8))
 }
 
 // ---- the ticket: 400 epochs of a base and of the rover that it relays as sender 0, on one line
