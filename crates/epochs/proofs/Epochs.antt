@@ -1,7 +1,7 @@
 -- A place ends an epoch exactly when document 01 says that one ends: a sender's place, fed its packets from idle on, tells of a whole epoch
 -- with a packet and a total exactly when `EpochEnds`. Its open part is the run that is still unfinished. Assumes nothing.
 use mathlib.Core.Path.{_≡_, refl, sym, ap, _∙_, subst}
-use mathlib.Core.Bool.{Bool, true, false, _&&_, cond, true≢false, and-eq-true-iff}
+use mathlib.Core.Bool.{Bool, true, false, cond, true≢false, and-eq-true-iff}
 use mathlib.Core.List.{List, [], _∷_}
 use mathlib.Core.Logic.{_↔_}
 use Prim.Native.Nat.{ℕ, zero, suc, _+_, _%_, _<_}
@@ -9,7 +9,7 @@ use native.Mathlib.Omega.{arith}
 use lib.Dec.{eqb}
 use borrow.Author.Tests.{eqb-true, eqb-false, eq-eqb}
 use Rattle.epochs.specs.Packet.{sameKey}
-use Rattle.epochs.specs.Collator.{idle, dropped, goesOn, continued, stepped}
+use Rattle.epochs.specs.Collator.{idle, dropped, goesOn, fits, summed, continued, stepped}
 use Rattle.epochs.specs.Epoch.{RunTo, EpochEnds, Formed, AllFormed, placeOf}
 use Rattle.epochs.specs.declared.judging.Key.{Key}
 use Rattle.epochs.specs.declared.judging.Packet.{Packet}
@@ -74,17 +74,16 @@ module _ (p : Packet) (past : List Packet) (formed : Formed p) where
     unfolding continued
     right-later Idle h =
         right-dropped (λ key j t below r. let a = earlier j r .1 in h key (a .0) (a .1) (omega (arith, a .2)) (a .4))
-    right-later (Open part) h = by (sameKey (part .key) (p .key) && eqb (part .next) (p .counter)) refl
+    right-later (Open part) h = by (fits part p) refl
       where
         small : part .total + p .observations < 65536
         small = omega (arith, run-small (h .0) past all (h .1), run-low (h .0) past all (h .1), formed .few)
 
-        by : (t : Bool) → (sameKey (part .key) (p .key) && eqb (part .next) (p .counter)) ≡ t
-            → Right p past (cond t (goesOn p ((part .total + p .observations) % 65536)) dropped)
+        by : (t : Bool) → fits part p ≡ t → Right p past (cond t (goesOn p (summed part p)) dropped)
         by true e =
             let tests = and-eq-true-iff (sameKey (part .key) (p .key)) (eqb (part .next) (p .counter)) .0 e in
             let counter : p .counter ≡ suc (h .0) = sym (eqb-true _ _ (tests .1)) ∙ h .2 in
-            let whole : part .total + p .observations ≡ (part .total + p .observations) % 65536 = omega (arith, small) in
+            let whole : part .total + p .observations ≡ summed part p = omega (arith, small) in
             right-on (subst (RunTo (p .key) (p .counter) (p ∷ past)) whole (next-of p (h .1) (equal-key (part .key) (p .key) (tests .0)) counter))
         by false e =
             right-dropped (λ key j t below r.

@@ -1,11 +1,10 @@
 -- A place that ended an epoch is idle. Assumes nothing.
 use mathlib.Core.Path.{_≡_, refl}
-use mathlib.Core.Bool.{Bool, true, false, _&&_, cond}
+use mathlib.Core.Bool.{Bool, true, false, cond}
 use Prim.Native.Nat.{ℕ, _+_, _%_}
 use native.Mathlib.Omega.{arith}
 use lib.Dec.{eqb}
-use Rattle.epochs.specs.Packet.{sameKey}
-use Rattle.epochs.specs.Collator.{idle, dropped, goesOn, continued, stepped}
+use Rattle.epochs.specs.Collator.{idle, dropped, goesOn, fits, summed, continued, stepped}
 use Rattle.epochs.specs.declared.judging.Packet.{Packet}
 use Rattle.epochs.specs.declared.placing.Run.{Run}
 use Rattle.epochs.specs.declared.placing.Run.the-variants.{Idle, Open}
@@ -32,10 +31,10 @@ module _ (p : Packet) where
   rests-later : (run : Run) → Rests (continued run p)
   unfolding continued
   rests-later Idle = λ t e. refl
-  rests-later (Open part) = by (sameKey (part .key) (p .key) && eqb (part .next) (p .counter))
+  rests-later (Open part) = by (fits part p)
     where
-      by : (t : Bool) → Rests (cond t (goesOn p ((part .total + p .observations) % 65536)) dropped)
-      by true = rests-on ((part .total + p .observations) % 65536)
+      by : (t : Bool) → Rests (cond t (goesOn p (summed part p)) dropped)
+      by true = rests-on (summed part p)
       by false = λ t e. refl
 
   pub whole-rests : (place : Place) (t : ℕ) → stepped place p .ended ≡ Whole t → stepped place p .place ≡ idle

@@ -8,6 +8,7 @@ use Rattle.epochs.specs.Packet.{sameKey, judged}
 use Rattle.epochs.specs.declared.judging.Packet.{Packet}
 use Rattle.epochs.specs.declared.judging.Judged.{Judged}
 use Rattle.epochs.specs.declared.judging.Judged.the-variants as J
+use Rattle.epochs.specs.declared.placing.Part.{Part}
 use Rattle.epochs.specs.declared.placing.Run.{Run}
 use Rattle.epochs.specs.declared.placing.Run.the-variants.{Idle, Open}
 use Rattle.epochs.specs.declared.placing.Place.{Place}
@@ -35,11 +36,19 @@ goesOn p total =
     cond (eqb ((p .counter + 1) % 256) (p .key .n)) (record { place = idle; ended = Whole total })
     (record { place = record { run = Open (record { key = p .key; next = (p .counter + 1) % 256; total = total }) }; ended = Not })
 
--- the next counter of the open run goes on; any other packet leaves the place idle. Sums wrap, so that no state traps
+-- a packet fits an open run: of the same key, with the counter that comes next
+abbrev pub fits : Part → Packet → Bool
+fits part p = sameKey (part .key) (p .key) && eqb (part .next) (p .counter)
+
+-- the observations of an open run and one more packet. The sum wraps, so that no state traps
+abbrev pub summed : Part → Packet → ℕ
+summed part p = (part .total + p .observations) % 65536
+
+-- a packet that fits goes on; any other leaves the place idle
 unfoldable pub continued : Run → Packet → Stepped
 unfolding goesOn
 continued Idle p = dropped
-continued (Open part) p = cond (sameKey (part .key) (p .key) && eqb (part .next) (p .counter)) (goesOn p ((part .total + p .observations) % 65536)) dropped
+continued (Open part) p = cond (fits part p) (goesOn p (summed part p)) dropped
 
 -- counter 0 begins a run, whatever was open
 unfoldable pub stepped : Place → Packet → Stepped

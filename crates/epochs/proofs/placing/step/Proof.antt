@@ -1,13 +1,10 @@
 -- `epochs::placing::step` meets its contract, way by way.
 -- Assumes nothing.
 use mathlib.Core.Path.{_≡_, sym, _∙_}
-use mathlib.Core.Bool.{_&&_, cond}
-use Prim.Native.Nat.{_+_, _%_}
-use lib.Dec.{eqb}
+use mathlib.Core.Bool.{cond}
 use borrow.Author.Needs.{needs}
 use borrow.Author.Tests.{eq-eqb, ne-eqb}
-use Rattle.epochs.specs.Packet.{sameKey}
-use Rattle.epochs.specs.Collator.{dropped, goesOn, continued, stepped}
+use Rattle.epochs.specs.Collator.{dropped, goesOn, fits, summed, continued, stepped}
 use Rattle.epochs.proofs.placing.step.Statement.{statement}
 use Rattle.epochs.proofs.placing.step.Tie as tie
 
@@ -45,7 +42,8 @@ added-requires-2 c κs = search needs
 -- a packet that does not begin a run, where one is open
 opened : (c : tie.After-known-told)
     → stepped (c .before .before .before .before .before .args .place) (c .before .before .before .before .before .args .packet)
-    ≡ cond (sameKey (c .before .run .given .0 .0 .key) (c .before .before .before .before .before .args .packet .key) && eqb (c .before .run .given .0 .0 .next) (c .before .before .before .before .before .args .packet .counter)) (goesOn (c .before .before .before .before .before .args .packet) ((c .before .run .given .0 .0 .total + c .before .before .before .before .before .args .packet .observations) % 65536)) dropped
+    ≡ cond (fits (c .before .run .given .0 .0) (c .before .before .before .before .before .args .packet))
+    (goesOn (c .before .before .before .before .before .args .packet) (summed (c .before .run .given .0 .0) (c .before .before .before .before .before .args .packet))) dropped
 unfolding stepped continued
 opened c = rw (ne-eqb _ _ (c .before .before .before .if1 .left), c .before .run .given .1)
 
