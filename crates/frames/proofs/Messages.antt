@@ -9,7 +9,8 @@ use Rattle.wire.specs.Number.{Bytes}
 use Rattle.wire.specs.Field.{HeldRow, SettledRow, allowedRow, rowBits, size, encode, rowStored}
 use Rattle.wire.specs.Message.{Answer, given, refused, Message, readAs}
 use Rattle.wire.proofs.Fields.{length-encode}
-use Rattle.wire.proofs.Messages.{never-both, payload-given, written, writes-back, reads-back, reads-same, exactly-22, exactly-23}
+use Rattle.wire.proofs.Answers.{never-both}
+use Rattle.wire.proofs.Messages.{payload-given, written, writes-back, reads-back, reads-same, exactly-22, exactly-23}
 use Rattle.frames.specs.Step.{stepAt, payloadIn}
 use Rattle.frames.specs.Writer.{planned, sealed, framed}
 use Rattle.frames.specs.Message.{writeAnswer, writtenAs, frameWritten, Faithful}

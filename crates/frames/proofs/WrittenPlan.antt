@@ -8,16 +8,13 @@ use native.Mathlib.Omega.{arith}
 use lib.Dec.{leb}
 use borrow.Author.Tests.{le-leb, lt-leb, leb-true, leb-false}
 use Rattle.wire.specs.Message.{Answer, given, refused}
+use Rattle.wire.proofs.Answers.{never-both, same-refused}
 use Rattle.frames.specs.Writer.{writtenAnswer, planned, fitting}
 use Rattle.frames.specs.declared.write.Written.{Written}
 use Rattle.frames.specs.declared.write.Written.the-variants.{Bytes, Refused}
 
--- two answers are told apart
 never-31-32 : {o : Answer ℕ} → o ≡ refused 31 → o ≡ refused 32 → ⊥
-never-31-32 p q = let z : _≡_ {A = ℕ} 31 32 = cc in omega arith
-
-never-both : {o : Answer ℕ} {m n : ℕ} → o ≡ given m → o ≡ refused n → ⊥
-never-both p q = let z : _≡_ {A = ℕ} 0 1 = cc in omega arith
+never-31-32 p q = let z : _≡_ {A = ℕ} 31 32 = same-refused p q in omega arith
 
 -- the enum of an answer is determined by the answer, and says what was planned
 pub answer-determines : (a b : Written) → writtenAnswer a ≡ writtenAnswer b → a ≡ b

@@ -1,4 +1,3 @@
-pub mod Answers
 pub mod Layouts
 pub mod Rows
 pub mod RowsStored

@@ -21,7 +21,7 @@ use Rattle.observation.specs.Obs.{head, observation, readEntry, readObs,
 use Rattle.observation.specs.ObsWriter.{headOf, payloadFor, obsWriteAnswer, obsWritten}
 use Rattle.observation.specs.declared.entry.Observation.{Observation}
 use Rattle.observation.specs.declared.obs.Obs.{Obs}
-use Rattle.observation.proofs.Answers.{same-refused, never-both}
+use Rattle.wire.proofs.Answers.{same-refused, never-both}
 use Rattle.observation.proofs.Payloads.{length-payload, reads-obs, reads-entry}
 
 -- ---- the answer
@@ -55,7 +55,7 @@ module _ (o : Obs) (room : ℕ) where
 
   pub exactly-32 : (obsWriteAnswer o room ≡ refused 32) ↔ ((o .count ≤ 15) × (room < sizeFor o + 8))
   exactly-32 = (
-    λ r. ⊎-elim (λ few. (few, plans.exactly-32 (sizeFor o) room .0 (sym (answer-planned few) ∙ r) .1)) (λ many. absurd (eqb-false 32 31 refl (same-refused (sym r ∙ answer-31 many)))) (few-or-many o),
+    λ r. ⊎-elim (λ few. (few, plans.exactly-32 (sizeFor o) room .0 (sym (answer-planned few) ∙ r) .1)) (λ many. absurd (eqb-false 32 31 refl (same-refused r (answer-31 many)))) (few-or-many o),
     λ c. answer-planned (c .0) ∙ plans.planned-32 (sizeFor o) room (omega arith) (c .1),
   )
 

@@ -20,7 +20,7 @@ use Rattle.observation.specs.Obs.{Head, head, observation, entryAt, read
 use Rattle.observation.specs.ObsWriter.{headOf}
 use Rattle.observation.specs.declared.entry.Observation.{Observation}
 use Rattle.observation.specs.declared.obs.Obs.{Obs}
-use Rattle.observation.proofs.Answers.{same-given, never-both, passed, failed, exactly-failed, exactly-first, exactly-second}
+use Rattle.wire.proofs.Answers.{same-given, never-both, passed, failed, exactly-failed, exactly-first, exactly-second}
 use Rattle.observation.proofs.Layouts.{whole}
 use Rattle.observation.proofs.Rows.{rowsBytes, rowsFrom, length-behind, count-behind, fitting-behind, row-back, rows-back, rows-again}
 

@@ -16,7 +16,7 @@ use Rattle.wire.specs.Message.{given, refused}
 use Rattle.wire.proofs.Signed.{came-back, widened}
 use Rattle.observation.specs.Phase.{phaseOf, partsOf, readPhase}
 use Rattle.observation.specs.declared.phase.Phase.{Phase}
-use Rattle.observation.proofs.Answers.{passed, failed}
+use Rattle.wire.proofs.Answers.{passed, failed}
 use Rattle.observation.proofs.Phases.{phase-lt, parts-lt}
 
 -- ---- a pair put together

@@ -10,7 +10,7 @@ use borrow.Author.Tests.{lt-ltb, ltb-true}
 use Rattle.wire.specs.Message.{refused}
 use Rattle.observation.specs.Phase.{phaseOf, inPhase, partsOf, readPhase}
 use Rattle.observation.specs.declared.phase.Phase.{Phase}
-use Rattle.observation.proofs.Answers.{exactly-failed}
+use Rattle.wire.proofs.Answers.{exactly-failed}
 
 abbrev pair : ℤ → ℕ → Phase
 pair i f = record { «l_i» = i; «l_f» = f }

@@ -2,5 +2,6 @@ pub mod Numbers
 pub mod Signed
 pub mod Doubles
 pub mod Fields
+pub mod Answers
 pub mod Messages
 pub mod Flags

@@ -4,7 +4,6 @@ use mathlib.Core.Bool.{Bool, true, false, cond}
 use mathlib.Core.List.{List}
 use mathlib.Core.Logic.{_↔_, _⊎_, inl, inr}
 use Prim.Native.Nat.{ℕ}
-use native.Mathlib.Omega.{arith}
 use lib.Dec.{eqb}
 use lib.ListN.{length}
 use borrow.Author.Tests.{eq-eqb, ne-eqb, eqb-true, eqb-false}
@@ -12,16 +11,7 @@ use Rattle.wire.specs.Number.{Bytes}
 use Rattle.wire.specs.Field.{Row, HeldRow, SettledRow, allowedRow, rowBits, size, encode, decode}
 use Rattle.wire.specs.Message.{Answer, given, refused, Message, judged, readAs, payloadOf}
 use Rattle.wire.proofs.Fields.{again, again-bits, again-settled, allowed-again-row, length-encode, decode-encode, encode-decode, decode-settled}
-
--- two refusals, or a refusal and an answer, are told apart
-same-given : {A : Type 0} {o : Answer A} {x y : A} → o ≡ given x → o ≡ given y → x ≡ y
-same-given p q = cc
-
-pub never-both : {A : Type 0} {o : Answer A} {x : A} {n : ℕ} → o ≡ given x → o ≡ refused n → ⊥
-never-both p q = let z : _≡_ {A = ℕ} 0 1 = cc in omega arith
-
-same-refused : {A : Type 0} {o : Answer A} {m n : ℕ} → o ≡ refused m → o ≡ refused n → m ≡ n
-same-refused p q = cc
+use Rattle.wire.proofs.Answers.{same-given, never-both, same-refused}
 
 module _ {R : Type 0} (m : Message R) where
   -- ---- reading, by cases

@@ -1,10 +1,10 @@
 -- Answers behind tests: each refusal is given exactly when its own test is the first to fail. Assumes nothing.
-use mathlib.Core.Path.{_≡_, refl, sym}
+use mathlib.Core.Path.{_≡_, refl}
 use mathlib.Core.Bool.{Bool, true, false, cond}
 use mathlib.Core.Logic.{_↔_}
 use Prim.Native.Nat.{ℕ}
 use native.Mathlib.Omega.{arith}
 use Rattle.wire.specs.Message.{Answer, given, refused}
 
 -- ---- told apart
 
@@ -14,8 +14,8 @@ same-given p q = cc
 pub never-both : {A : Type 0} {o : Answer A} {x : A} {n : ℕ} → o ≡ given x → o ≡ refused n → ⊥
 never-both p q = let z : _≡_ {A = ℕ} 0 1 = cc in omega arith
 
-pub same-refused : {A : Type 0} {m n : ℕ} → _≡_ {A = Answer A} (refused m) (refused n) → m ≡ n
-same-refused e = cc
+pub same-refused : {A : Type 0} {o : Answer A} {m n : ℕ} → o ≡ refused m → o ≡ refused n → m ≡ n
+same-refused p q = cc
 
 module _ {A : Type 0} (x : A) (n : ℕ) where
   -- ---- one test
@@ -41,7 +41,7 @@ module _ {A : Type 0} (x : A) (n : ℕ) where
       where
         only : (t u : Bool) → cond t (cond u (given x) (refused m)) (refused n) ≡ refused n → t ≡ false
         only true true e = absurd (never-both refl e)
-        only true false e = absurd (differ (same-refused e))
+        only true false e = absurd (differ (same-refused refl e))
         only false u e = refl
 
     pub exactly-second : (t u : Bool) → (cond t (cond u (given x) (refused m)) (refused n) ≡ refused m) ↔ ((t ≡ true) × (u ≡ false))
@@ -50,4 +50,4 @@ module _ {A : Type 0} (x : A) (n : ℕ) where
         only : (t u : Bool) → cond t (cond u (given x) (refused m)) (refused n) ≡ refused m → (t ≡ true) × (u ≡ false)
         only true true e = absurd (never-both refl e)
         only true false e = (refl, refl)
-        only false u e = absurd (differ (same-refused (sym e)))
+        only false u e = absurd (differ (same-refused e refl))
