@@ -3,7 +3,7 @@
 -- Assumes nothing.
 use mathlib.Core.Path.{_≡_, refl, sym, ap, _∙_, subst}
 use mathlib.Core.Bool.{Bool, true, false, cond}
-use mathlib.Core.List.{List, [], _∷_, _++_, map}
+use mathlib.Core.List.{List, [], _∷_, _++_}
 use mathlib.Core.Logic.{_↔_}
 use Prim.Native.Nat.{ℕ, _≤_}
 use native.Mathlib.Omega.{arith}
@@ -13,7 +13,7 @@ use borrow.Author.Tests.{eqb-true, eqb-false, eq-eqb}
 use Rattle.wire.specs.Number.{Bytes}
 use Rattle.epochs.specs.Packet.{seatOf}
 use Rattle.epochs.specs.Collator.{idle, stepped, reportOf, told, names, made}
-use Rattle.epochs.specs.Epoch.{AllFormed, placeOf, Item, own, kept, packetsOf, ofSender, historyOf, fedItem, after, reportIn, reports, reportsOf, stateOf, EndsEpoch, SameFrames, itemsOf}
+use Rattle.epochs.specs.Epoch.{AllFormed, placeOf, Item, own, kept, packetsOf, ofSender, historyOf, fedItem, after, reportIn, reports, reportsOf, placesOf, stateOf, EndsEpoch, SameFrames, itemsOf}
 use Rattle.epochs.specs.declared.judging.Packet.{Packet}
 use Rattle.epochs.specs.declared.judging.Seat.the-variants.{At}
 use Rattle.epochs.specs.declared.judging.Judged.{Judged}
@@ -150,7 +150,7 @@ module _ (roster : List ℕ) (ok : made roster .number ≡ 0) where
   pub same-state : (xs ys : List Item) → SameFrames roster xs ys → after (made roster .collator) xs ≡ after (made roster .collator) ys
   unfolding historyOf
   same-state xs ys same =
-      let places : map (λ (s : ℕ). placeOf (historyOf s xs)) roster ≡ map (λ (s : ℕ). placeOf (historyOf s ys)) roster
+      let places : placesOf roster (λ (s : ℕ). historyOf s xs) ≡ placesOf roster (λ (s : ℕ). historyOf s ys)
       = map-listed roster (λ s n. ap (λ (zs : List Item). placeOf (packetsOf zs [])) (same s n)) in
       standing xs
       ∙ ap (λ (ps : List Place). record { places = take 8 (ps ++ replicate 8 idle); roster = take 8 (roster ++ replicate 8 0); count = length roster }) places

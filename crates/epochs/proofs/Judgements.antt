@@ -1,7 +1,8 @@
--- What a frame is judged to be, case by case. Assumes nothing.
+-- What a frame is judged to be, case by case: refused, or taken, exactly for the first reason that holds. Assumes nothing.
 use mathlib.Core.Path.{_≡_, refl, sym, ap, _∙_, subst}
 use mathlib.Core.Bool.{Bool, true, false, not, cond}
 use mathlib.Core.List.{List, [], _∷_}
+use mathlib.Core.Logic.{_↔_}
 use Prim.Native.Nat.{ℕ, _≤_, _<_}
 use native.Mathlib.Omega.{arith}
 use lib.Dec.{eqb, leb}
@@ -16,7 +17,7 @@ use Rattle.observation.specs.declared.obs.Obs.{Obs}
 use Rattle.wire.proofs.Answers.{same-given, never-both}
 use Rattle.observation.proofs.Layouts.{whole}
 use Rattle.observation.proofs.Payloads.{obs-22, obs-given}
-use Rattle.epochs.specs.Packet.{obsKind, packetOf, seatOf, seated, listed, judged}
+use Rattle.epochs.specs.Packet.{obsKind, packetOf, seatOf, seated, listed, judged, Found, Verdict, otherKind, wrongLength, unlisted, noPackets, pastTheLast, wellFormed}
 use Rattle.epochs.specs.Epoch.{Formed}
 use Rattle.epochs.specs.declared.judging.Packet.{Packet}
 use Rattle.epochs.specs.declared.judging.Seat.{Seat}
@@ -64,12 +65,6 @@ module _ (roster : List ℕ) (kind sender : ℕ) (payload : List ℕ) where
     pub judged-43 : {o : Obs} → given o ≡ readObs payload → Nowhere ≡ seatOf roster sender 0 → Refused 43 ≡ judged roster kind sender payload
     judged-43 {o} r e = ap (seated o) e ∙ ap (listed roster sender) r ∙ sym (judged-obs k)
 
--- an observation frame that was read, of the sender at seat i
-pub record Found (roster : List ℕ) (kind sender : ℕ) (payload : List ℕ) (i : ℕ) (o : Obs) : Type 0 where
-  pub kinded : kind ≡ obsKind
-  pub read : given o ≡ readObs payload
-  pub seat : At i ≡ seatOf roster sender 0
-
 module _ {roster : List ℕ} {kind sender : ℕ} {payload : List ℕ} {i : ℕ} {o : Obs} (f : Found roster kind sender payload i o) where
   judged-found : seated o (At i) ≡ judged roster kind sender payload
   judged-found = ap (seated o) (f .seat) ∙ ap (listed roster sender) (f .read) ∙ sym (judged-obs roster kind sender payload (f .kinded))
@@ -93,6 +88,48 @@ module _ {roster : List ℕ} {kind sender : ℕ} {payload : List ℕ} {i : ℕ} 
         at : For i (packetOf o) ≡ seated o (At i)
         at = rw (ne-eqb (packetOf o .key .n) 0 z, lt-leb (packetOf o .key .n) (packetOf o .counter) h)
 
+-- ---- each answer exactly for its reason
+
+module _ (roster : List ℕ) (kind sender : ℕ) (payload : List ℕ) where
+  abbrev Told : Judged → Type 0
+  Told j = Verdict roster kind sender payload j
+
+  verdict : Told (judged roster kind sender payload)
+  verdict = by-kind (eqb kind obsKind) refl
+    where
+      by-count : {i : ℕ} {o : Obs} (f : Found roster kind sender payload i o) → (packetOf o .key .n ≡ 0 → ⊥) → (t : Bool)
+          → leb (packetOf o .key .n) (packetOf o .counter) ≡ t → Told (judged roster kind sender payload)
+      by-count {o = o} f z true q = let h = leb-true (packetOf o .key .n) (packetOf o .counter) q in subst Told (judged-45 f z h) (pastTheLast f z h)
+      by-count {o = o} f z false q = let h = leb-false (packetOf o .key .n) (packetOf o .counter) q in subst Told (judged-for f z h) (wellFormed f h)
+
+      by-n : {i : ℕ} {o : Obs} (f : Found roster kind sender payload i o) (t : Bool) → eqb (packetOf o .key .n) 0 ≡ t → Told (judged roster kind sender payload)
+      by-n {o = o} f true q = let z = eqb-true (packetOf o .key .n) 0 q in subst Told (judged-44 f z) (noPackets f z)
+      by-n f false q = by-count f (eqb-false _ _ q) _ refl
+
+      by-seat : kind ≡ obsKind → {o : Obs} → given o ≡ readObs payload → (x : Seat) → x ≡ seatOf roster sender 0 → Told (judged roster kind sender payload)
+      by-seat k r Nowhere e = subst Told (judged-43 roster kind sender payload k r e) (unlisted k r e)
+      by-seat k r (At i) e = by-n (record { kinded = k; read = r; seat = e }) _ refl
+
+      by-read : kind ≡ obsKind → (a : Answer Obs) → a ≡ readObs payload → Told (judged roster kind sender payload)
+      by-read k (refused n) r = subst Told (judged-22 roster kind sender payload k r) (wrongLength k (ap refused (sym (only-22 payload r)) ∙ r))
+      by-read k (given o) r = by-seat k r _ refl
+
+      by-kind : (t : Bool) → eqb kind obsKind ≡ t → Told (judged roster kind sender payload)
+      by-kind true q = by-read (eqb-true kind obsKind q) _ refl
+      by-kind false q = let k = eqb-false kind obsKind q in subst Told (judged-46 roster kind sender payload k) (otherKind k)
+
+  only : {j : Judged} → Told j → j ≡ judged roster kind sender payload
+  only (otherKind k) = judged-46 roster kind sender payload k
+  only (wrongLength k r) = judged-22 roster kind sender payload k r
+  only (unlisted k r e) = judged-43 roster kind sender payload k r e
+  only (noPackets f z) = judged-44 f z
+  only (pastTheLast f z h) = judged-45 f z h
+  only (wellFormed f h) = judged-for f (λ z. omega arith) h
+
+  -- a frame is refused, or taken, exactly for the first reason that holds
+  pub exactly-judged : (j : Judged) → (judged roster kind sender payload ≡ j) ↔ Verdict roster kind sender payload j
+  exactly-judged j = (λ e. subst Told e verdict, λ v. sym (only v))
+
 -- ---- what a frame that is taken must be
 
 pub record Heard (roster : List ℕ) (kind sender : ℕ) (payload : List ℕ) (i : ℕ) (p : Packet) : Type 0 where
@@ -101,43 +138,30 @@ pub record Heard (roster : List ℕ) (kind sender : ℕ) (payload : List ℕ) (i
   pub packet : packetOf obs ≡ p
   pub below : p .counter < p .key .n
 
-never-for : {j : Judged} {n i : ℕ} {p : Packet} → Refused n ≡ j → j ≡ For i p → ⊥
-never-for e f = let z : _≡_ {A = ℕ} 0 1 = cc in omega arith
+never-for : {n i : ℕ} {p : Packet} → Refused n ≡ For i p → ⊥
+never-for e = let z : _≡_ {A = ℕ} 0 1 = cc in omega arith
+
+same-for : {i j : ℕ} {p q : Packet} → For i p ≡ For j q → (i ≡ j) × (p ≡ q)
+same-for e = (cc, cc)
 
 module _ (roster : List ℕ) (kind sender : ℕ) (payload : List ℕ) {i : ℕ} {p : Packet} where
   pub heard : judged roster kind sender payload ≡ For i p → Heard roster kind sender payload i p
-  heard taken = by-kind (eqb kind obsKind) refl
+  heard taken = by (verdict roster kind sender payload) taken
     where
-      by-count : {j : ℕ} {o : Obs} (f : Found roster kind sender payload j o) → (packetOf o .key .n ≡ 0 → ⊥) → (t : Bool)
-          → leb (packetOf o .key .n) (packetOf o .counter) ≡ t → Heard roster kind sender payload i p
-      by-count f z true q = absurd (never-for (judged-45 f z (leb-true _ _ q)) taken)
-      by-count {j} {o} f z false q =
-          let below = leb-false (packetOf o .key .n) (packetOf o .counter) q in
-          let same : For j (packetOf o) ≡ For i p = judged-for f z below ∙ taken in
-          let packet : packetOf o ≡ p = cc in
-          let place : j ≡ i = cc in
+      by : {j : Judged} → Verdict roster kind sender payload j → j ≡ For i p → Heard roster kind sender payload i p
+      by (otherKind k) e = absurd (never-for e)
+      by (wrongLength k r) e = absurd (never-for e)
+      by (unlisted k r s) e = absurd (never-for e)
+      by (noPackets f z) e = absurd (never-for e)
+      by (pastTheLast f z h) e = absurd (never-for e)
+      by (wellFormed {o = o} f h) e =
+          let same = same-for e in
           record {
             obs = o;
-            found = subst (λ (j : ℕ). Found roster kind sender payload j o) place f;
-            packet = packet;
-            below = subst (λ (p : Packet). p .counter < p .key .n) packet below;
+            found = subst (λ (j : ℕ). Found roster kind sender payload j o) (same .0) f;
+            packet = same .1;
+            below = subst (λ (p : Packet). p .counter < p .key .n) (same .1) h;
           }
-
-      by-n : {j : ℕ} {o : Obs} (f : Found roster kind sender payload j o) (t : Bool) → eqb (packetOf o .key .n) 0 ≡ t → Heard roster kind sender payload i p
-      by-n f true q = absurd (never-for (judged-44 f (eqb-true _ _ q)) taken)
-      by-n f false q = by-count f (eqb-false _ _ q) _ refl
-
-      by-seat : kind ≡ obsKind → {o : Obs} → given o ≡ readObs payload → (x : Seat) → x ≡ seatOf roster sender 0 → Heard roster kind sender payload i p
-      by-seat k r Nowhere e = absurd (never-for (judged-43 roster kind sender payload k r e) taken)
-      by-seat k r (At j) e = by-n (record { kinded = k; read = r; seat = e }) _ refl
-
-      by-read : kind ≡ obsKind → (a : Answer Obs) → a ≡ readObs payload → Heard roster kind sender payload i p
-      by-read k (refused n) r = absurd (never-for (judged-22 roster kind sender payload k r) taken)
-      by-read k (given o) r = by-seat k r _ refl
-
-      by-kind : (t : Bool) → eqb kind obsKind ≡ t → Heard roster kind sender payload i p
-      by-kind true q = by-read (eqb-true kind obsKind q) _ refl
-      by-kind false q = absurd (never-for (judged-46 roster kind sender payload (eqb-false kind obsKind q)) taken)
 
   -- its place is within the roster
   pub judged-below : judged roster kind sender payload ≡ For i p → i < length roster

@@ -11,7 +11,7 @@ use lib.Seq.{take-take, take-append-seam, getD-take, take-set-lt, set-append-lef
 use borrow.Author.Tests.{eq-eqb, ne-eqb}
 use Rattle.epochs.specs.Packet.{seatOf, judged}
 use Rattle.epochs.specs.Collator.{idle, stepped, told, rosterOf, fed, fresh, names, repeats}
-use Rattle.epochs.specs.Epoch.{placeOf, Item, own, kept, packetsOf, ofSender, fedItem, after, stateOf}
+use Rattle.epochs.specs.Epoch.{placeOf, Item, own, kept, packetsOf, ofSender, fedItem, after, placesOf, stateOf}
 use Rattle.epochs.specs.declared.judging.Packet.{Packet}
 use Rattle.epochs.specs.declared.judging.Seat.the-variants.{At}
 use Rattle.epochs.specs.declared.judging.Judged.{Judged}
@@ -86,12 +86,14 @@ module _ (roster : List ℕ) (few : length roster ≤ 8) where
       named : getD roster i 0 ≡ x .sender
       named = let start : i ≡ 0 + i = omega arith in seat-names roster (x .sender) 0 i (e ∙ ap At start)
 
+      inside : i < length (placesOf roster past)
+      inside = omega (arith, below, length-map roster (λ (s : ℕ). placeOf (past s)))
+
       -- the place at its seat is that of its own packets
       own-place : getD (c .places) i idle ≡ placeOf (past (x .sender))
       own-place =
-          let size : length (map (λ (s : ℕ). placeOf (past s)) roster) ≡ length roster = length-map roster (λ (s : ℕ). placeOf (past s)) in
-          getD-take 8 (map (λ (s : ℕ). placeOf (past s)) roster ++ replicate 8 idle) i idle (omega (arith, below))
-          ∙ List·getD-append (map (λ (s : ℕ). placeOf (past s)) roster) (replicate 8 idle) idle i (omega (arith, below))
+          getD-take 8 (placesOf roster past ++ replicate 8 idle) i idle (omega (arith, below))
+          ∙ List·getD-append (placesOf roster past) (replicate 8 idle) idle i inside
           ∙ map-at (λ (s : ℕ). placeOf (past s)) roster i idle below
           ∙ ap (λ (s : ℕ). placeOf (past s)) named
 
@@ -99,13 +101,12 @@ module _ (roster : List ℕ) (few : length roster ≤ 8) where
       placed : {j : ℕ} {p : Packet} → own x ≡ J.For j p → set (c .places) i (stepped (placeOf (past (x .sender))) p .place) ≡ stateOf roster (heardBy x past) .places
       unfolding placeOf
       placed {p = p} q =
-          let size : length (map (λ (s : ℕ). placeOf (past s)) roster) ≡ length roster = length-map roster (λ (s : ℕ). placeOf (past s)) in
           let v = stepped (placeOf (past (x .sender))) p .place in
           let next : v ≡ placeOf (heardBy x past (x .sender)) = sym (ap placeOf (heard-own x past ∙ ap (λ (j : Judged). kept j (past (x .sender))) q)) in
-          sym (take-set-lt 8 (map (λ (s : ℕ). placeOf (past s)) roster ++ replicate 8 idle) i v (omega (arith, below)))
-          ∙ ap (take 8) (set-append-left (map (λ (s : ℕ). placeOf (past s)) roster) (replicate 8 idle) i v (omega (arith, below)))
+          sym (take-set-lt 8 (placesOf roster past ++ replicate 8 idle) i v (omega (arith, below)))
+          ∙ ap (take 8) (set-append-left (placesOf roster past) (replicate 8 idle) i v inside)
           ∙ ap (λ (ps : List Place). take 8 (ps ++ replicate 8 idle))
-          (ap (set (map (λ (s : ℕ). placeOf (past s)) roster) i) next
+          (ap (set (placesOf roster past) i) next
           ∙ map-seat (x .sender) (λ y other. ap placeOf (heard-other x past y other)) roster i once below named)
 
       fed-at : (j : Judged) → own x ≡ j → fed c (x .kind) (x .sender) (x .payload) ≡ told-of (stateOf roster (heardBy x past) .places) (tells (x .sender) (past (x .sender)) j)
@@ -127,7 +128,7 @@ module _ (roster : List ℕ) (few : length roster ≤ 8) where
         → (n : ℕ) × (fed c (x .kind) (x .sender) (x .payload) ≡ record { collator = stateOf roster (heardBy x past); happened = H.Refused n })
     fed-unlisted n =
         let r = judged-unlisted roster (x .kind) (x .sender) (x .payload) (seat-unlisted roster (x .sender) 0 n) in
-        let others : map (λ (s : ℕ). placeOf (past s)) roster ≡ map (λ (s : ℕ). placeOf (heardBy x past s)) roster
+        let others : placesOf roster past ≡ placesOf roster (heardBy x past)
         = map-others (x .sender) (λ y other. ap placeOf (heard-other x past y other)) roster n in (
           r .0,
           fed-refused c (x .kind) (x .sender) (x .payload) (at-roster ∙ r .1)

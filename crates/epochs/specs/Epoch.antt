@@ -116,10 +116,14 @@ unfoldable pub reportsOf : ℕ → List Report → List Report
 reportsOf sender [] = []
 reportsOf sender (r ∷ rs) = cond (eqb (r .sender) sender) (r ∷ reportsOf sender rs) (reportsOf sender rs)
 
+-- the places of a roster's senders, each after its own packets
+abbrev pub placesOf : List ℕ → (ℕ → List Packet) → List Place
+placesOf roster past = map (λ (s : ℕ). placeOf (past s)) roster
+
 -- the collator in which each listed sender has sent the packets of its past, and nothing else has left a trace
 abbrev pub stateOf : List ℕ → (ℕ → List Packet) → Collator
 stateOf roster past =
-    record { places = take 8 (map (λ (s : ℕ). placeOf (past s)) roster ++ replicate 8 idle); roster = take 8 (roster ++ replicate 8 0); count = length roster }
+    record { places = take 8 (placesOf roster past ++ replicate 8 idle); roster = take 8 (roster ++ replicate 8 0); count = length roster }
 
 -- ---- demand 2 and demand 3
 

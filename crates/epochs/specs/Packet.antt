@@ -1,5 +1,6 @@
--- Which frames count: what a frame is to a collator, by the roster and the frame alone. Assumes nothing.
-use Prim.Native.Nat.{ℕ, suc, _/_, _%_}
+-- Which frames count: what a frame is to a collator, by the roster and the frame alone, and why. Assumes nothing.
+use Prim.Native.Nat.{ℕ, suc, _/_, _%_, _≤_, _<_}
+use mathlib.Core.Path.{_≡_}
 use mathlib.Core.Bool.{Bool, _&&_, not, cond}
 use mathlib.Core.List.{List, [], _∷_}
 use lib.Dec.{eqb, leb}
@@ -46,3 +47,21 @@ listed roster sender (refused n) = Refused n
 unfoldable pub judged : List ℕ → ℕ → ℕ → List ℕ → Judged
 unfolding seatOf
 judged roster kind sender payload = cond (not (eqb kind obsKind)) (Refused 46) (listed roster sender (readObs payload))
+
+-- ---- the answers with their reasons, in document 01's order
+
+-- an observation frame that was read, of the sender at seat i
+pub record Found (roster : List ℕ) (kind sender : ℕ) (payload : List ℕ) (i : ℕ) (o : Obs) : Type 0 where
+  pub kinded : kind ≡ obsKind
+  pub read : given o ≡ readObs payload
+  pub seat : At i ≡ seatOf roster sender 0
+
+pub data Verdict (roster : List ℕ) (kind sender : ℕ) (payload : List ℕ) : Judged → Type 0 where
+  otherKind : (kind ≡ obsKind → ⊥) → Verdict roster kind sender payload (Refused 46)
+  wrongLength : kind ≡ obsKind → refused 22 ≡ readObs payload → Verdict roster kind sender payload (Refused 22)
+  unlisted : {o : Obs} → kind ≡ obsKind → given o ≡ readObs payload → Nowhere ≡ seatOf roster sender 0 → Verdict roster kind sender payload (Refused 43)
+  noPackets : {i : ℕ} {o : Obs} → Found roster kind sender payload i o → packetOf o .key .n ≡ 0 → Verdict roster kind sender payload (Refused 44)
+  pastTheLast : {i : ℕ} {o : Obs} → Found roster kind sender payload i o → (packetOf o .key .n ≡ 0 → ⊥) → packetOf o .key .n ≤ packetOf o .counter
+      → Verdict roster kind sender payload (Refused 45)
+  wellFormed : {i : ℕ} {o : Obs} → Found roster kind sender payload i o → packetOf o .counter < packetOf o .key .n
+      → Verdict roster kind sender payload (For i (packetOf o))

@@ -1,5 +1,6 @@
 // The collator: observation epochs, sender by sender. Each listed sender has one place, and no frame of another sender touches it.
-// Read specs/Packet.antt (which frames count), specs/Epoch.antt (document 01's words), specs/Collator.antt (step by step).
+// Read specs/Packet.antt (which frames count), specs/Collator.antt (step by step), specs/Epoch.antt (an epoch in document 01's words, and what
+// a sender's frames make of it), specs/Capture.antt (a whole capture).
 mod capturing;
 mod collating;
 mod judging;

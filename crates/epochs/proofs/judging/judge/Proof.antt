@@ -4,7 +4,8 @@ use mathlib.Core.Path.{sym, ap, _∙_}
 use lib.ListN.{take}
 use borrow.Author.Needs.{needs}
 use Rattle.observation.specs.Obs.{obsAnswer}
-use Rattle.epochs.proofs.Judgements.{judged-46, judged-22, judged-43, Found, judged-44, judged-45, judged-for}
+use Rattle.epochs.specs.Packet.{Found}
+use Rattle.epochs.proofs.Judgements.{judged-46, judged-22, judged-43, judged-44, judged-45, judged-for}
 use Rattle.epochs.proofs.judging.judge.Statement.{statement}
 use Rattle.epochs.proofs.judging.judge.Tie as tie
 
