@@ -13,7 +13,7 @@ use borrow.Author.Tests.{le-leb, lt-leb, leb-true, leb-false}
 use Rattle.wire.specs.Number.{numberAt}
 use Rattle.wire.specs.Message.{given, refused}
 use Rattle.wire.proofs.Numbers.{number-byte}
-use Rattle.wire.proofs.Messages.{never-both}
+use Rattle.wire.proofs.Answers.{never-both}
 use Rattle.frames.specs.Step.{stepAt, payloadIn}
 use Rattle.frames.specs.Writer.{planned, framed}
 use Rattle.frames.specs.declared.step.Frame.{Frame}
