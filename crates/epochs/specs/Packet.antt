@@ -5,6 +5,7 @@ use mathlib.Core.Bool.{Bool, _&&_, not, cond}
 use mathlib.Core.List.{List, [], _∷_}
 use lib.Dec.{eqb, leb}
 use Rattle.wire.specs.Message.{Answer, given, refused}
+use Rattle.observation.specs.Layout.{first}
 use Rattle.observation.specs.Obs.{readObs}
 use Rattle.observation.specs.declared.obs.Obs.{Obs}
 use Rattle.epochs.specs.declared.judging.Key.{Key}
@@ -16,7 +17,7 @@ use Rattle.epochs.specs.declared.judging.Judged.the-variants.{Refused, F
 
 -- the type that is collated
 abbrev pub obsKind : ℕ
-obsKind = 0x0049
+obsKind = first .kind
 
 -- packets of one epoch have the same tow, wn and n
 abbrev pub sameKey : Key → Key → Bool

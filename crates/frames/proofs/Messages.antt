@@ -19,10 +19,10 @@ use Rattle.frames.proofs.WrittenPlan.{fits}
 use Rattle.frames.proofs.Written.{framed-unfit, writes-row}
 use Rattle.frames.proofs.WrittenRead.{framed-reads-back, framed-payload-back}
 
-module _ {R : Type 0} (m : Message R) (kind sender : ℕ) (r : R) (buf : List ℕ) where
+module _ {R : Type 0} (m : Message R) (sender : ℕ) (r : R) (buf : List ℕ) where
   -- what a writer answers, and the buffer as it leaves it
   abbrev pub Wrote : Answer ℕ → List ℕ → Type 0
-  Wrote a u = (a ≡ writeAnswer m r (length buf)) × (u ≡ writtenAs m kind sender r buf)
+  Wrote a u = (a ≡ writeAnswer m r (length buf)) × (u ≡ writtenAs m sender r buf)
 
   -- a ranged field outside its range: nothing is written
   pub wrote-23 : allowedRow (m .fields) (m .row r) ≡ false → Wrote (refused 23) buf
@@ -38,17 +38,17 @@ module _ {R : Type 0} (m : Message R) (kind sender : ℕ) (r : R) (buf : List �
     pub wrote-nothing : {n : ℕ} → planned (size (m .fields)) (length buf) ≡ refused n → Wrote a buf
     unfolding writtenAs
     wrote-nothing q =
-        (answers, rw e (sym (framed-unfit kind sender (encode (m .fields) (m .row r)) buf (ap (λ (n : ℕ). planned n (length buf)) (length-encode (m .fields) (m .row r)) ∙ q))))
+        (answers, rw e (sym (framed-unfit (m .kind) sender (encode (m .fields) (m .row r)) buf (ap (λ (n : ℕ). planned n (length buf)) (length-encode (m .fields) (m .row r)) ∙ q))))
 
     -- the fields stored one after the other, then sealed
-    pub wrote : {n : ℕ} {t u : List ℕ} → planned (size (m .fields)) (length buf) ≡ given n → t ≡ rowStored (m .fields) (m .row r) buf 6 → u ≡ sealed kind sender (size (m .fields)) t → Wrote a u
+    pub wrote : {n : ℕ} {t u : List ℕ} → planned (size (m .fields)) (length buf) ≡ given n → t ≡ rowStored (m .fields) (m .row r) buf 6 → u ≡ sealed (m .kind) sender (size (m .fields)) t → Wrote a u
     unfolding writtenAs
     wrote q p s =
-        (answers, rw e (writes-row kind sender (m .fields) (m .row r) buf q p s))
+        (answers, rw e (writes-row (m .kind) sender (m .fields) (m .row r) buf q p s))
 
 -- ---- through the frame
 
-module _ {R : Type 0} (m : Message R) (kind sender : ℕ) (r : R) (buf : List ℕ) where
+module _ {R : Type 0} (m : Message R) (sender : ℕ) (r : R) (buf : List ℕ) where
   -- a writer that answers a length found the record in its ranges and room for the frame
   written-when : {n : ℕ} → writeAnswer m r (length buf) ≡ given n → (allowedRow (m .fields) (m .row r) ≡ true) × (planned (size (m .fields)) (length buf) ≡ given n)
   unfolding writeAnswer
@@ -58,11 +58,11 @@ module _ {R : Type 0} (m : Message R) (kind sender : ℕ) (r : R) (buf : List �
       go true e = (e, rw e at g)
       go false e = absurd (never-both {x = n} {n = 23} g (rw e))
 
-  frame-written : allowedRow (m .fields) (m .row r) ≡ true → writtenAs m kind sender r buf ≡ framed kind sender (encode (m .fields) (m .row r)) buf
+  frame-written : allowedRow (m .fields) (m .row r) ≡ true → writtenAs m sender r buf ≡ framed (m .kind) sender (encode (m .fields) (m .row r)) buf
   unfolding writtenAs
   frame-written e = rw e
 
-  module _ {n : ℕ} (k : kind < 65536) (s : sender < 65536) (g : writeAnswer m r (length buf) ≡ given n) where
+  module _ {n : ℕ} (k : m .kind < 65536) (s : sender < 65536) (g : writeAnswer m r (length buf) ≡ given n) where
     bytes : List ℕ
     bytes = encode (m .fields) (m .row r)
 
@@ -75,23 +75,23 @@ module _ {R : Type 0} (m : Message R) (kind sender : ℕ) (r : R) (buf : List �
     room = rw length-encode (fits (size (m .fields)) (length buf) (written-when g .1) .1)
 
     -- a frame written is found where it was written
-    pub found-through : stepAt (writtenAs m kind sender r buf) 0 ≡ Found (frameWritten m kind sender)
+    pub found-through : stepAt (writtenAs m sender r buf) 0 ≡ Found (frameWritten m sender)
     unfolding bytes
     found-through =
         ap (λ (t : List ℕ). stepAt t 0) (frame-written (written-when g .0))
-        ∙ framed-reads-back kind sender bytes buf k s few room
-        ∙ ap (λ (l : ℕ). Found (record { at = 0; kind = kind; sender = sender; length = l })) (length-encode (m .fields) (m .row r))
+        ∙ framed-reads-back (m .kind) sender bytes buf k s few room
+        ∙ ap (λ (l : ℕ). Found (record { at = 0; kind = m .kind; sender = sender; length = l })) (length-encode (m .fields) (m .row r))
 
-    payload-through : payloadIn (writtenAs m kind sender r buf) (frameWritten m kind sender) ≡ bytes
+    payload-through : payloadIn (writtenAs m sender r buf) (frameWritten m sender) ≡ bytes
     unfolding bytes
     payload-through =
-        ap₂ (λ (t : List ℕ) (l : ℕ). payloadIn t (record { at = 0; kind = kind; sender = sender; length = l }))
+        ap₂ (λ (t : List ℕ) (l : ℕ). payloadIn t (record { at = 0; kind = m .kind; sender = sender; length = l }))
         (frame-written (written-when g .0)) (sym (length-encode (m .fields) (m .row r)))
-        ∙ framed-payload-back kind sender bytes buf k s few room
+        ∙ framed-payload-back (m .kind) sender bytes buf k s few room
 
     -- and its payload gives the record back bit for bit
     pub reads-through : HeldRow (m .fields) (m .row r)
-        → (q : R) × (readAs m (payloadIn (writtenAs m kind sender r buf) (frameWritten m kind sender)) ≡ given q) × (rowBits (m .fields) (m .row q) ≡ rowBits (m .fields) (m .row r))
+        → (q : R) × (readAs m (payloadIn (writtenAs m sender r buf) (frameWritten m sender)) ≡ given q) × (rowBits (m .fields) (m .row q) ≡ rowBits (m .fields) (m .row r))
     unfolding bytes
     reads-through h =
         let back = reads-back m r bytes h (payload-given m r (written-when g .0)) in
@@ -99,23 +99,23 @@ module _ {R : Type 0} (m : Message R) (kind sender : ℕ) (r : R) (buf : List �
 
     -- the very record, where it is such as reading makes
     pub reads-through-same : HeldRow (m .fields) (m .row r) → SettledRow (m .fields) (m .row r)
-        → readAs m (payloadIn (writtenAs m kind sender r buf) (frameWritten m kind sender)) ≡ given r
+        → readAs m (payloadIn (writtenAs m sender r buf) (frameWritten m sender)) ≡ given r
     unfolding bytes
     reads-through-same h e = ap (readAs m) payload-through ∙ reads-same m r bytes h (payload-given m r (written-when g .0)) e
 
 -- an accepted payload written again gives a frame of the same bytes
-pub writes-through : {R : Type 0} (m : Message R) (kind sender : ℕ) (r : R) (buf s : List ℕ) → Bytes s → readAs m s ≡ given r
-    → writtenAs m kind sender r buf ≡ framed kind sender s buf
+pub writes-through : {R : Type 0} (m : Message R) (sender : ℕ) (r : R) (buf s : List ℕ) → Bytes s → readAs m s ≡ given r
+    → writtenAs m sender r buf ≡ framed (m .kind) sender s buf
 unfolding writtenAs
-writes-through m kind sender r buf s h g = let w = written m r s (writes-back m s r h g) in rw (w .0) (ap (λ (b : List ℕ). framed kind sender b buf) (sym (w .1)))
+writes-through m sender r buf s h g = let w = written m r s (writes-back m s r h g) in rw (w .0) (ap (λ (b : List ℕ). framed (m .kind) sender b buf) (sym (w .1)))
 
 -- what every message keeps, once its type number has 16 bits
-pub faithful : {R : Type 0} (m : Message R) (kind : ℕ) → kind < 65536 → Faithful m kind
-faithful m kind k = record {
-  found = λ sender r buf s g. found-through m kind sender r buf k s g;
-  back = λ sender r buf s g h. reads-through m kind sender r buf k s g h;
-  same = λ sender r buf s g h e. reads-through-same m kind sender r buf k s g h e;
-  again = λ sender r buf s h g. writes-through m kind sender r buf s h g;
+pub faithful : {R : Type 0} (m : Message R) → m .kind < 65536 → Faithful m
+faithful m k = record {
+  found = λ sender r buf s g. found-through m sender r buf k s g;
+  back = λ sender r buf s g h. reads-through m sender r buf k s g h;
+  same = λ sender r buf s g h e. reads-through-same m sender r buf k s g h e;
+  again = λ sender r buf s h g. writes-through m sender r buf s h g;
   refused-22 = exactly-22 m;
   refused-23 = exactly-23 m;
 }

@@ -19,25 +19,25 @@ unfoldable pub writeAnswer : {R : Type 0} → Message R → R → ℕ → Answer
 writeAnswer m r room = cond (allowedRow (m .fields) (m .row r)) (planned (size (m .fields)) room) (refused 23)
 
 -- the buffer after it: the frame and the bytes after it as they were, or all as it was
-unfoldable pub writtenAs : {R : Type 0} → Message R → ℕ → ℕ → R → List ℕ → List ℕ
-writtenAs m kind sender r buf = cond (allowedRow (m .fields) (m .row r)) (framed kind sender (encode (m .fields) (m .row r)) buf) buf
+unfoldable pub writtenAs : {R : Type 0} → Message R → ℕ → R → List ℕ → List ℕ
+writtenAs m sender r buf = cond (allowedRow (m .fields) (m .row r)) (framed (m .kind) sender (encode (m .fields) (m .row r)) buf) buf
 
 -- the frame of a message at the start of a buffer
-abbrev pub frameWritten : {R : Type 0} → Message R → ℕ → ℕ → Frame
-frameWritten m kind sender = record { at = 0; kind = kind; sender = sender; length = size (m .fields) }
+abbrev pub frameWritten : {R : Type 0} → Message R → ℕ → Frame
+frameWritten m sender = record { at = 0; kind = m .kind; sender = sender; length = size (m .fields) }
 
--- what is promised of every message under its type number
-pub record Faithful {R : Type 0} (m : Message R) (kind : ℕ) : Type 0 where
+-- what is promised of every message
+pub record Faithful {R : Type 0} (m : Message R) : Type 0 where
   -- a record written is found as its frame, whose payload gives the record back bit for bit
   pub found : (sender : ℕ) (r : R) (buf : List ℕ) {n : ℕ} → sender < 65536 → writeAnswer m r (length buf) ≡ given n
-      → stepAt (writtenAs m kind sender r buf) 0 ≡ Found (frameWritten m kind sender)
+      → stepAt (writtenAs m sender r buf) 0 ≡ Found (frameWritten m sender)
   pub back : (sender : ℕ) (r : R) (buf : List ℕ) {n : ℕ} → sender < 65536 → writeAnswer m r (length buf) ≡ given n → HeldRow (m .fields) (m .row r)
-      → (q : R) × (readAs m (payloadIn (writtenAs m kind sender r buf) (frameWritten m kind sender)) ≡ given q) × (rowBits (m .fields) (m .row q) ≡ rowBits (m .fields) (m .row r))
+      → (q : R) × (readAs m (payloadIn (writtenAs m sender r buf) (frameWritten m sender)) ≡ given q) × (rowBits (m .fields) (m .row q) ≡ rowBits (m .fields) (m .row r))
   -- the very record, where it is such as reading makes
   pub same : (sender : ℕ) (r : R) (buf : List ℕ) {n : ℕ} → sender < 65536 → writeAnswer m r (length buf) ≡ given n → HeldRow (m .fields) (m .row r)
-      → SettledRow (m .fields) (m .row r) → readAs m (payloadIn (writtenAs m kind sender r buf) (frameWritten m kind sender)) ≡ given r
+      → SettledRow (m .fields) (m .row r) → readAs m (payloadIn (writtenAs m sender r buf) (frameWritten m sender)) ≡ given r
   -- an accepted payload written again gives a frame of the same bytes
-  pub again : (sender : ℕ) (r : R) (buf s : List ℕ) → Bytes s → readAs m s ≡ given r → writtenAs m kind sender r buf ≡ framed kind sender s buf
+  pub again : (sender : ℕ) (r : R) (buf s : List ℕ) → Bytes s → readAs m s ≡ given r → writtenAs m sender r buf ≡ framed (m .kind) sender s buf
   -- a payload is refused exactly when one of its cases holds, by the first
   pub refused-22 : (s : List ℕ) → (readAs m s ≡ refused 22) ↔ (length s ≡ size (m .fields) → ⊥)
   pub refused-23 : (s : List ℕ) → (readAs m s ≡ refused 23) ↔ ((length s ≡ size (m .fields)) × (allowedRow (m .fields) (decode (m .fields) s 0) ≡ false))

@@ -1,4 +1,4 @@
--- What is promised of each message, under its type number: the law of frames/proofs/Messages.antt, cited. Assumes nothing.
+-- What is promised of each message: the law of frames/proofs/Messages.antt, cited. Assumes nothing.
 use lib.Dec.{lit<}
 use Rattle.frames.specs.Message.{Faithful}
 use Rattle.frames.proofs.Messages.{faithful}
@@ -10,29 +10,29 @@ use Rattle.navigation.specs.Ecef.{baselineEcef, velEcef}
 use Rattle.navigation.specs.Ned.{baselineNed, velNed}
 use Rattle.navigation.specs.Heading.{baselineHeading}
 
-pub gps-time : Faithful gpsTime 0x0100
-gps-time = faithful gpsTime 0x0100 (lit< tt)
+pub gps-time : Faithful gpsTime
+gps-time = faithful gpsTime (lit< tt)
 
-pub dilutions : Faithful dops 0x0206
-dilutions = faithful dops 0x0206 (lit< tt)
+pub dilutions : Faithful dops
+dilutions = faithful dops (lit< tt)
 
-pub pos-ecef : Faithful posEcef 0x0200
-pos-ecef = faithful posEcef 0x0200 (lit< tt)
+pub pos-ecef : Faithful posEcef
+pos-ecef = faithful posEcef (lit< tt)
 
-pub pos-llh : Faithful posLlh 0x0201
-pos-llh = faithful posLlh 0x0201 (lit< tt)
+pub pos-llh : Faithful posLlh
+pos-llh = faithful posLlh (lit< tt)
 
-pub baseline-ecef : Faithful baselineEcef 0x0202
-baseline-ecef = faithful baselineEcef 0x0202 (lit< tt)
+pub baseline-ecef : Faithful baselineEcef
+baseline-ecef = faithful baselineEcef (lit< tt)
 
-pub vel-ecef : Faithful velEcef 0x0204
-vel-ecef = faithful velEcef 0x0204 (lit< tt)
+pub vel-ecef : Faithful velEcef
+vel-ecef = faithful velEcef (lit< tt)
 
-pub baseline-ned : Faithful baselineNed 0x0203
-baseline-ned = faithful baselineNed 0x0203 (lit< tt)
+pub baseline-ned : Faithful baselineNed
+baseline-ned = faithful baselineNed (lit< tt)
 
-pub vel-ned : Faithful velNed 0x0205
-vel-ned = faithful velNed 0x0205 (lit< tt)
+pub vel-ned : Faithful velNed
+vel-ned = faithful velNed (lit< tt)
 
-pub baseline-heading : Faithful baselineHeading 0x0207
-baseline-heading = faithful baselineHeading 0x0207 (lit< tt)
+pub baseline-heading : Faithful baselineHeading
+baseline-heading = faithful baselineHeading (lit< tt)

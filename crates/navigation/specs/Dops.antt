@@ -9,6 +9,7 @@ use Rattle.navigation.specs.declared.dops.DopsRead.the-variants.{Record,
 
 abbrev pub dops : Message Dops
 dops = record {
+  kind = 0x0206;
   fields = any u32 ∷ any u16 ∷ any u16 ∷ any u16 ∷ any u16 ∷ any u16 ∷ [];
   row = λ r. (r .tow, (r .gdop, (r .pdop, (r .tdop, (r .hdop, (r .vdop, tt))))));
   make = λ v. record { tow = v .0; gdop = v .1 .0; pdop = v .1 .1 .0; tdop = v .1 .1 .1 .0; hdop = v .1 .1 .1 .1 .0; vdop = v .1 .1 .1 .1 .1 .0 };

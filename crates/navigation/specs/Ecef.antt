@@ -11,6 +11,7 @@ use Rattle.navigation.specs.declared.ecef.EcefVectorRead.the-variants.{R
 
 abbrev pub baselineEcef : Message EcefVector
 baselineEcef = record {
+  kind = 0x0202;
   fields = any u32 ∷ any s32 ∷ any s32 ∷ any s32 ∷ any u16 ∷ any u8 ∷ ranged w8 (fixUpTo 1) ∷ [];
   row = λ r. (r .tow, (r .x, (r .y, (r .z, (r .accuracy, (r .«n_sats», (r .flags, tt)))))));
   make = λ v. record { tow = v .0; x = v .1 .0; y = v .1 .1 .0; z = v .1 .1 .1 .0; accuracy = v .1 .1 .1 .1 .0; «n_sats» = v .1 .1 .1 .1 .1 .0; flags = v .1 .1 .1 .1 .1 .1 .0 };
@@ -20,6 +21,7 @@ baselineEcef = record {
 
 abbrev pub velEcef : Message EcefVector
 velEcef = record {
+  kind = 0x0204;
   fields = any u32 ∷ any s32 ∷ any s32 ∷ any s32 ∷ any u16 ∷ any u8 ∷ any u8 ∷ [];
   row = λ r. (r .tow, (r .x, (r .y, (r .z, (r .accuracy, (r .«n_sats», (r .flags, tt)))))));
   make = λ v. record { tow = v .0; x = v .1 .0; y = v .1 .1 .0; z = v .1 .1 .1 .0; accuracy = v .1 .1 .1 .1 .0; «n_sats» = v .1 .1 .1 .1 .1 .0; flags = v .1 .1 .1 .1 .1 .1 .0 };

@@ -11,6 +11,7 @@ use Rattle.navigation.specs.declared.gps_time.GpsTimeRead.the-variants.{
 
 abbrev pub gpsTime : Message GpsTime
 gpsTime = record {
+  kind = 0x0100;
   fields = any u16 ∷ any u32 ∷ rangedSigned w32 inNs ∷ any u8 ∷ [];
   row = λ r. (r .wn, (r .tow, (r .ns, (r .flags, tt))));
   make = λ v. record { wn = v .0; tow = v .1 .0; ns = v .1 .1 .0; flags = v .1 .1 .1 .0 };

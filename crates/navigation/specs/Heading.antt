@@ -11,6 +11,7 @@ use Rattle.navigation.specs.declared.heading.BaselineHeadingRead.the-var
 
 abbrev pub baselineHeading : Message BaselineHeading
 baselineHeading = record {
+  kind = 0x0207;
   fields = any u32 ∷ any u32 ∷ any u8 ∷ ranged w8 (fixUpTo 1) ∷ [];
   row = λ r. (r .tow, (r .heading, (r .«n_sats», (r .flags, tt))));
   make = λ v. record { tow = v .0; heading = v .1 .0; «n_sats» = v .1 .1 .0; flags = v .1 .1 .1 .0 };

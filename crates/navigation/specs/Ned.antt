@@ -11,6 +11,7 @@ use Rattle.navigation.specs.declared.ned.NedVectorRead.the-variants.{Rec
 
 abbrev pub baselineNed : Message NedVector
 baselineNed = record {
+  kind = 0x0203;
   fields = any u32 ∷ any s32 ∷ any s32 ∷ any s32 ∷ any u16 ∷ any u16 ∷ any u8 ∷ ranged w8 (fixUpTo 1) ∷ [];
   row = λ r. (r .tow, (r .n, (r .e, (r .d, (r .«h_accuracy», (r .«v_accuracy», (r .«n_sats», (r .flags, tt))))))));
   make = λ v. record { tow = v .0; n = v .1 .0; e = v .1 .1 .0; d = v .1 .1 .1 .0; «h_accuracy» = v .1 .1 .1 .1 .0; «v_accuracy» = v .1 .1 .1 .1 .1 .0; «n_sats» = v .1 .1 .1 .1 .1 .1 .0; flags = v .1 .1 .1 .1 .1 .1 .1 .0 };
@@ -20,6 +21,7 @@ baselineNed = record {
 
 abbrev pub velNed : Message NedVector
 velNed = record {
+  kind = 0x0205;
   fields = any u32 ∷ any s32 ∷ any s32 ∷ any s32 ∷ any u16 ∷ any u16 ∷ any u8 ∷ any u8 ∷ [];
   row = λ r. (r .tow, (r .n, (r .e, (r .d, (r .«h_accuracy», (r .«v_accuracy», (r .«n_sats», (r .flags, tt))))))));
   make = λ v. record { tow = v .0; n = v .1 .0; e = v .1 .1 .0; d = v .1 .1 .1 .0; «h_accuracy» = v .1 .1 .1 .1 .0; «v_accuracy» = v .1 .1 .1 .1 .1 .0; «n_sats» = v .1 .1 .1 .1 .1 .1 .0; flags = v .1 .1 .1 .1 .1 .1 .1 .0 };

@@ -11,6 +11,7 @@ use Rattle.navigation.specs.declared.pos_ecef.PosEcefRead.the-variants.{
 
 abbrev pub posEcef : Message PosEcef
 posEcef = record {
+  kind = 0x0200;
   fields = any u32 ∷ any double ∷ any double ∷ any double ∷ any u16 ∷ any u8 ∷ ranged w8 (fixUpTo 2) ∷ [];
   row = λ r. (r .tow, (r .x, (r .y, (r .z, (r .accuracy, (r .«n_sats», (r .flags, tt)))))));
   make = λ v. record { tow = v .0; x = v .1 .0; y = v .1 .1 .0; z = v .1 .1 .1 .0; accuracy = v .1 .1 .1 .1 .0; «n_sats» = v .1 .1 .1 .1 .1 .0; flags = v .1 .1 .1 .1 .1 .1 .0 };

@@ -58,7 +58,7 @@ pub fn read_dops(s: &[u8]) -> DopsRead
 
 pub fn write_dops(buf: &mut [u8], sender: Sender, r: Dops) -> Written
     ensures { λ w. ⌜ writtenAnswer w ≡ writeAnswer dops r (length (now (buf .entry))) ⌝ }
-    ensures { λ _. ⌜ now (buf .exit) ≡ writtenAs dops 0x0206 (senderOf sender) r (now (buf .entry)) ⌝ }
+    ensures { λ _. ⌜ now (buf .exit) ≡ writtenAs dops (senderOf sender) r (now (buf .entry)) ⌝ }
 {
     let answer = frames::plan(14, buf.len());
     if let Written::Bytes(_) = answer {

@@ -72,7 +72,7 @@ pub fn read_baseline_ecef(s: &[u8]) -> EcefVectorRead
 
 pub fn write_baseline_ecef(buf: &mut [u8], sender: Sender, r: EcefVector) -> Written
     ensures { λ w. ⌜ writtenAnswer w ≡ writeAnswer baselineEcef r (length (now (buf .entry))) ⌝ }
-    ensures { λ _. ⌜ now (buf .exit) ≡ writtenAs baselineEcef 0x0202 (senderOf sender) r (now (buf .entry)) ⌝ }
+    ensures { λ _. ⌜ now (buf .exit) ≡ writtenAs baselineEcef (senderOf sender) r (now (buf .entry)) ⌝ }
 {
     if allowed(r) {
         let answer = frames::plan(20, buf.len());
@@ -96,7 +96,7 @@ pub fn read_vel_ecef(s: &[u8]) -> EcefVectorRead
 
 pub fn write_vel_ecef(buf: &mut [u8], sender: Sender, r: EcefVector) -> Written
     ensures { λ w. ⌜ writtenAnswer w ≡ writeAnswer velEcef r (length (now (buf .entry))) ⌝ }
-    ensures { λ _. ⌜ now (buf .exit) ≡ writtenAs velEcef 0x0204 (senderOf sender) r (now (buf .entry)) ⌝ }
+    ensures { λ _. ⌜ now (buf .exit) ≡ writtenAs velEcef (senderOf sender) r (now (buf .entry)) ⌝ }
 {
     let answer = frames::plan(20, buf.len());
     if let Written::Bytes(_) = answer {

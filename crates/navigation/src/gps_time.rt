@@ -63,7 +63,7 @@ pub fn read_gps_time(s: &[u8]) -> GpsTimeRead
 
 pub fn write_gps_time(buf: &mut [u8], sender: Sender, r: GpsTime) -> Written
     ensures { λ w. ⌜ writtenAnswer w ≡ writeAnswer gpsTime r (length (now (buf .entry))) ⌝ }
-    ensures { λ _. ⌜ now (buf .exit) ≡ writtenAs gpsTime 0x0100 (senderOf sender) r (now (buf .entry)) ⌝ }
+    ensures { λ _. ⌜ now (buf .exit) ≡ writtenAs gpsTime (senderOf sender) r (now (buf .entry)) ⌝ }
 {
     if allowed(r) {
         let answer = frames::plan(11, buf.len());

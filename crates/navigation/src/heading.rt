@@ -63,7 +63,7 @@ pub fn read_baseline_heading(s: &[u8]) -> BaselineHeadingRead
 
 pub fn write_baseline_heading(buf: &mut [u8], sender: Sender, r: BaselineHeading) -> Written
     ensures { λ w. ⌜ writtenAnswer w ≡ writeAnswer baselineHeading r (length (now (buf .entry))) ⌝ }
-    ensures { λ _. ⌜ now (buf .exit) ≡ writtenAs baselineHeading 0x0207 (senderOf sender) r (now (buf .entry)) ⌝ }
+    ensures { λ _. ⌜ now (buf .exit) ≡ writtenAs baselineHeading (senderOf sender) r (now (buf .entry)) ⌝ }
 {
     if allowed(r) {
         let answer = frames::plan(10, buf.len());

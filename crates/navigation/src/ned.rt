@@ -75,7 +75,7 @@ pub fn read_baseline_ned(s: &[u8]) -> NedVectorRead
 
 pub fn write_baseline_ned(buf: &mut [u8], sender: Sender, r: NedVector) -> Written
     ensures { λ w. ⌜ writtenAnswer w ≡ writeAnswer baselineNed r (length (now (buf .entry))) ⌝ }
-    ensures { λ _. ⌜ now (buf .exit) ≡ writtenAs baselineNed 0x0203 (senderOf sender) r (now (buf .entry)) ⌝ }
+    ensures { λ _. ⌜ now (buf .exit) ≡ writtenAs baselineNed (senderOf sender) r (now (buf .entry)) ⌝ }
 {
     if allowed(r) {
         let answer = frames::plan(22, buf.len());
@@ -99,7 +99,7 @@ pub fn read_vel_ned(s: &[u8]) -> NedVectorRead
 
 pub fn write_vel_ned(buf: &mut [u8], sender: Sender, r: NedVector) -> Written
     ensures { λ w. ⌜ writtenAnswer w ≡ writeAnswer velNed r (length (now (buf .entry))) ⌝ }
-    ensures { λ _. ⌜ now (buf .exit) ≡ writtenAs velNed 0x0205 (senderOf sender) r (now (buf .entry)) ⌝ }
+    ensures { λ _. ⌜ now (buf .exit) ≡ writtenAs velNed (senderOf sender) r (now (buf .entry)) ⌝ }
 {
     let answer = frames::plan(22, buf.len());
     if let Written::Bytes(_) = answer {

@@ -73,7 +73,7 @@ pub fn read_pos_ecef(s: &[u8]) -> PosEcefRead
 
 pub fn write_pos_ecef(buf: &mut [u8], sender: Sender, r: PosEcef) -> Written
     ensures { λ w. ⌜ writtenAnswer w ≡ writeAnswer posEcef r (length (now (buf .entry))) ⌝ }
-    ensures { λ _. ⌜ now (buf .exit) ≡ writtenAs posEcef 0x0200 (senderOf sender) r (now (buf .entry)) ⌝ }
+    ensures { λ _. ⌜ now (buf .exit) ≡ writtenAs posEcef (senderOf sender) r (now (buf .entry)) ⌝ }
 {
     if allowed(r) {
         let answer = frames::plan(32, buf.len());

@@ -76,7 +76,7 @@ pub fn read_pos_llh(s: &[u8]) -> PosLlhRead
 
 pub fn write_pos_llh(buf: &mut [u8], sender: Sender, r: PosLlh) -> Written
     ensures { λ w. ⌜ writtenAnswer w ≡ writeAnswer posLlh r (length (now (buf .entry))) ⌝ }
-    ensures { λ _. ⌜ now (buf .exit) ≡ writtenAs posLlh 0x0201 (senderOf sender) r (now (buf .entry)) ⌝ }
+    ensures { λ _. ⌜ now (buf .exit) ≡ writtenAs posLlh (senderOf sender) r (now (buf .entry)) ⌝ }
 {
     if allowed(r) {
         let answer = frames::plan(34, buf.len());

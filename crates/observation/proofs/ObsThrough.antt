@@ -11,6 +11,7 @@ use Rattle.frames.specs.Step.{stepAt, payloadIn}
 use Rattle.frames.specs.declared.step.Frame.{Frame}
 use Rattle.frames.specs.declared.step.Step.the-variants.{Found}
 use Rattle.frames.proofs.WrittenRead.{framed-reads-back, framed-payload-back}
+use Rattle.observation.specs.Layout.{first}
 use Rattle.observation.specs.Obs.{head, observation, readObs, readEntry}
 use Rattle.observation.specs.ObsWriter.{headOf, payloadFor, obsWriteAnswer, obsWritten}
 use Rattle.observation.specs.declared.entry.Observation.{Observation}
@@ -21,19 +22,19 @@ module _ (sender : ℕ) (o : Obs) (entries : List Observation) (buf : List ℕ) 
     (g : obsWriteAnswer o (length buf) ≡ given n) (s : sender < 65536) where
   -- the frame at the buffer's start
   abbrev pub obsFrame : Frame
-  obsFrame = record { at = 0; kind = 0x0049; sender = sender; length = length (payloadFor o entries) }
+  obsFrame = record { at = 0; kind = first .kind; sender = sender; length = length (payloadFor o entries) }
 
   pub obs-found : stepAt (obsWritten sender o entries buf) 0 ≡ Found obsFrame
   obs-found =
       let room = obs-fits sender o entries buf enough g in
       ap (λ (t : List ℕ). stepAt t 0) (obs-framed sender o entries buf enough g)
-      ∙ framed-reads-back 0x0049 sender (payloadFor o entries) buf (lit< tt) s (room .0) (room .1)
+      ∙ framed-reads-back (first .kind) sender (payloadFor o entries) buf (lit< tt) s (room .0) (room .1)
 
   payload-back : payloadIn (obsWritten sender o entries buf) obsFrame ≡ payloadFor o entries
   payload-back =
       let room = obs-fits sender o entries buf enough g in
       ap (λ (t : List ℕ). payloadIn t obsFrame) (obs-framed sender o entries buf enough g)
-      ∙ framed-payload-back 0x0049 sender (payloadFor o entries) buf (lit< tt) s (room .0) (room .1)
+      ∙ framed-payload-back (first .kind) sender (payloadFor o entries) buf (lit< tt) s (room .0) (room .1)
 
   -- its payload gives the header and the count, and each observation
   pub obs-back : HeldRow (head .fields) (head .row (headOf o)) → readObs (payloadIn (obsWritten sender o entries buf) obsFrame) ≡ given o

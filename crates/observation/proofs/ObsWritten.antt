@@ -17,6 +17,7 @@ use Rattle.wire.proofs.Fields.{length-encode, row-sets}
 use Rattle.frames.specs.Writer.{planned, sealed, framed}
 use Rattle.frames.proofs.WrittenPlan as plans
 use Rattle.frames.proofs.Written.{writes, framed-unfit}
+use Rattle.observation.specs.Layout.{first}
 use Rattle.observation.specs.Obs.{head, observation, readEntry, readObs, entriesBytes, obsPayload}
 use Rattle.observation.specs.ObsWriter.{headOf, payloadFor, obsWriteAnswer, obsWritten}
 use Rattle.observation.specs.declared.entry.Observation.{Observation}
@@ -84,7 +85,7 @@ module _ (sender : ℕ) (o : Obs) (entries : List Observation) (buf : List ℕ) 
   unfolding obsWritten
   wrote-31 many = (sym (answer-31 o (length buf) many), rw (lt-leb (o .count) 15 many))
 
-  frame-written : o .count ≤ 15 → obsWritten sender o entries buf ≡ framed 0x0049 sender (payloadFor o entries) buf
+  frame-written : o .count ≤ 15 → obsWritten sender o entries buf ≡ framed (first .kind) sender (payloadFor o entries) buf
   unfolding obsWritten
   frame-written few = rw (le-leb (o .count) 15 few)
 
@@ -107,21 +108,21 @@ module _ (sender : ℕ) (o : Obs) (entries : List Observation) (buf : List ℕ) 
 
     -- the frame has no room: nothing is written
     pub wrote-nothing : {n : ℕ} → planned (sizeFor o) (length buf) ≡ refused n → Wrote a buf
-    wrote-nothing q = (answers, sym (frame-written few ∙ framed-unfit 0x0049 sender (payloadFor o entries) buf (as-planned q)))
+    wrote-nothing q = (answers, sym (frame-written few ∙ framed-unfit (first .kind) sender (payloadFor o entries) buf (as-planned q)))
 
     -- the header and the observations stored, then sealed
     pub wrote : {n : ℕ} {s t u : List ℕ} → planned (sizeFor o) (length buf) ≡ given n → s ≡ rowStored (head .fields) (head .row (headOf o)) buf 6
-        → t ≡ sets s 13 (entriesBytes (take (o .count) entries)) → u ≡ sealed 0x0049 sender (sizeFor o) t → Wrote a u
+        → t ≡ sets s 13 (entriesBytes (take (o .count) entries)) → u ≡ sealed (first .kind) sender (sizeFor o) t → Wrote a u
     wrote {t = t} g p q r =
         let room = plans.fits (sizeFor o) (length buf) g in
-        let closed = r ∙ ap (λ (n : ℕ). sealed 0x0049 sender n t) (sym (length-written o entries enough)) in
-        (answers, writes 0x0049 sender (payloadFor o entries) buf (as-planned g) (stored-payload (omega arith) p q) closed ∙ sym (frame-written few))
+        let closed = r ∙ ap (λ (n : ℕ). sealed (first .kind) sender n t) (sym (length-written o entries enough)) in
+        (answers, writes (first .kind) sender (payloadFor o entries) buf (as-planned g) (stored-payload (omega arith) p q) closed ∙ sym (frame-written few))
 
 -- ---- through the frame
 
 module _ (sender : ℕ) (o : Obs) (entries : List Observation) (buf : List ℕ) (enough : o .count ≤ length entries) {n : ℕ} (g : obsWriteAnswer o (length buf) ≡ given n) where
   -- the buffer begins with the payload's frame, for which there is room
-  pub obs-framed : obsWritten sender o entries buf ≡ framed 0x0049 sender (payloadFor o entries) buf
+  pub obs-framed : obsWritten sender o entries buf ≡ framed (first .kind) sender (payloadFor o entries) buf
   obs-framed = frame-written sender o entries buf (written-when o (length buf) g .0)
 
   pub obs-fits : (length (payloadFor o entries) ≤ 255) × (length (payloadFor o entries) + 8 ≤ length buf)

@@ -9,6 +9,7 @@ use Rattle.observation.specs.declared.base_pos_ecef.BasePosEcefRead.the-
 
 abbrev pub basePosEcef : Message BasePosEcef
 basePosEcef = record {
+  kind = 0x0048;
   fields = any double ∷ any double ∷ any double ∷ [];
   row = λ r. (r .x, (r .y, (r .z, tt)));
   make = λ v. record { x = v .0; y = v .1 .0; z = v .1 .1 .0 };

@@ -9,6 +9,7 @@ use Rattle.observation.specs.declared.base_pos_llh.BasePosLlhRead.the-va
 
 abbrev pub basePosLlh : Message BasePosLlh
 basePosLlh = record {
+  kind = 0x0044;
   fields = any double ∷ any double ∷ any double ∷ [];
   row = λ r. (r .lat, (r .lon, (r .height, tt)));
   make = λ v. record { lat = v .0; lon = v .1 .0; height = v .1 .1 .0 };

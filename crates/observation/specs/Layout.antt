@@ -1,16 +1,17 @@
--- Which payload lengths an edition of OBS has: a header, then k observations of one size, up to a most. Assumes nothing.
+-- An edition of OBS: its type, and which lengths its payloads have: a header, then k observations of one size, up to a most. Assumes nothing.
 use Prim.Native.Nat.{ℕ, _+_, _-_, _*_, _/_, _%_}
 use mathlib.Core.Bool.{Bool, _&&_}
 use lib.Dec.{leb, eqb}
 
 pub record Layout : Type 0 where
+  pub kind : ℕ
   pub head : ℕ
   pub each : ℕ
   pub most : ℕ
 
--- 0x0049: 16k + 7, k 0..15
+-- 16k + 7, k 0..15
 abbrev pub first : Layout
-first = record { head = 7; each = 16; most = 15 }
+first = record { kind = 0x0049; head = 7; each = 16; most = 15 }
 
 -- n is a length of the edition
 abbrev pub fitting : Layout → ℕ → Bool

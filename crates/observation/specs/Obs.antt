@@ -24,6 +24,7 @@ pub record Head : Type 0 where
 
 abbrev pub head : Message Head
 head = record {
+  kind = first .kind;
   fields = any u32 ∷ any u16 ∷ any u8 ∷ [];
   row = λ r. (r .tow, (r .wn, (r .nObs, tt)));
   make = λ v. record { tow = v .0; wn = v .1 .0; nObs = v .1 .1 .0 };
@@ -35,6 +36,7 @@ head = record {
 
 abbrev pub observation : Message Observation
 observation = record {
+  kind = first .kind;
   fields = any u32 ∷ any s32 ∷ any u8 ∷ any u8 ∷ any u16 ∷ any u16 ∷ any u8 ∷ any u8 ∷ [];
   row = λ r. (r .p, (r .«l_i», (r .«l_f», (r .cn0, (r .lock, (r .sat, (r .code, (r .reserved, tt))))))));
   make = λ v.
@@ -45,7 +47,7 @@ observation = record {
 
 -- observation i of a payload
 abbrev pub entryAt : List ℕ → ℕ → Observation
-entryAt s i = observation .make (decode (observation .fields) (take 16 (drop (startOf first i) s)) 0)
+entryAt s i = observation .make (decode (observation .fields) (take (first .each) (drop (startOf first i) s)) 0)
 
 -- 22 for the payload's length, then 25 for an index at or past k
 unfoldable pub readEntry : List ℕ → ℕ → Answer Observation

@@ -6,6 +6,7 @@ use lib.Dec.{leb}
 use lib.ListN.{take}
 use Rattle.wire.specs.Message.{Answer, refused}
 use Rattle.frames.specs.Writer.{planned, framed}
+use Rattle.observation.specs.Layout.{first}
 use Rattle.observation.specs.Obs.{Head, obsPayload}
 use Rattle.observation.specs.declared.entry.Observation.{Observation}
 use Rattle.observation.specs.declared.obs.Obs.{Obs}
@@ -22,4 +23,4 @@ unfoldable pub obsWriteAnswer : Obs → ℕ → Answer ℕ
 obsWriteAnswer o room = cond (leb (o .count) 15) (planned (7 + o .count * 16) room) (refused 31)
 
 unfoldable pub obsWritten : ℕ → Obs → List Observation → List ℕ → List ℕ
-obsWritten sender o entries buf = cond (leb (o .count) 15) (framed 0x0049 sender (payloadFor o entries) buf) buf
+obsWritten sender o entries buf = cond (leb (o .count) 15) (framed (first .kind) sender (payloadFor o entries) buf) buf

@@ -50,7 +50,7 @@ pub fn read_base_pos_ecef(s: &[u8]) -> BasePosEcefRead
 
 pub fn write_base_pos_ecef(buf: &mut [u8], sender: Sender, r: BasePosEcef) -> Written
     ensures { λ w. ⌜ writtenAnswer w ≡ writeAnswer basePosEcef r (length (now (buf .entry))) ⌝ }
-    ensures { λ _. ⌜ now (buf .exit) ≡ writtenAs basePosEcef 0x0048 (senderOf sender) r (now (buf .entry)) ⌝ }
+    ensures { λ _. ⌜ now (buf .exit) ≡ writtenAs basePosEcef (senderOf sender) r (now (buf .entry)) ⌝ }
 {
     let answer = frames::plan(24, buf.len());
     if let Written::Bytes(_) = answer {

@@ -50,7 +50,7 @@ pub fn read_base_pos_llh(s: &[u8]) -> BasePosLlhRead
 
 pub fn write_base_pos_llh(buf: &mut [u8], sender: Sender, r: BasePosLlh) -> Written
     ensures { λ w. ⌜ writtenAnswer w ≡ writeAnswer basePosLlh r (length (now (buf .entry))) ⌝ }
-    ensures { λ _. ⌜ now (buf .exit) ≡ writtenAs basePosLlh 0x0044 (senderOf sender) r (now (buf .entry)) ⌝ }
+    ensures { λ _. ⌜ now (buf .exit) ≡ writtenAs basePosLlh (senderOf sender) r (now (buf .entry)) ⌝ }
 {
     let answer = frames::plan(24, buf.len());
     if let Written::Bytes(_) = answer {

@@ -15,8 +15,12 @@ as-met answer p q = sym (ap answer q) ∙ p
 pub under-name : {R E : Type 0} (name : R → Message) (answer : E → Answer R) {e x : E} {a : Answer R} → answer e ≡ a → e ≡ x → named name (answer x) ≡ named name a
 under-name name answer p q = ap (named name) (as-met answer p q)
 
-pub at-kind : (s : List ℕ) {k kind : ℕ} {a : Answer Message} → a ≡ readFor k s → kind ≡ k → a ≡ readFor kind s
-at-kind s p q = p ∙ sym (ap (λ (k : ℕ). readFor k s) q)
+-- payloads of a type read as one reader reads them
+abbrev pub Typed : {R : Type 0} → ℕ → (R → Message) → (List ℕ → Answer R) → Type 0
+Typed kind name reads = (s : List ℕ) → readFor kind s ≡ named name (reads s)
+
+pub at-kind : (s : List ℕ) {k kind : ℕ} {a b : Answer Message} → readFor k s ≡ b → a ≡ b → kind ≡ k → a ≡ readFor kind s
+at-kind s typed p q = p ∙ sym typed ∙ sym (ap (λ (k : ℕ). readFor k s) q)
 
 -- no line has the type
 abbrev pub Absent : List Line → ℕ → Type 0

@@ -1,11 +1,13 @@
--- Document 01's table of payloads: what each type number reads as. Lengths, fields and ranges stand in the description of each message.
+-- Document 01's table of payloads: each type with its length, fields and ranges.
 -- Assumes nothing.
 use Prim.Native.Nat.{ℕ}
-use mathlib.Core.Bool.{cond}
+use mathlib.Core.Bool.{Bool, true, cond}
 use mathlib.Core.List.{List, [], _∷_}
 use lib.Dec.{eqb}
-use Rattle.wire.specs.Field.{size}
-use Rattle.wire.specs.Message.{Answer, given, refused, readAs}
+use lib.ListN.{length}
+use Rattle.wire.specs.Field.{decode}
+use Rattle.wire.specs.Message.{Answer, given, refused}
+use Rattle.wire.specs.Message as wire
 use Rattle.navigation.specs.Dops.{dops}
 use Rattle.navigation.specs.Ecef.{baselineEcef, velEcef}
 use Rattle.navigation.specs.GpsTime.{gpsTime}
@@ -13,12 +15,14 @@ use Rattle.navigation.specs.Heading.{baselineHeading}
 use Rattle.navigation.specs.Ned.{baselineNed, velNed}
 use Rattle.navigation.specs.PosEcef.{posEcef}
 use Rattle.navigation.specs.PosLlh.{posLlh}
+use Rattle.navigation.specs.Range.{inNs, fixUpTo}
 use Rattle.observation.specs.BasePosEcef.{basePosEcef}
 use Rattle.observation.specs.BasePosLlh.{basePosLlh}
-use Rattle.observation.specs.Obs.{readObs}
-use Rattle.system.specs.Empty.{nothing}
+use Rattle.observation.specs.Layout.{first, fitting}
+use Rattle.observation.specs.Obs.{obsIn}
+use Rattle.system.specs.Empty.{settingsSave, readByIndexDone}
 use Rattle.system.specs.Heartbeat.{heartbeat}
-use Rattle.system.specs.Log.{readLog}
+use Rattle.system.specs.Log.{logLength, logIn}
 use Rattle.system.specs.ReadByIndexReq.{readByIndexReq}
 use Rattle.system.specs.Startup.{startup}
 use Rattle.payloads.specs.declared.Message.{Message}
@@ -35,40 +39,59 @@ abbrev pub named : {R : Type 0} → (R → Message) → Answer R → Answer Mess
 named name (given r) = given (name r)
 named name (refused n) = refused n
 
--- a line of the table: a type, and the reading of its payloads
+-- a line of the table: a type, the lengths of its payloads, which of them have their fields in range, and the message that they hold
 pub record Line : Type 0 where
   pub kind : ℕ
-  pub reads : List ℕ → Answer Message
+  pub lengths : ℕ → Bool
+  pub ranges : List ℕ → Bool
+  pub holds : List ℕ → Message
 
-abbrev pub line : {R : Type 0} → ℕ → (R → Message) → (List ℕ → Answer R) → Line
-line kind name reading = record { kind = kind; reads = λ s. named name (reading s) }
+-- type, length, record, ranges, name
+abbrev pub line : {R : Type 0} → ℕ → (ℕ → Bool) → (List ℕ → R) → (R → Bool) → (R → Message) → Line
+line kind lengths record-in ranges name = record { kind = kind; lengths = lengths; ranges = λ s. ranges (record-in s); holds = λ s. name (record-in s) }
+
+abbrev pub exactly : ℕ → ℕ → Bool
+exactly n k = eqb k n
+
+-- the record in a payload, field after field
+abbrev pub inside : {R : Type 0} → wire.Message R → List ℕ → R
+inside m s = m .make (decode (m .fields) s 0)
+
+-- no range
+abbrev pub any : {R : Type 0} → R → Bool
+any r = true
 
 abbrev pub table : List Line
 table =
-    line 0x0100 (λ r. M.GpsTime r) (readAs gpsTime) ∷
-    line 0x0206 (λ r. M.Dops r) (readAs dops) ∷
-    line 0x0200 (λ r. M.PosEcef r) (readAs posEcef) ∷
-    line 0x0201 (λ r. M.PosLlh r) (readAs posLlh) ∷
-    line 0x0202 (λ r. M.BaselineEcef r) (readAs baselineEcef) ∷
-    line 0x0204 (λ r. M.VelEcef r) (readAs velEcef) ∷
-    line 0x0203 (λ r. M.BaselineNed r) (readAs baselineNed) ∷
-    line 0x0205 (λ r. M.VelNed r) (readAs velNed) ∷
-    line 0x0207 (λ r. M.BaselineHeading r) (readAs baselineHeading) ∷
-    line 0x0044 (λ r. M.BasePosLlh r) (readAs basePosLlh) ∷
-    line 0x0048 (λ r. M.BasePosEcef r) (readAs basePosEcef) ∷
-    line 0x0049 (λ r. M.Obs r) readObs ∷
-    line 0x0401 (λ r. M.Log r) readLog ∷
-    line 0x00a1 (λ r. M.SettingsSave) (readAs nothing) ∷
-    line 0x00a6 (λ r. M.ReadByIndexDone) (readAs nothing) ∷
-    line 0x00a2 (λ r. M.ReadByIndexReq r) (readAs readByIndexReq) ∷
-    line 0xff00 (λ r. M.Startup r) (readAs startup) ∷
-    line 0xffff (λ r. M.Heartbeat r) (readAs heartbeat) ∷
+    line 0x0100 (exactly 11) (inside gpsTime) (λ r. inNs (r .ns)) (λ r. M.GpsTime r) ∷
+    line 0x0206 (exactly 14) (inside dops) any (λ r. M.Dops r) ∷
+    line 0x0200 (exactly 32) (inside posEcef) (λ r. fixUpTo 2 (r .flags)) (λ r. M.PosEcef r) ∷
+    line 0x0201 (exactly 34) (inside posLlh) (λ r. fixUpTo 2 (r .flags)) (λ r. M.PosLlh r) ∷
+    line 0x0202 (exactly 20) (inside baselineEcef) (λ r. fixUpTo 1 (r .flags)) (λ r. M.BaselineEcef r) ∷
+    line 0x0204 (exactly 20) (inside velEcef) any (λ r. M.VelEcef r) ∷
+    line 0x0203 (exactly 22) (inside baselineNed) (λ r. fixUpTo 1 (r .flags)) (λ r. M.BaselineNed r) ∷
+    line 0x0205 (exactly 22) (inside velNed) any (λ r. M.VelNed r) ∷
+    line 0x0207 (exactly 10) (inside baselineHeading) (λ r. fixUpTo 1 (r .flags)) (λ r. M.BaselineHeading r) ∷
+    line 0x0044 (exactly 24) (inside basePosLlh) any (λ r. M.BasePosLlh r) ∷
+    line 0x0048 (exactly 24) (inside basePosEcef) any (λ r. M.BasePosEcef r) ∷
+    line 0x0049 (fitting first) obsIn any (λ r. M.Obs r) ∷
+    line 0x0401 logLength logIn any (λ r. M.Log r) ∷
+    line 0x00a1 (exactly 0) (inside settingsSave) any (λ r. M.SettingsSave) ∷
+    line 0x00a6 (exactly 0) (inside readByIndexDone) any (λ r. M.ReadByIndexDone) ∷
+    line 0x00a2 (exactly 2) (inside readByIndexReq) any (λ r. M.ReadByIndexReq r) ∷
+    line 0xff00 (exactly 4) (inside startup) any (λ r. M.Startup r) ∷
+    line 0xffff (exactly 4) (inside heartbeat) any (λ r. M.Heartbeat r) ∷
     []
 
--- the reading of the line with that type; 21 where there is none
+-- by a line: 22, then 23
+unfoldable pub readLine : Line → List ℕ → Answer Message
+readLine l s = cond (l .lengths (length s)) (cond (l .ranges s) (given (l .holds s)) (refused 23)) (refused 22)
+
+-- by the line with that type; 21 where there is none
 unfoldable pub lookUp : List Line → ℕ → List ℕ → Answer Message
+unfolding readLine
 lookUp [] kind s = refused 21
-lookUp (l ∷ ls) kind s = cond (eqb kind (l .kind)) (l .reads s) (lookUp ls kind s)
+lookUp (l ∷ ls) kind s = cond (eqb kind (l .kind)) (readLine l s) (lookUp ls kind s)
 
 abbrev pub readFor : ℕ → List ℕ → Answer Message
 readFor kind s = lookUp table kind s
@@ -80,10 +103,3 @@ numberOf (refused n) = n
 
 abbrev pub answerFor : ℕ → List ℕ → ℕ
 answerFor kind s = numberOf (readFor kind s)
-
--- the lengths of the messages that have one, in the table's order; OBS takes 16k + 7 and LOG 1 to 255
-abbrev pub lengthsOf : List ℕ
-lengthsOf =
-    size (gpsTime .fields) ∷ size (dops .fields) ∷ size (posEcef .fields) ∷ size (posLlh .fields) ∷ size (baselineEcef .fields) ∷ size (velEcef .fields)
-    ∷ size (baselineNed .fields) ∷ size (velNed .fields) ∷ size (baselineHeading .fields) ∷ size (basePosLlh .fields) ∷ size (basePosEcef .fields)
-    ∷ size (nothing .fields) ∷ size (nothing .fields) ∷ size (readByIndexReq .fields) ∷ size (startup .fields) ∷ size (heartbeat .fields) ∷ []

@@ -11,7 +11,7 @@ ghost use Rattle.navigation.specs.PosLlh.{posLlh};
 ghost use Rattle.observation.specs.BasePosEcef.{basePosEcef};
 ghost use Rattle.observation.specs.BasePosLlh.{basePosLlh};
 ghost use Rattle.observation.specs.Obs.{readObs};
-ghost use Rattle.system.specs.Empty.{nothing};
+ghost use Rattle.system.specs.Empty.{settingsSave, readByIndexDone};
 ghost use Rattle.system.specs.Heartbeat.{heartbeat};
 ghost use Rattle.system.specs.Log.{readLog};
 ghost use Rattle.system.specs.ReadByIndexReq.{readByIndexReq};
@@ -153,7 +153,7 @@ pub fn log(s: &[u8]) -> Reading
 }
 
 pub fn settings_save(s: &[u8]) -> Reading
-    ensures { λ r. ⌜ readingAnswer r ≡ named (λ x. Message.SettingsSave) (readAs nothing (now (s .entry))) ⌝ }
+    ensures { λ r. ⌜ readingAnswer r ≡ named (λ x. Message.SettingsSave) (readAs settingsSave (now (s .entry))) ⌝ }
 {
     match system::read_settings_save(s) {
         EmptyRead::Empty => Reading::Record(Message::SettingsSave),
@@ -162,7 +162,7 @@ pub fn settings_save(s: &[u8]) -> Reading
 }
 
 pub fn read_by_index_done(s: &[u8]) -> Reading
-    ensures { λ r. ⌜ readingAnswer r ≡ named (λ x. Message.ReadByIndexDone) (readAs nothing (now (s .entry))) ⌝ }
+    ensures { λ r. ⌜ readingAnswer r ≡ named (λ x. Message.ReadByIndexDone) (readAs readByIndexDone (now (s .entry))) ⌝ }
 {
     match system::read_read_by_index_done(s) {
         EmptyRead::Empty => Reading::Record(Message::ReadByIndexDone),

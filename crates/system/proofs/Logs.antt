@@ -20,7 +20,7 @@ use Rattle.frames.specs.declared.step.Frame.{Frame}
 use Rattle.frames.specs.declared.step.Step.the-variants.{Found}
 use Rattle.frames.proofs.WrittenPlan.{fits}
 use Rattle.frames.proofs.WrittenRead.{framed-reads-back, framed-payload-back}
-use Rattle.system.specs.Log.{readLog, logPayload, textIn}
+use Rattle.system.specs.Log.{logKind, readLog, logPayload, textIn}
 
 pub log-empty : (s : List ℕ) → length s < 1 → readLog s ≡ refused 22
 unfolding readLog
@@ -68,25 +68,25 @@ log-writes-back (b ∷ s) h = ap (λ (x : ℕ). x ∷ s) (sym (number-byte (b �
 module _ (sender level : ℕ) (text buf : List ℕ) {n : ℕ} (s : sender < 65536) (g : planned (length (logPayload level text)) (length buf) ≡ given n) where
   -- the frame at the buffer's start
   abbrev pub logFrame : Frame
-  logFrame = record { at = 0; kind = 0x0401; sender = sender; length = length (logPayload level text) }
+  logFrame = record { at = 0; kind = logKind; sender = sender; length = length (logPayload level text) }
 
-  pub log-found : stepAt (framed 0x0401 sender (logPayload level text) buf) 0 ≡ Found logFrame
+  pub log-found : stepAt (framed logKind sender (logPayload level text) buf) 0 ≡ Found logFrame
   log-found =
       let room = fits (length (logPayload level text)) (length buf) g in
-      framed-reads-back 0x0401 sender (logPayload level text) buf (lit< tt) s (room .0) (room .1)
+      framed-reads-back logKind sender (logPayload level text) buf (lit< tt) s (room .0) (room .1)
 
-  payload-back : payloadIn (framed 0x0401 sender (logPayload level text) buf) logFrame ≡ logPayload level text
+  payload-back : payloadIn (framed logKind sender (logPayload level text) buf) logFrame ≡ logPayload level text
   payload-back =
       let room = fits (length (logPayload level text)) (length buf) g in
-      framed-payload-back 0x0401 sender (logPayload level text) buf (lit< tt) s (room .0) (room .1)
+      framed-payload-back logKind sender (logPayload level text) buf (lit< tt) s (room .0) (room .1)
 
   -- its payload gives the level and the text back
-  pub log-back : readLog (payloadIn (framed 0x0401 sender (logPayload level text) buf) logFrame) ≡ given (record { level = level; length = length text })
+  pub log-back : readLog (payloadIn (framed logKind sender (logPayload level text) buf) logFrame) ≡ given (record { level = level; length = length text })
   log-back =
       let room = fits (length (logPayload level text)) (length buf) g in
       ap readLog payload-back ∙ log-reads-back level text (le-of-suc-le-suc (room .0))
 
-  pub text-back : textIn (payloadIn (framed 0x0401 sender (logPayload level text) buf) logFrame) ≡ text
+  pub text-back : textIn (payloadIn (framed logKind sender (logPayload level text) buf) logFrame) ≡ text
   text-back = ap textIn payload-back
 
 -- 22 exactly when there is no byte, or more than 255

@@ -1,4 +1,5 @@
 -- SETTINGS_SAVE, 0x00A1, and READ_BY_INDEX_DONE, 0x00A6: no payload. Assumes nothing.
+use Prim.Native.Nat.{ℕ}
 use mathlib.Core.Path.{refl}
 use mathlib.Core.List.{[]}
 use Rattle.wire.specs.Message.{Answer, given, refused, Message}
@@ -6,8 +7,14 @@ use Rattle.system.specs.declared.empty.EmptyRead.{EmptyRead}
 use Rattle.system.specs.declared.empty.EmptyRead.the-variants.{Empty, Refused}
 
 -- there is one record with no fields
-abbrev pub nothing : Message (Unit {0})
-nothing = record { fields = []; row = λ r. tt; make = λ v. tt; row-make = λ v. refl; make-row = λ r. refl }
+abbrev pub empty : ℕ → Message (Unit {0})
+empty kind = record { kind = kind; fields = []; row = λ r. tt; make = λ v. tt; row-make = λ v. refl; make-row = λ r. refl }
+
+abbrev pub settingsSave : Message (Unit {0})
+settingsSave = empty 0x00a1
+
+abbrev pub readByIndexDone : Message (Unit {0})
+readByIndexDone = empty 0x00a6
 
 abbrev pub emptyAnswer : EmptyRead → Answer (Unit {0})
 emptyAnswer Empty = given tt

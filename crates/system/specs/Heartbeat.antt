@@ -9,6 +9,7 @@ use Rattle.system.specs.declared.heartbeat.HeartbeatRead.the-variants.{R
 
 abbrev pub heartbeat : Message Heartbeat
 heartbeat = record {
+  kind = 0xffff;
   fields = any u32 ∷ [];
   row = λ r. (r .flags, tt);
   make = λ v. record { flags = v .0 };

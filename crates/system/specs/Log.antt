@@ -10,6 +10,9 @@ use Rattle.system.specs.declared.log.Log.{Log}
 use Rattle.system.specs.declared.log.LogRead.{LogRead}
 use Rattle.system.specs.declared.log.LogRead.the-variants.{Record, Refused}
 
+abbrev pub logKind : ℕ
+logKind = 0x0401
+
 abbrev pub logLength : ℕ → Bool
 logLength n = leb 1 n && leb n 255
 
@@ -18,8 +21,11 @@ abbrev pub textIn : List ℕ → List ℕ
 textIn s = drop 1 s
 
 -- the level, and how long the text is
+abbrev pub logIn : List ℕ → Log
+logIn s = record { level = numberAt 1 s 0; length = length s - 1 }
+
 unfoldable pub readLog : List ℕ → Answer Log
-readLog s = cond (logLength (length s)) (given (record { level = numberAt 1 s 0; length = length s - 1 })) (refused 22)
+readLog s = cond (logLength (length s)) (given (logIn s)) (refused 22)
 
 abbrev pub logAnswer : LogRead → Answer Log
 logAnswer (Record r) = given r

@@ -9,6 +9,7 @@ use Rattle.system.specs.declared.settings.ReadByIndexReqRead.the-variant
 
 abbrev pub readByIndexReq : Message ReadByIndexReq
 readByIndexReq = record {
+  kind = 0x00a2;
   fields = any u16 ∷ [];
   row = λ r. (r .index, tt);
   make = λ v. record { index = v .0 };

@@ -9,6 +9,7 @@ use Rattle.system.specs.declared.startup.StartupRead.the-variants.{Recor
 
 abbrev pub startup : Message Startup
 startup = record {
+  kind = 0xff00;
   fields = any u32 ∷ [];
   row = λ r. (r .reserved, tt);
   make = λ v. record { reserved = v .0 };

@@ -1,10 +1,11 @@
 // SETTINGS_SAVE, 0x00A1, and READ_BY_INDEX_DONE, 0x00A6: messages with no payload.
+ghost use Prim.Native.Nat.{ℕ};
 ghost use mathlib.Core.Path.{_≡_};
 ghost use lib.ListN.{length};
 ghost use Rattle.wire.specs.Message.{readAs};
 ghost use Rattle.frames.specs.Writer.{senderOf, writtenAnswer};
 ghost use Rattle.frames.specs.Message.{writeAnswer, writtenAs};
-ghost use Rattle.system.specs.Empty.{nothing, emptyAnswer};
+ghost use Rattle.system.specs.Empty.{empty, settingsSave, readByIndexDone, emptyAnswer};
 use frames::Sender;
 use frames::Written;
 
@@ -14,7 +15,7 @@ pub enum EmptyRead {
 }
 
 fn read_empty(s: &[u8]) -> EmptyRead
-    ensures { λ r. ⌜ emptyAnswer r ≡ readAs nothing (now (s .entry)) ⌝ }
+    ensures { λ r. ⌜ ((kind : ℕ) → emptyAnswer r ≡ readAs (empty kind) (now (s .entry))) ⌝ }
 {
     if s.len() != 0 {
         return EmptyRead::Refused(22);
@@ -23,8 +24,8 @@ fn read_empty(s: &[u8]) -> EmptyRead
 }
 
 fn write_empty(buf: &mut [u8], kind: u16, sender: Sender) -> Written
-    ensures { λ w. ⌜ writtenAnswer w ≡ writeAnswer nothing tt (length (now (buf .entry))) ⌝ }
-    ensures { λ _. ⌜ now (buf .exit) ≡ writtenAs nothing kind (senderOf sender) tt (now (buf .entry)) ⌝ }
+    ensures { λ w. ⌜ writtenAnswer w ≡ writeAnswer (empty kind) tt (length (now (buf .entry))) ⌝ }
+    ensures { λ _. ⌜ now (buf .exit) ≡ writtenAs (empty kind) (senderOf sender) tt (now (buf .entry)) ⌝ }
 {
     let answer = frames::plan(0, buf.len());
     if let Written::Bytes(_) = answer {
@@ -34,27 +35,27 @@ fn write_empty(buf: &mut [u8], kind: u16, sender: Sender) -> Written
 }
 
 pub fn read_settings_save(s: &[u8]) -> EmptyRead
-    ensures { λ r. ⌜ emptyAnswer r ≡ readAs nothing (now (s .entry)) ⌝ }
+    ensures { λ r. ⌜ emptyAnswer r ≡ readAs settingsSave (now (s .entry)) ⌝ }
 {
     read_empty(s)
 }
 
 pub fn write_settings_save(buf: &mut [u8], sender: Sender) -> Written
-    ensures { λ w. ⌜ writtenAnswer w ≡ writeAnswer nothing tt (length (now (buf .entry))) ⌝ }
-    ensures { λ _. ⌜ now (buf .exit) ≡ writtenAs nothing 0x00a1 (senderOf sender) tt (now (buf .entry)) ⌝ }
+    ensures { λ w. ⌜ writtenAnswer w ≡ writeAnswer settingsSave tt (length (now (buf .entry))) ⌝ }
+    ensures { λ _. ⌜ now (buf .exit) ≡ writtenAs settingsSave (senderOf sender) tt (now (buf .entry)) ⌝ }
 {
     write_empty(buf, 0x00a1, sender)
 }
 
 pub fn read_read_by_index_done(s: &[u8]) -> EmptyRead
-    ensures { λ r. ⌜ emptyAnswer r ≡ readAs nothing (now (s .entry)) ⌝ }
+    ensures { λ r. ⌜ emptyAnswer r ≡ readAs readByIndexDone (now (s .entry)) ⌝ }
 {
     read_empty(s)
 }
 
 pub fn write_read_by_index_done(buf: &mut [u8], sender: Sender) -> Written
-    ensures { λ w. ⌜ writtenAnswer w ≡ writeAnswer nothing tt (length (now (buf .entry))) ⌝ }
-    ensures { λ _. ⌜ now (buf .exit) ≡ writtenAs nothing 0x00a6 (senderOf sender) tt (now (buf .entry)) ⌝ }
+    ensures { λ w. ⌜ writtenAnswer w ≡ writeAnswer readByIndexDone tt (length (now (buf .entry))) ⌝ }
+    ensures { λ _. ⌜ now (buf .exit) ≡ writtenAs readByIndexDone (senderOf sender) tt (now (buf .entry)) ⌝ }
 {
     write_empty(buf, 0x00a6, sender)
 }

@@ -43,7 +43,7 @@ pub fn read_heartbeat(s: &[u8]) -> HeartbeatRead
 
 pub fn write_heartbeat(buf: &mut [u8], sender: Sender, r: Heartbeat) -> Written
     ensures { λ w. ⌜ writtenAnswer w ≡ writeAnswer heartbeat r (length (now (buf .entry))) ⌝ }
-    ensures { λ _. ⌜ now (buf .exit) ≡ writtenAs heartbeat 0xffff (senderOf sender) r (now (buf .entry)) ⌝ }
+    ensures { λ _. ⌜ now (buf .exit) ≡ writtenAs heartbeat (senderOf sender) r (now (buf .entry)) ⌝ }
 {
     let answer = frames::plan(4, buf.len());
     if let Written::Bytes(_) = answer {

@@ -43,7 +43,7 @@ pub fn read_read_by_index_req(s: &[u8]) -> ReadByIndexReqRead
 
 pub fn write_read_by_index_req(buf: &mut [u8], sender: Sender, r: ReadByIndexReq) -> Written
     ensures { λ w. ⌜ writtenAnswer w ≡ writeAnswer readByIndexReq r (length (now (buf .entry))) ⌝ }
-    ensures { λ _. ⌜ now (buf .exit) ≡ writtenAs readByIndexReq 0x00a2 (senderOf sender) r (now (buf .entry)) ⌝ }
+    ensures { λ _. ⌜ now (buf .exit) ≡ writtenAs readByIndexReq (senderOf sender) r (now (buf .entry)) ⌝ }
 {
     let answer = frames::plan(2, buf.len());
     if let Written::Bytes(_) = answer {

@@ -43,7 +43,7 @@ pub fn read_startup(s: &[u8]) -> StartupRead
 
 pub fn write_startup(buf: &mut [u8], sender: Sender, r: Startup) -> Written
     ensures { λ w. ⌜ writtenAnswer w ≡ writeAnswer startup r (length (now (buf .entry))) ⌝ }
-    ensures { λ _. ⌜ now (buf .exit) ≡ writtenAs startup 0xff00 (senderOf sender) r (now (buf .entry)) ⌝ }
+    ensures { λ _. ⌜ now (buf .exit) ≡ writtenAs startup (senderOf sender) r (now (buf .entry)) ⌝ }
 {
     let answer = frames::plan(4, buf.len());
     if let Written::Bytes(_) = answer {

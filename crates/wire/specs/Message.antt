@@ -1,4 +1,4 @@
--- A message: its fields, and its record as a row of them. Reading a payload answers 22, then 23; writing one answers 23.
+-- A message: its type number, its fields, and its record as a row of them. Reading a payload answers 22, then 23; writing one answers 23.
 -- Assumes nothing.
 use Prim.Native.Nat.{ℕ}
 use mathlib.Core.Path.{_≡_}
@@ -13,8 +13,9 @@ pub data Answer (A : Type 0) : Type 0 where
   given : A → Answer A
   refused : ℕ → Answer A
 
--- a record and a row of its fields are the same thing
+-- the type of the frames that carry it, and its fields; a record and a row of them are the same thing
 pub record Message (R : Type 0) : Type 0 where
+  pub kind : ℕ
   pub fields : List Field
   pub row : R → Row fields
   pub make : Row fields → R

@@ -1,6 +1,7 @@
 -- `payloads::read` meets its contract: each type by its line, any other by having none.
 use borrow.Author.Needs.{needs}
-use Rattle.payloads.specs.Table.{table, lookUp}
+use Rattle.payloads.specs.Table.{table}
+use Rattle.payloads.proofs.Answers as typed
 use Rattle.payloads.proofs.Lines.{at-kind, at-none}
 use Rattle.payloads.proofs.read.Statement.{statement}
 use Rattle.payloads.proofs.read.Tie as tie
@@ -60,76 +61,58 @@ heartbeat-requires : tie.Need-heartbeat-requires
 heartbeat-requires c κs = search needs
 
 returns : tie.Need-returns
-unfolding lookUp
-returns c = at-kind (c .before .before .before .args .payload .now) (c .gps-time .ensures) (c .before .match .keys1)
+returns c = let s = c .before .before .before .args .payload .now in at-kind s (typed.gps-time s) (c .gps-time .ensures) (c .before .match .keys1)
 
 returns-2 : tie.Need-returns-2
-unfolding lookUp
-returns-2 c = at-kind (c .before .before .before .args .payload .now) (c .dops .ensures) (c .before .match .keys2)
+returns-2 c = let s = c .before .before .before .args .payload .now in at-kind s (typed.dilutions s) (c .dops .ensures) (c .before .match .keys2)
 
 returns-3 : tie.Need-returns-3
-unfolding lookUp
-returns-3 c = at-kind (c .before .before .before .args .payload .now) (c .pos-ecef .ensures) (c .before .match .keys3)
+returns-3 c = let s = c .before .before .before .args .payload .now in at-kind s (typed.pos-ecef s) (c .pos-ecef .ensures) (c .before .match .keys3)
 
 returns-4 : tie.Need-returns-4
-unfolding lookUp
-returns-4 c = at-kind (c .before .before .before .args .payload .now) (c .pos-llh .ensures) (c .before .match .keys4)
+returns-4 c = let s = c .before .before .before .args .payload .now in at-kind s (typed.pos-llh s) (c .pos-llh .ensures) (c .before .match .keys4)
 
 returns-5 : tie.Need-returns-5
-unfolding lookUp
-returns-5 c = at-kind (c .before .before .before .args .payload .now) (c .baseline-ecef .ensures) (c .before .match .keys5)
+returns-5 c = let s = c .before .before .before .args .payload .now in at-kind s (typed.baseline-ecef s) (c .baseline-ecef .ensures) (c .before .match .keys5)
 
 returns-6 : tie.Need-returns-6
-unfolding lookUp
-returns-6 c = at-kind (c .before .before .before .args .payload .now) (c .vel-ecef .ensures) (c .before .match .keys6)
+returns-6 c = let s = c .before .before .before .args .payload .now in at-kind s (typed.vel-ecef s) (c .vel-ecef .ensures) (c .before .match .keys6)
 
 returns-7 : tie.Need-returns-7
-unfolding lookUp
-returns-7 c = at-kind (c .before .before .before .args .payload .now) (c .baseline-ned .ensures) (c .before .match .keys7)
+returns-7 c = let s = c .before .before .before .args .payload .now in at-kind s (typed.baseline-ned s) (c .baseline-ned .ensures) (c .before .match .keys7)
 
 returns-8 : tie.Need-returns-8
-unfolding lookUp
-returns-8 c = at-kind (c .before .before .before .args .payload .now) (c .vel-ned .ensures) (c .before .match .keys8)
+returns-8 c = let s = c .before .before .before .args .payload .now in at-kind s (typed.vel-ned s) (c .vel-ned .ensures) (c .before .match .keys8)
 
 returns-9 : tie.Need-returns-9
-unfolding lookUp
-returns-9 c = at-kind (c .before .before .before .args .payload .now) (c .baseline-heading .ensures) (c .before .match .keys9)
+returns-9 c = let s = c .before .before .before .args .payload .now in at-kind s (typed.baseline-heading s) (c .baseline-heading .ensures) (c .before .match .keys9)
 
 returns-10 : tie.Need-returns-10
-unfolding lookUp
-returns-10 c = at-kind (c .before .before .before .args .payload .now) (c .base-pos-llh .ensures) (c .before .match .keys10)
+returns-10 c = let s = c .before .before .before .args .payload .now in at-kind s (typed.base-pos-llh s) (c .base-pos-llh .ensures) (c .before .match .keys10)
 
 returns-11 : tie.Need-returns-11
-unfolding lookUp
-returns-11 c = at-kind (c .before .before .before .args .payload .now) (c .base-pos-ecef .ensures) (c .before .match .keys11)
+returns-11 c = let s = c .before .before .before .args .payload .now in at-kind s (typed.base-pos-ecef s) (c .base-pos-ecef .ensures) (c .before .match .keys11)
 
 returns-12 : tie.Need-returns-12
-unfolding lookUp
-returns-12 c = at-kind (c .before .before .before .args .payload .now) (c .obs .ensures) (c .before .match .keys12)
+returns-12 c = let s = c .before .before .before .args .payload .now in at-kind s (typed.obs s) (c .obs .ensures) (c .before .match .keys12)
 
 returns-13 : tie.Need-returns-13
-unfolding lookUp
-returns-13 c = at-kind (c .before .before .before .args .payload .now) (c .log .ensures) (c .before .match .keys13)
+returns-13 c = let s = c .before .before .before .args .payload .now in at-kind s (typed.log s) (c .log .ensures) (c .before .match .keys13)
 
 returns-14 : tie.Need-returns-14
-unfolding lookUp
-returns-14 c = at-kind (c .before .before .before .args .payload .now) (c .settings-save .ensures) (c .before .match .keys14)
+returns-14 c = let s = c .before .before .before .args .payload .now in at-kind s (typed.settings-save s) (c .settings-save .ensures) (c .before .match .keys14)
 
 returns-15 : tie.Need-returns-15
-unfolding lookUp
-returns-15 c = at-kind (c .before .before .before .args .payload .now) (c .read-by-index-done .ensures) (c .before .match .keys15)
+returns-15 c = let s = c .before .before .before .args .payload .now in at-kind s (typed.read-by-index-done s) (c .read-by-index-done .ensures) (c .before .match .keys15)
 
 returns-16 : tie.Need-returns-16
-unfolding lookUp
-returns-16 c = at-kind (c .before .before .before .args .payload .now) (c .read-by-index-req .ensures) (c .before .match .keys16)
+returns-16 c = let s = c .before .before .before .args .payload .now in at-kind s (typed.read-by-index-req s) (c .read-by-index-req .ensures) (c .before .match .keys16)
 
 returns-17 : tie.Need-returns-17
-unfolding lookUp
-returns-17 c = at-kind (c .before .before .before .args .payload .now) (c .startup .ensures) (c .before .match .keys17)
+returns-17 c = let s = c .before .before .before .args .payload .now in at-kind s (typed.start-up s) (c .startup .ensures) (c .before .match .keys17)
 
 returns-18 : tie.Need-returns-18
-unfolding lookUp
-returns-18 c = at-kind (c .before .before .before .args .payload .now) (c .heartbeat .ensures) (c .before .match .keys18)
+returns-18 c = let s = c .before .before .before .args .payload .now in at-kind s (typed.heart-beat s) (c .heartbeat .ensures) (c .before .match .keys18)
 
 returns-19 : tie.Need-returns-19
 returns-19 c =

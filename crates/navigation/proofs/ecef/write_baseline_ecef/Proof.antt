@@ -35,18 +35,18 @@ returns c =
     let at = p .before .before in
     let a = at .before .before .before .before .before .before .args in
     let plan = at .before .before .plan .ensures in
-    wrote baselineEcef 0x0202 (senderOf (a .sender)) (a .r) (a .buf .now) (sym (at .before .before .before .before .allowed .ensures) ∙ at .before .before .before .if1 .taken) plan (told plan (at .enum-told .given .1)) (p .put .ensures) (c .before .before .seal .ensures)
+    wrote baselineEcef (senderOf (a .sender)) (a .r) (a .buf .now) (sym (at .before .before .before .before .allowed .ensures) ∙ at .before .before .before .if1 .taken) plan (told plan (at .enum-told .given .1)) (p .put .ensures) (c .before .before .seal .ensures)
 
 returns-2 : tie.Need-returns-2
 returns-2 c =
     let a = c .before .before .before .before .before .before .args in
     let plan = c .before .before .plan .ensures in
-    wrote-nothing baselineEcef 0x0202 (senderOf (a .sender)) (a .r) (a .buf .now) (sym (c .before .before .before .before .allowed .ensures) ∙ c .before .before .before .if1 .taken) plan (told plan (c .enum-told2 .given .1))
+    wrote-nothing baselineEcef (senderOf (a .sender)) (a .r) (a .buf .now) (sym (c .before .before .before .before .allowed .ensures) ∙ c .before .before .before .if1 .taken) plan (told plan (c .enum-told2 .given .1))
 
 returns-3 : tie.Need-returns-3
 returns-3 c =
     let a = c .before .before .before .args in
-    wrote-23 baselineEcef 0x0202 (senderOf (a .sender)) (a .r) (a .buf .now) (sym (c .before .allowed .ensures) ∙ c .if1 .left)
+    wrote-23 baselineEcef (senderOf (a .sender)) (a .r) (a .buf .now) (sym (c .before .allowed .ensures) ∙ c .if1 .left)
 
 pub write-baseline-ecef-spec : {M : Type 1} → statement M
 write-baseline-ecef-spec = tie.close (tie.spec allowed-requires plan-requires enum-told put-requires seal-requires enum-told-2 same-length returns returns-2 returns-3)
