@@ -11,15 +11,14 @@ use lib.Seq.{getD-set-same, getD-set-other}
 use borrow.Author.Tests.{eqb-true, eqb-false, eq-eqb, ne-eqb}
 use Rattle.frames.specs.Step.{stepOf, passed, payloadIn}
 use Rattle.frames.specs.Reading.{Placed, stops, readFrom, steps, framesIn, framesOf}
-use Rattle.frames.specs.Cursors.{nextOf, Honest, Told}
+use Rattle.frames.specs.Cursors.{nextOf}
 use Rattle.frames.specs.Cursors as cursors
 use Rattle.frames.specs.declared.step.Frame.{Frame}
 use Rattle.frames.specs.declared.step.Step.{Step}
 use Rattle.frames.specs.declared.step.Step.the-variants.{Finished, Junk, Short, Bad, Found}
 use Rattle.frames.specs.declared.cursor.Cursor.{Cursor}
 use Rattle.frames.specs.declared.cursor.Next as Next
-use Rattle.frames.proofs.Cursors.{honest-begun}
-use Rattle.frames.proofs.Answers as answers
+use Rattle.frames.proofs.Walks.{Walking, left, walking-begun, walking-on, walking-end}
 use Rattle.epochs.specs.Packet.{seatOf}
 use Rattle.epochs.specs.Collator.{rosterOf, made, repeats}
 use Rattle.epochs.specs.Epoch.{Item, fedItem, after, reportIn, reports, reportsOf, itemIn, itemsOf}
@@ -59,44 +58,27 @@ fed-into t x {f} e q =
 
 -- ---- what the loop keeps
 
--- the cursor is honest, and what is left for the state to be fed makes the end
-pub record Going (s : List ℕ) (end : Collated) (t : Collated) (c : Cursor) : Type 0 where
-  pub honest : Honest false s c
-  pub rest : end ≡ fedAll t (map (itemIn s) (framesOf (steps false s (c .at))))
+-- the frames that are left, fed to the state, make the end
+pub record Going (s : List ℕ) (end t : Collated) (fs : List Frame) : Type 0 where
+  pub rest : end ≡ fedAll t (map (itemIn s) fs)
 
 module _ (s : List ℕ) (small : length s < 2 ^ 64) where
-  pub going-begun : {end t : Collated} {c : Cursor} → end ≡ fedAll t (itemsOf s) → c ≡ cursors.begun false → Going s end t c
+  pub going-begun : (end t : Collated) {c : Cursor} → end ≡ fedAll t (itemsOf s) → c ≡ cursors.begun false → Walking s (Going s end t) c
   unfolding itemsOf
-  going-begun {end} {t} e b =
-      subst (Going s end t) (sym b) (record { honest = honest-begun s small false; rest = e })
+  going-begun end t e b = walking-begun s small (Going s end t) (record { rest = e }) b
 
-  module _ {end t : Collated} {c : Cursor} (going : Going s end t c) where
-    said : {n : Next.Next} → nextOf s c ≡ n → Told false s (framesOf (steps false s (c .at))) n
-    said e = subst (Told false s (framesOf (steps false s (c .at)))) e (answers.told s small false c (going .honest .mode) (going .honest .inside))
+  -- a frame is fed
+  pub going-on : {end t : Collated} {c : Cursor} → Walking s (Going s end t) c → {f : Frame} {d : Cursor} {u : Collated} {payload : List ℕ} → nextOf s c ≡ Next.the-variants.Frame f d
+      → payload ≡ payloadIn s f → u ≡ fedInto t (record { kind = f .kind; sender = f .sender; payload = payload }) → Walking s (Going s end u) d
+  unfolding fedAll
+  going-on {t = t} going {f} {d} e p q =
+      let state = q ∙ ap (λ (payload : List ℕ). fedInto t (record { kind = f .kind; sender = f .sender; payload = payload })) p in
+      walking-on s small going e (λ r. record { rest = r .rest ∙ ap (λ (t : Collated). fedAll t (map (itemIn s) (left s d))) (sym state) })
 
-    -- a frame is fed
-    pub going-on : {f : Frame} {d : Cursor} {u : Collated} {payload : List ℕ} → nextOf s c ≡ Next.the-variants.Frame f d → payload ≡ payloadIn s f
-        → u ≡ fedInto t (record { kind = f .kind; sender = f .sender; payload = payload }) → Going s end u d
-    unfolding fedAll
-    going-on {f} {d} e p q =
-        let state = q ∙ ap (λ (payload : List ℕ). fedInto t (record { kind = f .kind; sender = f .sender; payload = payload })) p in
-        record {
-          honest = subst (λ (n : Next.Next). Honest false s (cursors.after n)) e (answers.honest-next s small false c (going .honest));
-          rest = going .rest
-              ∙ ap (λ (fs : List Frame). fedAll t (map (itemIn s) fs)) (said e)
-              ∙ ap (λ (t : Collated). fedAll t (map (itemIn s) (framesOf (steps false s (d .at))))) (sym state);
-        }
-
-    pub fewer : {f : Frame} {d : Cursor} → nextOf s c ≡ Next.the-variants.Frame f d → length (framesOf (steps false s (d .at))) < length (framesOf (steps false s (c .at)))
-    fewer e = omega (arith, ap length (said e))
-
-    -- or there is none left
-    pub going-end : {d : Cursor} → nextOf s c ≡ Next.the-variants.End d → t ≡ end
-    unfolding fedAll
-    going-end e = sym (going .rest ∙ ap (λ (fs : List Frame). fedAll t (map (itemIn s) fs)) (said e .0))
-
-    pub going-needs : {n : ℕ} {d : Cursor} → nextOf s c ≡ Next.the-variants.Needs n d → t ≡ end
-    going-needs e = absurd (false≢true (said e .2))
+  -- or there is none left
+  pub going-end : {end t : Collated} {c d : Cursor} → Walking s (Going s end t) c → nextOf s c ≡ Next.the-variants.End d → t ≡ end
+  unfolding fedAll
+  going-end going e = sym (walking-end s small going e .rest)
 
 -- ---- what the answer is
 

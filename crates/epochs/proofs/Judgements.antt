@@ -3,7 +3,7 @@ use mathlib.Core.Path.{_≡_, refl, sym, ap, _∙_, subst}
 use mathlib.Core.Bool.{Bool, true, false, not, cond}
 use mathlib.Core.List.{List, [], _∷_}
 use mathlib.Core.Logic.{_↔_}
-use Prim.Native.Nat.{ℕ, _≤_, _<_}
+use Prim.Native.Nat.{ℕ, _^_, _≤_, _<_}
 use native.Mathlib.Omega.{arith}
 use lib.Dec.{eqb, leb}
 use lib.ListN.{length}
@@ -47,6 +47,11 @@ count-small s o r = let is = read-is s o r in omega (arith, whole first (length 
 
 nobs-small : (s : List ℕ) (o : Obs) → Bytes s → given o ≡ readObs s → o .«n_obs» < 256
 nobs-small s o bytes r = let is = read-is s o r in omega (arith, number-lt 1 s 6 bytes, ap (λ (o : Obs). o .«n_obs») (is .1))
+
+time-small : (s : List ℕ) (o : Obs) → Bytes s → given o ≡ readObs s → (o .tow < 2 ^ 32) × (o .wn < 65536)
+time-small s o bytes r =
+    let is = read-is s o r in
+    (omega (arith, number-lt 4 s 0 bytes, ap (λ (o : Obs). o .tow) (is .1)), omega (arith, number-lt 2 s 4 bytes, ap (λ (o : Obs). o .wn) (is .1)))
 
 module _ (roster : List ℕ) (kind sender : ℕ) (payload : List ℕ) where
   pub judged-46 : (kind ≡ obsKind → ⊥) → Refused 46 ≡ judged roster kind sender payload
@@ -227,3 +232,10 @@ judged-n roster kind sender payload bytes q =
     let byte = nobs-small payload (h .obs) bytes (h .found .read) in
     let low : packetOf (h .obs) .key .n ≤ 15 = omega arith in
     subst (λ (p : Packet). p .key .n ≤ 15) (h .packet) low
+
+-- and its time
+pub judged-time : (roster : List ℕ) (kind sender : ℕ) (payload : List ℕ) {i : ℕ} {p : Packet} → Bytes payload → judged roster kind sender payload ≡ For i p
+    → (p .key .tow < 2 ^ 32) × (p .key .wn < 65536)
+judged-time roster kind sender payload bytes q =
+    let h = heard roster kind sender payload q in
+    subst (λ (p : Packet). (p .key .tow < 2 ^ 32) × (p .key .wn < 65536)) (h .packet) (time-small payload (h .obs) bytes (h .found .read))

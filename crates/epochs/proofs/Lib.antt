@@ -6,6 +6,7 @@ pub mod Runs
 pub mod Places
 pub mod Epochs
 pub mod Feeding
+pub mod Reports
 pub mod Senders
 pub mod Collations
 pub mod Captures

@@ -18,6 +18,7 @@ pub use judging::Key;
 pub use judging::Packet;
 pub use judging::Seat;
 pub use judging::judge;
+pub use judging::seat_of;
 pub use placing::Ended;
 pub use placing::Part;
 pub use placing::Place;

@@ -4,6 +4,7 @@ pub mod Readings
 pub mod Tiling
 pub mod Cursors
 pub mod Answers
+pub mod Walks
 pub mod WrittenPlan
 pub mod Written
 pub mod WrittenRead

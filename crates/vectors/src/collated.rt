@@ -143,14 +143,28 @@ fn refusals() {
 
 // Runs that break, and runs that begin anew.
 fn runs() {
-    print::word(b"repeated");
     let mut c = listed();
+    c = repeated(c);
+    c = begun_again(c);
+    c = other_week(c);
+    c = other_time_and_size(c);
+    two_senders_one_time(c);
+}
+
+fn repeated(start: Collator) -> Collator {
+    print::word(b"repeated");
+    let mut c = start;
     c = fed(c, 0, sent(5, 6, 0x30, 1));
     c = fed(c, 0, sent(5, 6, 0x31, 1));
     c = fed(c, 0, sent(5, 6, 0x31, 1));
     c = fed(c, 0, sent(5, 6, 0x32, 1));
     print::end();
+    c
+}
+
+fn begun_again(start: Collator) -> Collator {
     print::word(b"begun-again");
+    let mut c = start;
     c = fed(c, 0, sent(5, 6, 0x30, 1));
     c = fed(c, 0, sent(5, 6, 0x31, 1));
     c = fed(c, 0, sent(5, 6, 0x30, 4));
@@ -158,23 +172,39 @@ fn runs() {
     c = fed(c, 0, sent(5, 6, 0x32, 6));
     c = fed(c, 0, sent(5, 6, 0x32, 6));
     print::end();
+    c
+}
+
+fn other_week(start: Collator) -> Collator {
     print::word(b"other-week");
+    let mut c = start;
     c = fed(c, 0, sent(5, 6, 0x20, 1));
     c = fed(c, 0, sent(5, 7, 0x21, 1));
     c = fed(c, 0, sent(5, 6, 0x21, 1));
     print::end();
+    c
+}
+
+fn other_time_and_size(start: Collator) -> Collator {
     print::word(b"other-time-and-size");
+    let mut c = start;
     c = fed(c, 0, sent(5, 6, 0x20, 1));
     c = fed(c, 0, sent(4, 6, 0x21, 1));
     c = fed(c, 0, sent(5, 6, 0x20, 1));
     c = fed(c, 0, sent(5, 6, 0x31, 1));
     print::end();
+    c
+}
+
+fn two_senders_one_time(start: Collator) -> Collator {
     print::word(b"two-senders-one-time");
+    let mut c = start;
     c = fed(c, 0, sent(5, 6, 0x20, 1));
     c = fed(c, 1228, sent(5, 6, 0x20, 10));
     c = fed(c, 0, sent(5, 6, 0x21, 2));
-    fed(c, 1228, sent(5, 6, 0x21, 5));
+    c = fed(c, 1228, sent(5, 6, 0x21, 5));
     print::end();
+    c
 }
 
 // Epochs of 1 to 15 packets, of 15 observations each.

@@ -23,15 +23,27 @@ fn lengths(seed: usize) {
 }
 
 fn near(s: &[u8], n: usize) {
+    times_and_positions(s, n);
+    vectors(s, n);
+    bases_and_system(s, n);
+}
+
+fn times_and_positions(s: &[u8], n: usize) {
     messages::gps_time(front(s, std::num::wrapping_add_usize(n, 10)));
     messages::dops(front(s, std::num::wrapping_add_usize(n, 13)));
     messages::pos_ecef(front(s, std::num::wrapping_add_usize(n, 31)));
     messages::pos_llh(front(s, std::num::wrapping_add_usize(n, 33)));
+}
+
+fn vectors(s: &[u8], n: usize) {
     messages::baseline_ecef(front(s, std::num::wrapping_add_usize(n, 19)));
     messages::vel_ecef(front(s, std::num::wrapping_add_usize(n, 19)));
     messages::baseline_ned(front(s, std::num::wrapping_add_usize(n, 21)));
     messages::vel_ned(front(s, std::num::wrapping_add_usize(n, 21)));
     messages::baseline_heading(front(s, std::num::wrapping_add_usize(n, 9)));
+}
+
+fn bases_and_system(s: &[u8], n: usize) {
     messages::base_pos_llh(front(s, std::num::wrapping_add_usize(n, 23)));
     messages::base_pos_ecef(front(s, std::num::wrapping_add_usize(n, 23)));
     messages::read_by_index_req(front(s, std::num::wrapping_add_usize(n, 1)));
@@ -103,24 +115,33 @@ fn bit(on: bool) {
 }
 
 fn fix(flags: u8) {
-    let mut s = [0u8; 34];
     print::word(b"flags");
     print::number(flags as u64);
-    wire::store_u8(&mut s, 31, flags);
-    ecef(navigation::read_pos_ecef(front(&s, 32)));
-    mode(navigation::pos_ecef_fix(flags));
-    wire::store_u8(&mut s, 33, flags);
-    llh(navigation::read_pos_llh(&s));
-    mode(navigation::pos_llh_fix(flags));
-    wire::store_u8(&mut s, 19, flags);
-    vector(navigation::read_baseline_ecef(front(&s, 20)));
-    mode(navigation::baseline_fix(flags));
+    positions(flags);
+    baseline(flags);
     bit(navigation::raim_available(flags));
     bit(navigation::raim_repaired(flags));
     bit(navigation::pos_llh_above_sea(flags));
     bit(navigation::pos_llh_raim_available(flags));
     bit(navigation::pos_llh_raim_repaired(flags));
     print::end();
+}
+
+fn positions(flags: u8) {
+    let mut s = [0u8; 34];
+    wire::store_u8(&mut s, 31, flags);
+    ecef(navigation::read_pos_ecef(front(&s, 32)));
+    mode(navigation::pos_ecef_fix(flags));
+    wire::store_u8(&mut s, 33, flags);
+    llh(navigation::read_pos_llh(&s));
+    mode(navigation::pos_llh_fix(flags));
+}
+
+fn baseline(flags: u8) {
+    let mut s = [0u8; 20];
+    wire::store_u8(&mut s, 19, flags);
+    vector(navigation::read_baseline_ecef(&s));
+    mode(navigation::baseline_fix(flags));
 }
 
 fn ecef(r: navigation::PosEcefRead) {

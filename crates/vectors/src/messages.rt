@@ -37,8 +37,7 @@ pub fn gps_time(s: &[u8]) {
     print::word(b"gps-time");
     match navigation::read_gps_time(s) {
         GpsTimeRead::Record(r) => {
-            print::number(r.wn as u64);
-            print::number(r.tow as u64);
+            print::row(&[r.wn as u64, r.tow as u64]);
             print::signed_32(r.ns);
             print::number(r.flags as u64);
             let mut buf = [0u8; 64];
@@ -56,12 +55,16 @@ pub fn dops(s: &[u8]) {
     print::word(b"dops");
     match navigation::read_dops(s) {
         DopsRead::Record(r) => {
-            print::number(r.tow as u64);
-            print::number(r.gdop as u64);
-            print::number(r.pdop as u64);
-            print::number(r.tdop as u64);
-            print::number(r.hdop as u64);
-            print::number(r.vdop as u64);
+            print::row(
+                &[
+                    r.tow as u64,
+                    r.gdop as u64,
+                    r.pdop as u64,
+                    r.tdop as u64,
+                    r.hdop as u64,
+                    r.vdop as u64,
+                ],
+            );
             let mut buf = [0u8; 64];
             let w = navigation::write_dops(&mut buf, Sender::Named(0x0201), r);
             written(&buf, w);
@@ -78,12 +81,8 @@ pub fn pos_ecef(s: &[u8]) {
     match navigation::read_pos_ecef(s) {
         PosEcefRead::Record(r) => {
             print::number(r.tow as u64);
-            print::hex(r.x.bits(), 16);
-            print::hex(r.y.bits(), 16);
-            print::hex(r.z.bits(), 16);
-            print::number(r.accuracy as u64);
-            print::number(r.n_sats as u64);
-            print::number(r.flags as u64);
+            print::patterns(&[r.x.bits(), r.y.bits(), r.z.bits()]);
+            print::row(&[r.accuracy as u64, r.n_sats as u64, r.flags as u64]);
             let mut buf = [0u8; 64];
             let w = navigation::write_pos_ecef(&mut buf, Sender::Named(0x0201), r);
             written(&buf, w);
@@ -100,13 +99,15 @@ pub fn pos_llh(s: &[u8]) {
     match navigation::read_pos_llh(s) {
         PosLlhRead::Record(r) => {
             print::number(r.tow as u64);
-            print::hex(r.lat.bits(), 16);
-            print::hex(r.lon.bits(), 16);
-            print::hex(r.height.bits(), 16);
-            print::number(r.h_accuracy as u64);
-            print::number(r.v_accuracy as u64);
-            print::number(r.n_sats as u64);
-            print::number(r.flags as u64);
+            print::patterns(&[r.lat.bits(), r.lon.bits(), r.height.bits()]);
+            print::row(
+                &[
+                    r.h_accuracy as u64,
+                    r.v_accuracy as u64,
+                    r.n_sats as u64,
+                    r.flags as u64,
+                ],
+            );
             let mut buf = [0u8; 64];
             let w = navigation::write_pos_llh(&mut buf, Sender::Named(0x0201), r);
             written(&buf, w);
@@ -123,12 +124,8 @@ pub fn baseline_ecef(s: &[u8]) {
     match navigation::read_baseline_ecef(s) {
         EcefVectorRead::Record(r) => {
             print::number(r.tow as u64);
-            print::signed_32(r.x);
-            print::signed_32(r.y);
-            print::signed_32(r.z);
-            print::number(r.accuracy as u64);
-            print::number(r.n_sats as u64);
-            print::number(r.flags as u64);
+            print::signed_row(&[r.x, r.y, r.z]);
+            print::row(&[r.accuracy as u64, r.n_sats as u64, r.flags as u64]);
             let mut buf = [0u8; 64];
             let w = navigation::write_baseline_ecef(&mut buf, Sender::Named(0x0201), r);
             written(&buf, w);
@@ -145,12 +142,8 @@ pub fn vel_ecef(s: &[u8]) {
     match navigation::read_vel_ecef(s) {
         EcefVectorRead::Record(r) => {
             print::number(r.tow as u64);
-            print::signed_32(r.x);
-            print::signed_32(r.y);
-            print::signed_32(r.z);
-            print::number(r.accuracy as u64);
-            print::number(r.n_sats as u64);
-            print::number(r.flags as u64);
+            print::signed_row(&[r.x, r.y, r.z]);
+            print::row(&[r.accuracy as u64, r.n_sats as u64, r.flags as u64]);
             let mut buf = [0u8; 64];
             let w = navigation::write_vel_ecef(&mut buf, Sender::Named(0x0201), r);
             written(&buf, w);
@@ -167,13 +160,15 @@ pub fn baseline_ned(s: &[u8]) {
     match navigation::read_baseline_ned(s) {
         NedVectorRead::Record(r) => {
             print::number(r.tow as u64);
-            print::signed_32(r.n);
-            print::signed_32(r.e);
-            print::signed_32(r.d);
-            print::number(r.h_accuracy as u64);
-            print::number(r.v_accuracy as u64);
-            print::number(r.n_sats as u64);
-            print::number(r.flags as u64);
+            print::signed_row(&[r.n, r.e, r.d]);
+            print::row(
+                &[
+                    r.h_accuracy as u64,
+                    r.v_accuracy as u64,
+                    r.n_sats as u64,
+                    r.flags as u64,
+                ],
+            );
             let mut buf = [0u8; 64];
             let w = navigation::write_baseline_ned(&mut buf, Sender::Named(0x0201), r);
             written(&buf, w);
@@ -190,13 +185,15 @@ pub fn vel_ned(s: &[u8]) {
     match navigation::read_vel_ned(s) {
         NedVectorRead::Record(r) => {
             print::number(r.tow as u64);
-            print::signed_32(r.n);
-            print::signed_32(r.e);
-            print::signed_32(r.d);
-            print::number(r.h_accuracy as u64);
-            print::number(r.v_accuracy as u64);
-            print::number(r.n_sats as u64);
-            print::number(r.flags as u64);
+            print::signed_row(&[r.n, r.e, r.d]);
+            print::row(
+                &[
+                    r.h_accuracy as u64,
+                    r.v_accuracy as u64,
+                    r.n_sats as u64,
+                    r.flags as u64,
+                ],
+            );
             let mut buf = [0u8; 64];
             let w = navigation::write_vel_ned(&mut buf, Sender::Named(0x0201), r);
             written(&buf, w);
@@ -212,10 +209,14 @@ pub fn baseline_heading(s: &[u8]) {
     print::word(b"baseline-heading");
     match navigation::read_baseline_heading(s) {
         BaselineHeadingRead::Record(r) => {
-            print::number(r.tow as u64);
-            print::number(r.heading as u64);
-            print::number(r.n_sats as u64);
-            print::number(r.flags as u64);
+            print::row(
+                &[
+                    r.tow as u64,
+                    r.heading as u64,
+                    r.n_sats as u64,
+                    r.flags as u64,
+                ],
+            );
             let mut buf = [0u8; 64];
             let w = navigation::write_baseline_heading(&mut buf, Sender::Named(0x0201), r);
             written(&buf, w);
@@ -231,9 +232,7 @@ pub fn base_pos_llh(s: &[u8]) {
     print::word(b"base-pos-llh");
     match observation::read_base_pos_llh(s) {
         BasePosLlhRead::Record(r) => {
-            print::hex(r.lat.bits(), 16);
-            print::hex(r.lon.bits(), 16);
-            print::hex(r.height.bits(), 16);
+            print::patterns(&[r.lat.bits(), r.lon.bits(), r.height.bits()]);
             let mut buf = [0u8; 64];
             let w = observation::write_base_pos_llh(&mut buf, Sender::Named(0x0201), r);
             written(&buf, w);
@@ -249,9 +248,7 @@ pub fn base_pos_ecef(s: &[u8]) {
     print::word(b"base-pos-ecef");
     match observation::read_base_pos_ecef(s) {
         BasePosEcefRead::Record(r) => {
-            print::hex(r.x.bits(), 16);
-            print::hex(r.y.bits(), 16);
-            print::hex(r.z.bits(), 16);
+            print::patterns(&[r.x.bits(), r.y.bits(), r.z.bits()]);
             let mut buf = [0u8; 64];
             let w = observation::write_base_pos_ecef(&mut buf, Sender::Named(0x0201), r);
             written(&buf, w);

@@ -3,20 +3,19 @@
 use mathlib.Core.Path.{sym, ap, _∙_}
 use borrow.Author.Needs.{needs}
 use lib.ListN.{length}
-use Rattle.frames.specs.Reading.{steps, framesOf}
+use Rattle.frames.proofs.Walks.{Walking, left, left-fewer, never-needs}
 use Rattle.epochs.specs.Epoch.{itemsOf}
 use Rattle.epochs.specs.Capture.{fedAll, collated}
 use Rattle.epochs.specs.declared.capturing.Collated.{Collated}
-use Rattle.epochs.proofs.Captures.{collated-refused, collated-fed, Going, going-begun, going-on, fewer, going-end, going-needs}
-use mathlib.Core.Bool.{false}
+use Rattle.epochs.proofs.Captures.{collated-refused, collated-fed, Going, going-begun, going-on, going-end}
 use Rattle.epochs.proofs.capturing.collate.Statement.{statement}
 use Rattle.epochs.proofs.capturing.collate.Tie as tie
 
 abbrev Inv-loop : tie.InvT-loop
-Inv-loop s roster state₀ cursor₀ state cursor = Going s (collated s roster) state cursor
+Inv-loop s roster state₀ cursor₀ state cursor = Walking s (Going s (collated s roster) state) cursor
 
 abbrev μ-loop : tie.MeasureT-loop
-μ-loop s roster state₀ cursor₀ state cursor = length (framesOf (steps false s (cursor .at)))
+μ-loop s roster state₀ cursor₀ state cursor = length (left s cursor)
 
 made-requires : tie.Need-made-requires Inv-loop μ-loop
 made-requires c κs = search needs
@@ -34,7 +33,7 @@ loop-holds : tie.Need-loop-holds Inv-loop μ-loop
 loop-holds c =
     let a = c .before .before .before .before .before .before .before .args in
     let fed = collated-fed (a .s .now) (a .roster .now) (c .before .before .before .before .made .ensures) (c .before .if1 .left) in
-    going-begun (a .s .now) (c .before .before .before .before .before .before .before .good .0 .0) (fed ∙ ap (λ (t : Collated). fedAll t (itemsOf (a .s .now))) (sym (c .before .before .before .begun .ensures))) (c .closed .ensures)
+    going-begun (a .s .now) (c .before .before .before .before .before .before .before .good .0 .0) _ _ (fed ∙ ap (λ (t : Collated). fedAll t (itemsOf (a .s .now))) (sym (c .before .before .before .begun .ensures))) (c .closed .ensures)
 
 next-requires : tie.Need-next-requires Inv-loop μ-loop
 next-requires c κs = search needs
@@ -49,7 +48,7 @@ feed-requires : tie.Need-feed-requires Inv-loop μ-loop
 feed-requires c κs = search needs
 
 loop-less : tie.Need-loop-less Inv-loop μ-loop
-loop-less c = fewer (c .before .before .before .before .before .before .before .before .before .before .before .before .before .before .args .s .now) (c .before .before .before .before .before .before .before .before .before .before .before .before .before .before .good .0 .0) (c .before .before .before .before .before .before .loop .inv) (sym (c .before .before .before .before .before .next .ensures) ∙ c .before .before .before .next2 .given .1)
+loop-less c = left-fewer (c .before .before .before .before .before .before .before .before .before .before .before .before .before .before .args .s .now) (c .before .before .before .before .before .before .before .before .before .before .before .before .before .before .good .0 .0) (c .before .before .before .before .before .before .loop .inv .honest) (sym (c .before .before .before .before .before .next .ensures) ∙ c .before .before .before .next2 .given .1)
 
 loop-again : tie.Need-loop-again Inv-loop μ-loop
 loop-again c = going-on (c .before .before .before .before .before .before .before .before .before .before .before .before .before .before .args .s .now) (c .before .before .before .before .before .before .before .before .before .before .before .before .before .before .good .0 .0) (c .before .before .before .before .before .before .loop .inv) (sym (c .before .before .before .before .before .next .ensures) ∙ c .before .before .before .next2 .given .1) (c .before .payload .ensures) (c .feed .ensures)
@@ -64,7 +63,7 @@ enum-told-2 : tie.Need-enum-told-2 Inv-loop μ-loop
 enum-told-2 c = search needs
 
 returns-3 : tie.Need-returns-3 Inv-loop μ-loop
-returns-3 c = going-needs (c .before .before .before .before .before .before .before .before .before .before .before .args .s .now) (c .before .before .before .before .before .before .before .before .before .before .before .good .0 .0) (c .before .before .before .loop .inv) (sym (c .before .before .next .ensures) ∙ c .enum-told2 .given .1)
+returns-3 c = absurd (never-needs (c .before .before .before .before .before .before .before .before .before .before .before .args .s .now) (c .before .before .before .before .before .before .before .before .before .before .before .good .0 .0) (c .before .before .before .loop .inv .honest) (sym (c .before .before .next .ensures) ∙ c .enum-told2 .given .1))
 
 pub collate-spec : {M : Type 1} → statement M
 collate-spec =

@@ -1,0 +1,3 @@
+pub mod Rosters
+pub mod Texts
+pub mod Sizes

@@ -1,0 +1,126 @@
+-- How long a listing is: at most eight bytes for each byte of the capture, and 32. Assumes nothing.
+use mathlib.Core.Path.{_≡_, refl, sym, ap, _∙_, subst}
+use mathlib.Core.Bool.{Bool, true, false, cond}
+use mathlib.Core.List.{List, [], _∷_, _++_}
+use Prim.Native.Nat.{ℕ, zero, suc, _+_, _*_, _/_, _%_, _^_, _≤_, _<_}
+use native.Mathlib.Omega.{arith}
+use lib.Dec.{eqb, leb, lit<}
+use lib.ListN.{length, drop, length-append}
+use Rattle.wire.specs.Number.{Bytes, numberAt}
+use Rattle.wire.specs.Message.{Answer, given, refused}
+use Rattle.wire.proofs.Numbers.{bytes-take, bytes-drop, number-lt}
+use Rattle.frames.specs.Step.{stepAt, passed, ends, payloadIn}
+use Rattle.frames.specs.Reading.{Placed, Tiled, done, then, placed, framesIn, framesOf, countsOf, closedSteps, sumOf}
+use Rattle.frames.specs.declared.step.Frame.{Frame}
+use Rattle.frames.specs.declared.step.Step.{Step}
+use Rattle.frames.specs.declared.step.Step.the-variants.{Finished, Junk, Short, Bad, Found}
+use Rattle.frames.specs.declared.cursor.Counts.{Counts}
+use Rattle.frames.proofs.Frames.{found-at, found-fits, found-numbers}
+use Rattle.frames.proofs.Tiling.{closed-tiled, adds-up}
+use Rattle.payloads.specs.Table.{Line, table, readLine, lookUp, readFor, numberOf, answerFor}
+use Rattle.payloads.specs.declared.Message.{Message}
+use Rattle.epochs.specs.Epoch.{fedItem, itemIn}
+use Rattle.epochs.specs.declared.collating.Collator.{Collator}
+use Rattle.epochs.specs.declared.collating.Report.{Report}
+use Rattle.epochs.specs.declared.collating.Happened.{Happened}
+use Rattle.epochs.specs.declared.collating.Happened.the-variants as H
+use Rattle.epochs.proofs.Reports.{SmallIn, report-small}
+use Rattle.text.specs.Decimal.{decimal}
+use Rattle.text.specs.Line.{fields, line}
+use Rattle.text.proofs.Decimals.{few-digits}
+use Rattle.text.proofs.Lines.{length-fields, length-line}
+use Rattle.listing.specs.Listing.{frameLine, epochLine, totalsLine, told, framesText, textFrom}
+
+-- ---- a line of five numbers
+
+pub five : (letter a b c d e : ℕ) (i j k l m : ℕ) → a < 10 ^ suc i → b < 10 ^ suc j → c < 10 ^ suc k → d < 10 ^ suc l → e < 10 ^ suc m
+    → length (line letter (a ∷ b ∷ c ∷ d ∷ e ∷ [])) ≤ i + j + k + l + m + 12
+unfolding fields
+five letter a b c d e i j k l m ha hb hc hd he =
+    let la = length-fields a (b ∷ c ∷ d ∷ e ∷ []) in
+    let lb = length-fields b (c ∷ d ∷ e ∷ []) in
+    let lc = length-fields c (d ∷ e ∷ []) in
+    let ld = length-fields d (e ∷ []) in
+    let le = length-fields e [] in
+    let fa = few-digits i a ha in
+    let fb = few-digits j b hb in
+    let fc = few-digits k c hc in
+    let fd = few-digits l d hd in
+    let fe = few-digits m e he in
+    omega (arith, length-line letter (a ∷ b ∷ c ∷ d ∷ e ∷ []))
+
+-- ---- an answer has two digits
+
+line-answer : (t u : Bool) (m : Message) → numberOf (cond t (cond u (given m) (refused 23)) (refused 22)) < 100
+line-answer false u m = lit< tt
+line-answer true false m = lit< tt
+line-answer true true m = lit< tt
+
+small-answer : (ls : List Line) (kind : ℕ) (s : List ℕ) → numberOf (lookUp ls kind s) < 100
+unfolding lookUp readLine
+small-answer [] kind s = lit< tt
+small-answer (l ∷ ls) kind s = by (eqb kind (l .kind)) (small-answer ls kind s)
+  where
+    by : (t : Bool) → numberOf (lookUp ls kind s) < 100 → numberOf (cond t (readLine l s) (lookUp ls kind s)) < 100
+    by true rest = line-answer (l .lengths (length s)) (l .ranges s) (l .holds s)
+    by false rest = rest
+
+-- ---- the lines of a frame
+
+told-size : (h : Happened) → SmallIn h → length (told h) ≤ 34
+told-size (H.Refused n) small = omega arith
+told-size H.Taken small = omega arith
+told-size (H.Epoch e) small =
+    five 0x45 (e .sender) (e .wn) (e .tow) (e .n) (e .observations) 4 4 9 1 4
+    (omega (arith, small .sender)) (omega (arith, small .wn)) (omega (arith, small .tow)) (omega (arith, small .n)) (omega (arith, small .observations))
+
+module _ (s : List ℕ) (bytes : Bytes s) (short : length s ≤ 65536) where
+  module _ (p : ℕ) {f : Frame} (e : stepAt s p ≡ Found f) where
+    frame-size : length (frameLine s f) ≤ 27
+    frame-size =
+        let here = found-at s p e in
+        let inside = found-fits s p e in
+        let small = found-numbers s p e bytes in
+        five 0x46 (f .at) (f .kind) (f .sender) (f .length) (answerFor (f .kind) (payloadIn s f)) 4 4 4 2 1
+        (omega (arith, here, inside)) (omega (arith, small .0)) (omega (arith, small .1)) (omega (arith, small .2)) (small-answer table (f .kind) (payloadIn s f))
+
+    payload-bytes : Bytes (payloadIn s f)
+    unfolding payloadIn
+    payload-bytes = bytes-take (f .length) (drop (f .at + 6) s) (bytes-drop (f .at + 6) s bytes)
+
+    frame-told : (c : Collator) → length (told (fedItem c (itemIn s f) .happened)) ≤ 34
+    frame-told c = told-size (fedItem c (itemIn s f) .happened) (report-small c (f .kind) (f .sender) (payloadIn s f) payload-bytes (found-numbers s p e bytes .1))
+
+  -- 61 bytes of text for a frame of at least 8
+  frames-size : {p e : ℕ} {xs : List Placed} → Tiled s p e xs → e ≤ length s → (c : Collator) → length (framesText s c (framesOf xs)) + 8 * p ≤ 8 * e
+  unfolding framesOf framesText
+  frames-size done h c = omega arith
+  frames-size (then {p} {e} {xs} l rest) h c = by (stepAt s p) refl (λ c. frames-size rest h c)
+    where
+      by : (x : Step) → stepAt s p ≡ x → ((c : Collator) → length (framesText s c (framesOf xs)) + 8 * ends s p ≤ 8 * e)
+          → length (framesText s c (framesIn x (framesOf xs))) + 8 * p ≤ 8 * e
+      by Finished q later = omega (arith, later c, ap passed q)
+      by Junk q later = omega (arith, later c, ap passed q)
+      by (Short n) q later = omega (arith, later c, ap passed q)
+      by Bad q later = omega (arith, later c, ap passed q)
+      by (Found f) q later =
+          let fed = fedItem c (itemIn s f) in
+          let whole = length-append (frameLine s f ++ told (fed .happened)) (framesText s (fed .collator) (framesOf xs)) in
+          let lines = length-append (frameLine s f) (told (fed .happened)) in
+          let one = frame-size p q in
+          let two = frame-told p q c in
+          omega (arith, later (fed .collator), whole, lines, one, two, ap passed q)
+
+  totals-size : length (totalsLine s) ≤ 32
+  totals-size =
+      let k = countsOf (closedSteps s) in
+      let all = adds-up s in
+      five 0x54 (length s) (k .framed) (k .junk) (k .bad) (k .short) 4 4 4 4 4
+      (omega (arith, short)) (omega (arith, all, short)) (omega (arith, all, short)) (omega (arith, all, short)) (omega (arith, all, short))
+
+  -- a buffer of that many bytes has room for the listing
+  pub text-size : (c : Collator) → length (textFrom s c) ≤ 8 * length s + 32
+  text-size c =
+      let frames = frames-size (closed-tiled s) (omega arith) c in
+      let both = length-append (framesText s c (framesOf (closedSteps s))) (totalsLine s) in
+      omega (arith, frames, both, totals-size)

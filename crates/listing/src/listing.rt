@@ -1,0 +1,138 @@
+// The lines of a listing, one after the other in a lent buffer.
+ghost use mathlib.Core.Path.{_≡_};
+ghost use Prim.Native.Nat.{_+_, _%_, _^_, _≤_, _<_};
+ghost use mathlib.Core.List.{[], _∷_, _++_};
+ghost use lib.Dec.{leb};
+ghost use lib.ListN.{length};
+ghost use lib.Seq.{sets};
+ghost use Rattle.frames.specs.Writer.{writtenAnswer};
+ghost use Rattle.text.specs.Line.{line, laid};
+ghost use Rattle.listing.specs.Listing.{told, textFrom, listAnswer, listed};
+use crate::rostering::started;
+use epochs::Collator;
+use epochs::Happened;
+use frames::Counts;
+use frames::Cursor;
+use frames::Frame;
+use frames::Next;
+use frames::Written;
+
+// `F` offset type sender length payload-answer
+fn put_frame(buf: &mut [u8], at: usize, f: Frame, answer: u8) -> usize
+    ensures { λ r. ⌜ r ≡ (at + length (line 0x46 (f .at ∷ f .kind ∷ f .sender ∷ f .length ∷ answer ∷ []))) % 2 ^ 64 ⌝ }
+    ensures { λ _. ⌜ now (buf .exit) ≡ laid (now (buf .entry)) at (line 0x46 (f .at ∷ f .kind ∷ f .sender ∷ f .length ∷ answer ∷ [])) ⌝ }
+{
+    text::put_line(
+        buf,
+        at,
+        0x46,
+        [
+            f.at as u64,
+            f.kind as u64,
+            f.sender as u64,
+            f.length as u64,
+            answer as u64,
+        ],
+    )
+}
+
+// `E` sender wn tow n observations, where an epoch was reported
+fn put_told(buf: &mut [u8], at: usize, happened: Happened) -> usize
+    ensures { λ r. ⌜ r ≡ (at + length (told happened)) % 2 ^ 64 ⌝ }
+    ensures { λ _. ⌜ now (buf .exit) ≡ laid (now (buf .entry)) at (told happened) ⌝ }
+{
+    match happened {
+        Happened::Refused(_) => at,
+        Happened::Taken => at,
+        Happened::Epoch(e) => {
+            text::put_line(
+                buf,
+                at,
+                0x45,
+                [
+                    e.sender as u64,
+                    e.wn as u64,
+                    e.tow as u64,
+                    e.n as u64,
+                    e.observations as u64,
+                ],
+            )
+        }
+    }
+}
+
+// `T` length, frame bytes, junk, bad, short
+fn put_totals(buf: &mut [u8], at: usize, n: usize, c: Counts) -> usize
+    ensures { λ r. ⌜ r ≡ (at + length (line 0x54 (n ∷ c .framed ∷ c .junk ∷ c .bad ∷ c .short ∷ []))) % 2 ^ 64 ⌝ }
+    ensures { λ _. ⌜ now (buf .exit) ≡ laid (now (buf .entry)) at (line 0x54 (n ∷ c .framed ∷ c .junk ∷ c .bad ∷ c .short ∷ [])) ⌝ }
+{
+    text::put_line(
+        buf,
+        at,
+        0x54,
+        [
+            n as u64,
+            c.framed as u64,
+            c.junk as u64,
+            c.bad as u64,
+            c.short as u64,
+        ],
+    )
+}
+
+// The text of a capture whose frames are fed to a collator, in a buffer that may be too short for it; and its length.
+fn put_text(s: &[u8], start: Collator, buf: &mut [u8]) -> usize
+    requires { ⌜ length (textFrom (now s) start) < 2 ^ 64 ⌝ }
+    ensures { λ r. ⌜ r ≡ length (textFrom (now (s .entry)) start) ⌝ }
+    ensures { λ _. ⌜ (length (textFrom (now (s .entry)) start) ≤ length (now (buf .entry)) → now (buf .exit) ≡ sets (now (buf .entry)) 0 (textFrom (now (s .entry)) start)) ⌝ }
+{
+    let mut at = 0;
+    let mut collator = start;
+    let mut cursor = Cursor::closed();
+    loop {
+        let next = cursor.next(s);
+        match next {
+            Next::Frame(frame, rest) => {
+                let payload = frames::payload(s, frame);
+                at = put_frame(buf, at, frame, payloads::answer(frame.kind, payload));
+                let fed = collator.feed(frame.kind, frame.sender, payload);
+                at = put_told(buf, at, fed.happened);
+                collator = fed.collator;
+                cursor = rest;
+            }
+            Next::End(last) => {
+                return put_totals(buf, at, s.len(), last.counts());
+            }
+            Next::Needs(_, last) => {
+                return put_totals(buf, at, s.len(), last.counts());
+            }
+        }
+    }
+}
+
+// Whether the text has room. A buffer of eight bytes for each of the capture's and 32 more has it always.
+fn fits(s: &[u8], start: Collator, room: usize) -> bool
+    requires { ⌜ length (now s) ≤ 65536 ⌝ }
+    ensures { λ r. ⌜ r ≡ leb (length (textFrom (now (s .entry)) start)) room ⌝ }
+{
+    if s.len() * 8 + 32 <= room {
+        return true;
+    }
+    let mut nowhere = [0u8; 1];
+    put_text(s, start, &mut nowhere) <= room
+}
+
+// The listing of a capture: 11 for one over 65536 bytes, then 32.
+pub fn list(s: &[u8], buf: &mut [u8]) -> Written
+    ensures { λ w. ⌜ writtenAnswer w ≡ listAnswer (now (s .entry)) (length (now (buf .entry))) ⌝ }
+    ensures { λ _. ⌜ now (buf .exit) ≡ listed (now (s .entry)) (now (buf .entry)) ⌝ }
+{
+    if 65536 < s.len() {
+        return Written::Refused(11);
+    }
+    let start = started(s);
+    if fits(s, start, buf.len()) {
+        return Written::Bytes(put_text(s, start, buf));
+    }
+    Written::Refused(32)
+}

@@ -1,0 +1,4 @@
+pub mod Decimals
+pub mod Digits
+pub mod Pending
+pub mod Lines

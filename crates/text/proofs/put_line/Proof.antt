@@ -1,0 +1,64 @@
+-- `text::put_line` meets its contract.
+use native.Mathlib.Omega.{arith}
+use lib.ListN.{length-set}
+use Rattle.text.proofs.Lines.{line-unfit, line-fits}
+use borrow.Author.Needs.{needs}
+use Rattle.text.proofs.put_line.Statement.{statement}
+use Rattle.text.proofs.put_line.Tie as tie
+
+line-length-requires : tie.Need-line-length-requires
+line-length-requires c κs = search needs
+
+wrapping-add-usize-requires : tie.Need-wrapping-add-usize-requires
+wrapping-add-usize-requires c κs = search needs
+
+returns : tie.Need-returns
+returns c =
+    let a = c .before .before .before .before .args in
+    line-unfit (a .letter) (a .numbers) (a .buf .now) (a .at) (c .before .before .line-length .ensures) (c .before .wrapping-add-usize .ensures) (omega (arith, c .if1 .taken))
+
+sub-if2 : tie.Need-sub-if2
+sub-if2 c = search needs
+
+returns-2 : tie.Need-returns-2
+returns-2 c =
+    let a = c .before .before .before .before .before .args in
+    line-unfit (a .letter) (a .numbers) (a .buf .now) (a .at) (c .before .before .before .line-length .ensures) (c .before .before .wrapping-add-usize .ensures) (omega (arith, c .if2 .taken, c .before .if1 .left))
+
+slice-write-buf : tie.Need-slice-write-buf
+slice-write-buf c = search needs
+
+add-put-fields : tie.Need-add-put-fields
+add-put-fields c = search needs
+
+put-fields-requires : tie.Need-put-fields-requires
+put-fields-requires c κs =
+    let a = c .before .before .before .before .before .before .args in
+    omega (arith, c .before .if2 .left, c .before .before .if1 .left, c .before .before .before .before .line-length .ensures, length-set (a .buf .now) (a .at) (a .letter))
+
+same-length : tie.Need-same-length
+same-length c =
+    let a = c .before .before .before .before .before .before .before .before .before .args in
+    omega (arith, c .before .before .put-fields .kept, length-set (a .buf .now) (a .at) (a .letter))
+
+returns-3 : tie.Need-returns-3
+returns-3 c =
+    let s = c .before .before .before .before in
+    let a = s .before .before .before .before .before .args in
+    line-fits (a .letter) (a .numbers) (a .buf .now) (a .at) (s .before .before .before .line-length .ensures) (s .before .before .wrapping-add-usize .ensures)
+    (omega (arith, s .if2 .left, s .before .if1 .left)) (c .before .before .put-fields .ensures)
+
+pub put-line-spec : {M : Type 1} → statement M
+put-line-spec =
+    tie.close
+    (tie.spec
+    line-length-requires
+    wrapping-add-usize-requires
+    returns
+    sub-if2
+    returns-2
+    slice-write-buf
+    add-put-fields
+    put-fields-requires
+    same-length
+    returns-3)
