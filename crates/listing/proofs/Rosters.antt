@@ -2,13 +2,14 @@
 use mathlib.Core.Path.{_≡_, refl, sym, ap, ap₂, _∙_, subst}
 use mathlib.Core.Bool.{Bool, true, false, cond}
 use mathlib.Core.List.{List, [], _∷_, _++_}
-use Prim.Native.Nat.{ℕ, zero, suc, _+_, _^_, _≤_, _<_}
+use Prim.Native.Nat.{ℕ, zero, suc, _+_, _-_, _^_, _≤_, _<_}
 use native.Mathlib.Omega.{arith}
 use native.Mathlib.Numerals.{add-one}
 use lib.Dec.{eqb, leb, ltb}
-use lib.ListN.{length, set, take, replicate, length-append}
+use lib.ListN.{length, set, take, drop, replicate, length-take, length-append}
 use lib.Seq.{take-take, take-append-seam}
-use borrow.Author.Tests.{leb-true, leb-false, lt-ltb, le-ltb}
+use borrow.Author.Tests.{leb-true, leb-false, lt-ltb, le-ltb, le-leb, lt-leb}
+use Rattle.frames.specs.Reading.{closedSteps, framesOf}
 use Rattle.frames.specs.Cursors.{nextOf}
 use Rattle.frames.specs.Cursors as cursors
 use Rattle.frames.specs.declared.step.Frame.{Frame}
@@ -25,7 +26,7 @@ use Rattle.listing.specs.declared.rostering.Roster.{Roster}
 
 -- ---- eight places
 
-take-zeros : (m n k : ℕ) → m ≤ n → m ≤ k → take m (replicate n 0) ≡ take m (replicate k 0)
+take-zeros : (m n k : ℕ) → m ≤ n → m ≤ k → _≡_ {A = List ℕ} (take m (replicate n 0)) (take m (replicate k 0))
 take-zeros zero n k h g = refl
 take-zeros (suc m) zero k h g = absurd (omega arith)
 take-zeros (suc m) (suc n) zero h g = absurd (omega arith)
@@ -54,16 +55,18 @@ module _ (roster : List ℕ) (few : length roster ≤ 8) (sender : ℕ) where
       full true e q =
           let most = leb-true 8 (length roster) e in
           let stays : joined roster sender ≡ roster = rw (q, le-ltb (length roster) 8 most) in
-          (at-seat (seat-unlisted roster sender 0 q) ∙ rw e ∙ ap held (sym stays), omega (arith, ap length stays))
+          let kept : seatedIn Nowhere (held roster) sender ≡ held roster = rw e in
+          (at-seat (seat-unlisted roster sender 0 q) ∙ kept ∙ ap held (sym stays), omega (arith, ap length stays))
       full false e q =
           let room = leb-false 8 (length roster) e in
           let grows : joined roster sender ≡ roster ++ sender ∷ [] = rw (q, lt-ltb (length roster) 8 room) in
-          let size : length (roster ++ sender ∷ []) ≡ length roster + 1 = length-append roster (sender ∷ []) in (
+          let size : length (roster ++ sender ∷ []) ≡ length roster + 1 = length-append roster (sender ∷ []) in
+          let taken : seatedIn Nowhere (held roster) sender ≡ record { senders = set (held roster .senders) (length roster) sender; count = length roster + 1 } = rw e in (
             at-seat (seat-unlisted roster sender 0 q)
-                ∙ rw e
+                ∙ taken
                 ∙ ap₂ {C = Roster} (λ (ss : List ℕ) (n : ℕ). record { senders = ss; count = n }) (one-more roster 8 8 sender room (omega arith)) (sym size)
                 ∙ ap held (sym grows),
-            omega (arith, ap length grows),
+            omega (arith, size, ap length grows),
           )
 
       by : (t : Bool) → names roster sender ≡ t → (joinedTo (held roster) sender ≡ held (joined roster sender)) × (length (joined roster sender) ≤ 8)
@@ -72,12 +75,49 @@ module _ (roster : List ℕ) (few : length roster ≤ 8) (sender : ℕ) where
           (at-seat (seat-listed roster sender 0 q .1) ∙ ap held (sym stays), omega (arith, ap length stays))
       by false q = full (leb 8 (length roster)) refl q
 
+-- the three ways through `joined`
+module _ (r : Roster) (sender : ℕ) {x : Seat} (e : x ≡ seatOf (take (r .count) (r .senders)) sender 0) where
+  pub joined-listed : {i : ℕ} → x ≡ At i → r ≡ joinedTo r sender
+  joined-listed q = ap (λ (x : Seat). seatedIn x r sender) (sym q ∙ e)
+
+  pub joined-full : x ≡ Nowhere → 8 ≤ r .count → r ≡ joinedTo r sender
+  joined-full q h = let kept : seatedIn Nowhere r sender ≡ r = rw (le-leb 8 (r .count) h) in sym kept ∙ ap (λ (x : Seat). seatedIn x r sender) (sym q ∙ e)
+
+  pub joined-last : x ≡ Nowhere → r .count < 8 → record { senders = set (r .senders) (r .count) sender; count = r .count + 1 } ≡ joinedTo r sender
+  joined-last q h =
+      let taken : seatedIn Nowhere r sender ≡ record { senders = set (r .senders) (r .count) sender; count = r .count + 1 } = rw (lt-leb 8 (r .count) h) in
+      sym taken ∙ ap (λ (x : Seat). seatedIn x r sender) (sym q ∙ e)
+
 pub held-enlisted : (roster : List ℕ) → length roster ≤ 8 → (f : Frame) → (enlistedTo (held roster) f ≡ held (enlisted roster f)) × (length (enlisted roster f) ≤ 8)
 held-enlisted roster few f = by (eqb (f .kind) obsKind)
   where
     by : (t : Bool) → (cond t (joinedTo (held roster) (f .sender)) (held roster) ≡ held (cond t (joined roster (f .sender)) roster)) × (length (cond t (joined roster (f .sender)) roster) ≤ 8)
     by true = held-joined roster few (f .sender)
     by false = (refl, few)
+
+-- a roster has at most eight senders
+few-enlisted : (fs : List Frame) (roster : List ℕ) → length roster ≤ 8 → length (enlistedAll roster fs) ≤ 8
+unfolding enlistedAll
+few-enlisted [] roster few = few
+few-enlisted (f ∷ fs) roster few = few-enlisted fs (enlisted roster f) (held-enlisted roster few f .1)
+
+pub roster-few : (s : List ℕ) → length (rosterIn s) ≤ 8
+unfolding rosterIn
+roster-few s = few-enlisted (framesOf (closedSteps s)) [] (omega arith)
+
+-- and it is the part of eight places that is taken
+module _ (s : List ℕ) {r : Roster} (e : r ≡ held (rosterIn s)) where
+  pub taken-fits : r .count ≤ length (r .senders)
+  taken-fits =
+      let eight = length-take 8 (rosterIn s ++ replicate 8 0) in
+      let long = length-append (rosterIn s) (replicate 8 0) in
+      let all : length (r .senders) ≡ 8 = ap (λ (r : Roster). length (r .senders)) e ∙ eight ∙ omega (arith, long) in
+      omega (arith, ap (λ (r : Roster). r .count) e, roster-few s, all)
+
+  pub taken-part : take (r .count - 0) (drop 0 (r .senders)) ≡ rosterIn s
+  taken-part =
+      let all : length (rosterIn s) - 0 ≡ length (rosterIn s) = omega arith in
+      ap (λ (r : Roster). take (r .count - 0) (drop 0 (r .senders))) e ∙ ap (λ (n : ℕ). take n (held (rosterIn s) .senders)) all ∙ held-list (rosterIn s) (roster-few s)
 
 -- ---- what the loop of `roster_in` keeps
 

@@ -19,11 +19,14 @@ use Rattle.frames.specs.declared.cursor.Cursor.{Cursor}
 use Rattle.frames.specs.declared.cursor.Next as Next
 use Rattle.frames.proofs.Walks.{Walking, left, walking-begun, walking-on, walking-end, end-counts}
 use Rattle.payloads.specs.Table.{answerFor}
+use Rattle.epochs.specs.Collator.{made}
 use Rattle.epochs.specs.Epoch.{fedItem, itemIn}
 use Rattle.epochs.specs.declared.collating.Collator.{Collator}
 use Rattle.epochs.specs.declared.collating.Fed.{Fed}
+use Rattle.epochs.specs.declared.collating.Happened.{Happened}
 use Rattle.text.specs.Line.{line, laid}
 use Rattle.text.proofs.Pending.{Pending, pending-begun, pending-laid, pending-done, pending-last}
+use Rattle.listing.specs.Roster.{rosterIn}
 use Rattle.listing.specs.Listing.{frameLine, totalsLine, told, framesText, textFrom, textOf, listAnswer, listedAs, listed}
 
 -- ---- line by line
@@ -90,6 +93,22 @@ module _ (s : List ℕ) (start : Collator) (buf : List ℕ) where
         let all = subst (λ (x : Counts). Left now at (summed x)) (sym counts) (walking-end s small w e .pending) in
         pending-done (pending-laid (summed k) [] (pending-last (summed k) all) short room stored place)
 
+laid-nothing : (buf : List ℕ) (at : ℕ) → laid buf at [] ≡ buf
+unfolding laid
+laid-nothing buf at = either (leb (at + 0) (length buf))
+  where
+    either : (t : Bool) → cond t buf buf ≡ buf
+    either true = refl
+    either false = refl
+
+-- nothing is put where no epoch is told
+pub tells-nothing : (buf : List ℕ) (at : ℕ) (h : Happened) → at < 2 ^ 64 → told h ≡ [] → (at ≡ (at + length (told h)) % 2 ^ 64) × (buf ≡ laid buf at (told h))
+tells-nothing buf at h small e = (omega (arith, small, ap length e), sym (ap (laid buf at) e ∙ laid-nothing buf at))
+
+pub tells : (buf : List ℕ) (at : ℕ) {to : ℕ} {after : List ℕ} {h k : Happened} → h ≡ k → to ≡ (at + length (told k)) % 2 ^ 64 → after ≡ laid buf at (told k)
+    → (to ≡ (at + length (told h)) % 2 ^ 64) × (after ≡ laid buf at (told h))
+tells buf at e q r = (q ∙ ap (λ (h : Happened). (at + length (told h)) % 2 ^ 64) (sym e), r ∙ ap (λ (h : Happened). laid buf at (told h)) (sym e))
+
 -- ---- what `list` answers
 
 module _ (s buf : List ℕ) where
@@ -126,3 +145,19 @@ module _ (s buf : List ℕ) where
         stored =
             let zero-more : 0 + length (textOf s) ≡ length (textOf s) = omega arith in
             sets-eq (textOf s) buf 0 (omega (arith, leb-true (length (textOf s)) (length buf) e)) ∙ ap (λ (n : ℕ). textOf s ++ drop n buf) zero-more
+
+    -- the same of the collator that was started
+    module _ {start : Collator} (begun : start ≡ made (rosterIn s) .collator) where
+      same : textFrom s start ≡ textOf s
+      same = ap (textFrom s) begun
+
+      pub started-no-room : {t : Bool} → t ≡ leb (length (textFrom s start)) (length buf) → t ≡ false → Listed (refused 32) buf
+      started-no-room e q = no-room (ap (λ (text : List ℕ). leb (length text) (length buf)) (sym same) ∙ sym e ∙ q)
+
+      pub started-listed : {t : Bool} {n : ℕ} {after : List ℕ} → t ≡ leb (length (textFrom s start)) (length buf) → t ≡ true → n ≡ length (textFrom s start)
+          → (length (textFrom s start) ≤ length buf → after ≡ sets buf 0 (textFrom s start)) → Listed (given n) after
+      started-listed {n = n} {after} e q size stored =
+          let fits = sym e ∙ q in
+          let put = stored (leb-true (length (textFrom s start)) (length buf) fits) ∙ ap (sets buf 0) same in
+          let whole = all-listed (ap (λ (text : List ℕ). leb (length text) (length buf)) (sym same) ∙ fits) put in
+          subst (λ (k : ℕ). Listed (given k) after) (sym (size ∙ ap length same)) whole

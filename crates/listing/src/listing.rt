@@ -96,15 +96,16 @@ fn put_text(s: &[u8], start: Collator, buf: &mut [u8]) -> usize
                 let payload = frames::payload(s, frame);
                 at = put_frame(buf, at, frame, payloads::answer(frame.kind, payload));
                 let fed = collator.feed(frame.kind, frame.sender, payload);
-                at = put_told(buf, at, fed.happened);
+                let happened = fed.happened;
+                at = put_told(buf, at, happened);
                 collator = fed.collator;
                 cursor = rest;
             }
             Next::End(last) => {
                 return put_totals(buf, at, s.len(), last.counts());
             }
-            Next::Needs(_, last) => {
-                return put_totals(buf, at, s.len(), last.counts());
+            Next::Needs(_, _) => {
+                return at;
             }
         }
     }

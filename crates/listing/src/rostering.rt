@@ -19,17 +19,18 @@ fn joined(roster: Roster, sender: u16) -> Roster
     ensures { λ r. ⌜ r ≡ joinedTo roster sender ⌝ }
 {
     let senders = roster.senders;
-    let Seat::Nowhere = epochs::seat_of(senders, roster.count, sender) else {
+    let count = roster.count;
+    let Seat::Nowhere = epochs::seat_of(senders, count, sender) else {
         return roster;
     };
-    if 8 <= roster.count {
+    if 8 <= count {
         return roster;
     }
     let mut more = senders;
-    more[roster.count] = sender;
+    more[count] = sender;
     Roster {
         senders: more,
-        count: roster.count + 1,
+        count: count + 1,
     }
 }
 
@@ -74,6 +75,7 @@ pub fn started(s: &[u8]) -> Collator
 {
     let roster = roster_in(s);
     let senders = roster.senders;
-    let made = Collator::made(&senders[0..roster.count]);
+    let count = roster.count;
+    let made = Collator::made(&senders[0..count]);
     made.collator
 }

@@ -1,0 +1,46 @@
+-- `listing::rostering::joined` meets its contract.
+use Rattle.listing.proofs.Rosters.{joined-listed, joined-full, joined-last}
+use borrow.Author.Needs.{needs}
+use Rattle.listing.proofs.rostering.joined.Statement.{statement}
+use Rattle.listing.proofs.rostering.joined.Tie as tie
+
+seat-of-requires : tie.Need-seat-of-requires
+seat-of-requires c κs = search needs
+
+enum-told : tie.Need-enum-told
+enum-told c = search needs
+
+enum-told-2 : tie.Need-enum-told-2
+enum-told-2 c = search needs
+
+returns : tie.Need-returns
+returns c = let a = c .before .before .before .before .args in joined-listed (a .roster) (a .sender) (c .before .before .seat-of .ensures) (c .enum-told2 .given .1)
+
+returns-2 : tie.Need-returns-2
+returns-2 c = let a = c .before .before .before .before .before .args in joined-full (a .roster) (a .sender) (c .before .before .before .seat-of .ensures) (c .before .enum-told .given .1) (c .if1 .taken)
+
+mul-more : tie.Need-mul-more
+mul-more c = search needs
+
+array-write-more : tie.Need-array-write-more
+array-write-more c = search needs
+
+add-t8 : tie.Need-add-t8
+add-t8 c = search needs
+
+returns-3 : tie.Need-returns-3
+returns-3 c = let a = c .before .before .before .before .before .args in joined-last (a .roster) (a .sender) (c .before .before .before .seat-of .ensures) (c .before .enum-told .given .1) (c .if1 .left)
+
+pub joined-spec : {M : Type 1} → statement M
+joined-spec =
+    tie.close
+    (tie.spec
+    seat-of-requires
+    enum-told
+    enum-told-2
+    returns
+    returns-2
+    mul-more
+    array-write-more
+    add-t8
+    returns-3)
