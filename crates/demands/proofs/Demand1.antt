@@ -1,0 +1,118 @@
+-- Demand 1: "Take in arbitrary input and always come to an end. No entry point trusts its caller: a roster, payload, index or buffer that
+-- doesn't fit is refused by number, and a refusal writes nothing and moves no state." Each public function's proved contract says that it ends
+-- on all inputs, and none has a `requires`; that calls of `next` stop is in demand 2 (`handed-out`). Here is what calls answer and what a refusal
+-- leaves: the statement first, then its proof, all of it citations. Assumes nothing.
+use mathlib.Core.Path.{_≡_, refl, ap}
+use mathlib.Core.List.{List, []}
+use mathlib.Core.Logic.{_↔_, _⊎_}
+use Prim.Native.Nat.{ℕ, _+_, _*_}
+use lib.IntN.{ℤ}
+use lib.ListN.{length}
+use Rattle.wire.specs.Field.{size, decode}
+use Rattle.wire.specs.Message.{given, refused, Message, readAs}
+use Rattle.frames.specs.Writer.{planned, framed}
+use Rattle.frames.specs.Message.{writeAnswer, writtenAs}
+use Rattle.frames.proofs.Written.{framed-unfit}
+use Rattle.observation.specs.Obs.{entryAt, readEntry, obsIn, readObs}
+use Rattle.observation.specs.ObsWriter.{obsWriteAnswer, obsWritten}
+use Rattle.observation.specs.Phase.{partsOf, readPhase}
+use Rattle.observation.specs.declared.entry.Observation.{Observation}
+use Rattle.observation.specs.declared.obs.Obs.{Obs}
+use Rattle.system.specs.Log.{logIn, readLog}
+use Rattle.payloads.specs.Table.{table, readFor}
+use Rattle.epochs.specs.Collator.{acted, rosterOf, fed, fresh, made}
+use Rattle.epochs.specs.Epoch.{Item, fedItem, after}
+use Rattle.epochs.specs.Capture.{begun, collated}
+use Rattle.epochs.specs.declared.collating.Collator.{Collator}
+use Rattle.epochs.specs.declared.collating.Happened.the-variants as H
+use Rattle.epochs.proofs.Feeding.{refused-keeps}
+use Rattle.epochs.proofs.Captures.{collated-refused}
+use Rattle.demands.specs.Order.{Tests, ordered, FirstFails, AllPass, lineFor, readingAny, reading, readingObs, readingLog, oneObservation, writingBytes, writing, writingObs, phaseRange, rostering, asMade, feeding, forPlace, asJudged}
+use Rattle.demands.proofs.Order.{exactly-first, exactly-all, looks-up-ordered, reads-ordered, reads-obs-ordered, reads-log-ordered, reads-entry-ordered, plans-ordered, writes-ordered, writes-obs-ordered, phase-ordered, made-ordered, judged-ordered}
+use Rattle.demands.proofs.Refused.{record-unwritten, obs-unwritten, nobody-listed}
+
+-- "a roster, payload, index or buffer that doesn't fit is refused by number"
+pub record RefusedByNumber : Type 1 where
+  -- a call with its cases in order is refused exactly when one of them holds, by the first; else it gives what was asked for
+  pub in-order : (A : Type 0) (x : A) (ts : Tests)
+      → ((n : ℕ) → (ordered ts x ≡ refused n) ↔ FirstFails ts n)
+      × ((y : A) → (ordered ts x ≡ given y) ↔ (AllPass ts × (x ≡ y)))
+  -- a payload of any type: 21, 22, 23; and by the reader of its own type
+  pub payload : (kind : ℕ) (s : List ℕ) → readFor kind s ≡ ordered (readingAny table kind s) (lineFor table kind .holds s)
+  pub record-payload : (R : Type 0) (m : Message R) (s : List ℕ) → readAs m s ≡ ordered (reading m s) (m .make (decode (m .fields) s 0))
+  pub obs-payload : (s : List ℕ) → readObs s ≡ ordered (readingObs s) (obsIn s)
+  pub log-payload : (s : List ℕ) → readLog s ≡ ordered (readingLog s) (logIn s)
+  -- an index: 22, 25
+  pub index : (s : List ℕ) (i : ℕ) → readEntry s i ≡ ordered (oneObservation s i) (entryAt s i)
+  -- a buffer: 23, 31, 32; for a record, for OBS, and for any bytes (a raw frame, and LOG)
+  pub record-buffer : (R : Type 0) (m : Message R) (r : R) (room : ℕ) → writeAnswer m r room ≡ ordered (writing m r room) (size (m .fields) + 8)
+  pub obs-buffer : (o : Obs) (room : ℕ) → obsWriteAnswer o room ≡ ordered (writingObs o room) (7 + o .count * 16 + 8)
+  pub bytes-buffer : (n room : ℕ) → planned n room ≡ ordered (writingBytes n room) (n + 8)
+  -- a carrier phase: 33
+  pub phase : (z : ℤ) → readPhase z ≡ ordered (phaseRange z) (partsOf z)
+  -- a roster: 41, 42
+  pub roster : (roster : List ℕ) → made roster ≡ asMade (ordered (rostering roster) (fresh roster))
+  -- a frame: 46, 22, 43, 44, 45, whatever the collator
+  pub frame : (c : Collator) (kind sender : ℕ) (payload : List ℕ)
+      → fed c kind sender payload ≡ acted c sender (asJudged (ordered (feeding (rosterOf c) kind sender payload) (forPlace (rosterOf c) sender payload)))
+
+-- "and a refusal writes nothing"
+pub record WritesNothing : Type 1 where
+  pub refused-record : (R : Type 0) (m : Message R) (sender : ℕ) (r : R) (buf : List ℕ) (n : ℕ)
+      → writeAnswer m r (length buf) ≡ refused n → writtenAs m sender r buf ≡ buf
+  -- the writer takes fifteen observations
+  pub refused-obs : (sender : ℕ) (o : Obs) (entries : List Observation) (buf : List ℕ) (n : ℕ)
+      → length entries ≡ 15 → obsWriteAnswer o (length buf) ≡ refused n → obsWritten sender o entries buf ≡ buf
+  -- a raw frame, and LOG
+  pub refused-bytes : (kind sender : ℕ) (payload buf : List ℕ) (n : ℕ)
+      → planned (length payload) (length buf) ≡ refused n → framed kind sender payload buf ≡ buf
+
+-- "and moves no state"
+pub record MovesNoState : Type 0 where
+  pub refused-frame : (c : Collator) (kind sender : ℕ) (payload : List ℕ) (n : ℕ)
+      → fed c kind sender payload .happened ≡ H.Refused n → fed c kind sender payload .collator ≡ c
+  -- a refused roster makes a collator that refuses every frame and never moves; a whole capture is not fed to it
+  pub refused-roster : (roster : List ℕ) → (made roster .number ≡ 0 → ⊥) → (xs : List Item) (x : Item)
+      → (n : ℕ) × ((n ≡ 46) ⊎ (n ≡ 22) ⊎ (n ≡ 43)) × (fedItem (after (made roster .collator) xs) x ≡ record { collator = fresh []; happened = H.Refused n })
+  pub refused-capture : (s roster : List ℕ) → (made roster .number ≡ 0 → ⊥) → begun (made roster) ≡ collated s roster
+
+pub record Demand1 : Type 1 where
+  pub refused-by-number : RefusedByNumber
+  pub writes-nothing : WritesNothing
+  pub moves-no-state : MovesNoState
+
+-- ---- the proof
+
+refused-by-number : RefusedByNumber
+unfolding fed
+refused-by-number = record {
+  in-order = λ A x ts. (exactly-first x ts, exactly-all x ts);
+  payload = looks-up-ordered table;
+  record-payload = λ R m. reads-ordered m;
+  obs-payload = reads-obs-ordered;
+  log-payload = reads-log-ordered;
+  index = reads-entry-ordered;
+  record-buffer = λ R m. writes-ordered m;
+  obs-buffer = writes-obs-ordered;
+  bytes-buffer = plans-ordered;
+  phase = phase-ordered;
+  roster = made-ordered;
+  frame = λ c kind sender payload. ap (acted c sender) (judged-ordered (rosterOf c) kind sender payload);
+}
+
+writes-nothing : WritesNothing
+writes-nothing = record {
+  refused-record = λ R m sender r buf n e. record-unwritten m sender r buf e;
+  refused-obs = λ sender o entries buf n fifteen e. obs-unwritten sender o entries buf fifteen e;
+  refused-bytes = λ kind sender payload buf n e. framed-unfit kind sender payload buf e;
+}
+
+moves-no-state : MovesNoState
+moves-no-state = record {
+  refused-frame = λ c kind sender payload n e. refused-keeps c kind sender payload e;
+  refused-roster = nobody-listed;
+  refused-capture = λ s roster refuses. collated-refused s roster refl refuses;
+}
+
+pub demand-1 : Demand1
+demand-1 = record { refused-by-number = refused-by-number; writes-nothing = writes-nothing; moves-no-state = moves-no-state }

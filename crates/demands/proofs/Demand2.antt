@@ -1,0 +1,240 @@
+-- Demand 2: "Equal to the published protocol, reading and writing. The frames found are exactly those that specification 1.1 and our written
+-- resume rule give; every byte of a complete capture is in one frame or counted as passed over under one reason; a record written reads back
+-- bit for bit; an accepted payload written again gives the same bytes; an epoch is reported exactly when its packets stand as document 01 says,
+-- once each." The statement first, sentence by sentence; then its proof, all of it citations. Assumes nothing.
+use mathlib.Core.Path.{_≡_, sym, ap, _∙_, subst}
+use mathlib.Core.Bool.{Bool}
+use mathlib.Core.List.{List, [], _++_, map}
+use mathlib.Core.Logic.{_↔_}
+use Prim.Native.Nat.{ℕ, _+_, _^_, _≤_, _<_}
+use lib.ListN.{length, getD, take, drop}
+use lib.IntN.{ℤ}
+use Rattle.wire.specs.Number.{Bytes}
+use Rattle.wire.specs.Field.{HeldRow}
+use Rattle.wire.specs.Message.{given, readAs}
+use Rattle.wire.specs.Message as wire
+use Rattle.frames.specs.Frame.{frameBytes, Outgoing, Sendable, AllSendable, frameOf, stream}
+use Rattle.frames.specs.Step.{stepAt, payloadIn}
+use Rattle.frames.specs.Reading.{Placed, closedSteps, openSteps, Tiled, holding, beforeShort, framesOf, countsOf, sumOf}
+use Rattle.frames.specs.Writer.{planned, framed, asRead, foundFrom}
+use Rattle.frames.specs.Message.{Faithful}
+use Rattle.frames.specs.declared.step.Frame.{Frame}
+use Rattle.frames.specs.declared.step.Step.{Step}
+use Rattle.frames.specs.declared.step.Step.the-variants.{Found}
+use Rattle.frames.proofs.Steps.{Line, decides, line}
+use Rattle.frames.proofs.Frames.{found-bytes}
+use Rattle.frames.proofs.Tiling.{closed-tiled, only-closed, open-closed, each-once, adds-up}
+use Rattle.frames.proofs.WrittenRead.{reads-back-at}
+use Rattle.frames.proofs.WrittenStream.{closed-stream, stream-payloads}
+use Rattle.navigation.specs.Dops.{dops}
+use Rattle.navigation.specs.Ecef.{baselineEcef, velEcef}
+use Rattle.navigation.specs.GpsTime.{gpsTime}
+use Rattle.navigation.specs.Heading.{baselineHeading}
+use Rattle.navigation.specs.Ned.{baselineNed, velNed}
+use Rattle.navigation.specs.PosEcef.{posEcef}
+use Rattle.navigation.specs.PosLlh.{posLlh}
+use Rattle.navigation.proofs.Promises as navigation
+use Rattle.observation.specs.BasePosEcef.{basePosEcef}
+use Rattle.observation.specs.BasePosLlh.{basePosLlh}
+use Rattle.observation.specs.Layout.{first}
+use Rattle.observation.specs.Obs.{head, observation, readObs, readEntry, entriesFrom}
+use Rattle.observation.specs.ObsWriter.{headOf, payloadFor, obsWriteAnswer, obsWritten}
+use Rattle.observation.specs.Phase.{phaseOf, partsOf}
+use Rattle.observation.specs.declared.entry.Observation.{Observation}
+use Rattle.observation.specs.declared.obs.Obs.{Obs}
+use Rattle.observation.specs.declared.phase.Phase.{Phase}
+use Rattle.observation.proofs.Promises as observations
+use Rattle.observation.proofs.ObsThrough.{obs-found, obs-back, entry-back}
+use Rattle.observation.proofs.Phases.{phase-parts, parts-phase}
+use Rattle.system.specs.Empty.{settingsSave, readByIndexDone}
+use Rattle.system.specs.Heartbeat.{heartbeat}
+use Rattle.system.specs.Log.{logKind, readLog, logPayload, textIn}
+use Rattle.system.specs.ReadByIndexReq.{readByIndexReq}
+use Rattle.system.specs.Startup.{startup}
+use Rattle.system.specs.declared.log.Log.{Log}
+use Rattle.system.proofs.Promises as system
+use Rattle.system.proofs.Logs.{log-found, log-back, text-back}
+use Rattle.payloads.specs.declared.Message.{Message}
+use Rattle.payloads.specs.declared.Message.the-variants as M
+use Rattle.payloads.proofs.Lines.{Typed}
+use Rattle.payloads.proofs.Answers as answers
+use Rattle.epochs.specs.Collator.{made}
+use Rattle.epochs.specs.Epoch.{EpochEnds, InWords, Item, fedItem, after, reports, reportsOf, EndsEpoch, itemsOf}
+use Rattle.epochs.specs.Capture.{collated}
+use Rattle.epochs.specs.declared.judging.Packet.{Packet}
+use Rattle.epochs.specs.declared.collating.Report.{Report}
+use Rattle.epochs.specs.declared.collating.Happened.the-variants as H
+use Rattle.epochs.proofs.Runs as runs
+use Rattle.epochs.proofs.Collations.{epoch-told, epoch-small}
+use Rattle.epochs.proofs.Captures.{collated-counts}
+use Rattle.demands.specs.Handed.{Handed}
+use Rattle.demands.specs.Reported.{Epochs}
+use Rattle.demands.proofs.Again as again
+use Rattle.demands.proofs.Handed as handed
+use Rattle.demands.proofs.Reported.{reported, only-reported, one-epoch}
+
+-- a message keeps its promise, and under the number by which it is written its own reader reads it
+abbrev pub Promised : {R : Type 0} → wire.Message R → (R → Message) → Type 0
+Promised m name = Faithful m × Typed (m .kind) name (readAs m)
+
+-- the frames that OBS and LOG are written as
+abbrev pub obsFrame : ℕ → Obs → List Observation → Frame
+obsFrame sender o entries = record { at = 0; kind = first .kind; sender = sender; length = length (payloadFor o entries) }
+
+abbrev pub logFrame : ℕ → ℕ → List ℕ → Frame
+logFrame sender level text = record { at = 0; kind = logKind; sender = sender; length = length (logPayload level text) }
+
+-- "The frames found are exactly those that specification 1.1 and our written resume rule give"
+pub record FramesFound : Type 0 where
+  -- at every position the first of the five lines that holds decides
+  pub five-lines : (s : List ℕ) (p : ℕ) (x : Step) → (stepAt s p ≡ x) ↔ Line s p x
+  -- closed reading goes from 0 to the end by the capture's own steps, each from where the one before ended, and no other steps do
+  pub closed-reading : (s : List ℕ) (xs : List Placed) → Tiled s 0 (length s) xs ↔ (xs ≡ closedSteps s)
+  -- open reading is the same up to the first short
+  pub open-reading : (s : List ℕ) → openSteps s ≡ beforeShort (closedSteps s)
+  -- calls of `next` hand out the frames of those steps in order, and stop with the counts of these steps
+  pub handed-out : (growing : Bool) (s : List ℕ) → length s < 2 ^ 64 → Handed growing s
+  -- a frame that is found has specification 1.1's form, and what has that form is found where a reading comes to it
+  pub found-formed : (s : List ℕ) (p : ℕ) (f : Frame) → Bytes s → stepAt s p ≡ Found f
+      → take (f .length + 8) (drop p s) ≡ frameBytes (f .kind) (f .sender) (payloadIn s f)
+  pub formed-found : (m : Outgoing) (before rest : List ℕ) → Sendable m → stepAt (before ++ (frameOf m ++ rest)) (length before) ≡ Found (asRead (length before) m)
+  -- frames written one after the other read back as these frames, with these payloads
+  pub written-found : (ms : List Outgoing) → AllSendable ms
+      → (closedSteps (stream ms) ≡ foundFrom 0 ms)
+      × (map (payloadIn (stream ms)) (framesOf (closedSteps (stream ms))) ≡ map (λ (m : Outgoing). m .payload) ms)
+
+-- "every byte of a complete capture is in one frame or counted as passed over under one reason"
+pub record EveryByteCounted : Type 0 where
+  pub every-byte-once : (s : List ℕ) (i : ℕ) → i < length s → holding i (closedSteps s) ≡ 1
+  pub counts-add-up : (s : List ℕ) → sumOf (countsOf (closedSteps s)) ≡ length s
+
+-- "a record written reads back bit for bit; an accepted payload written again gives the same bytes"
+pub record ReadAndWritten : Type 0 where
+  -- every message with fields of its own or none: `Faithful` says both
+  pub messages :
+      Promised gpsTime (λ r. M.GpsTime r)
+      × Promised dops (λ r. M.Dops r)
+      × Promised posEcef (λ r. M.PosEcef r)
+      × Promised posLlh (λ r. M.PosLlh r)
+      × Promised baselineEcef (λ r. M.BaselineEcef r)
+      × Promised velEcef (λ r. M.VelEcef r)
+      × Promised baselineNed (λ r. M.BaselineNed r)
+      × Promised velNed (λ r. M.VelNed r)
+      × Promised baselineHeading (λ r. M.BaselineHeading r)
+      × Promised basePosLlh (λ r. M.BasePosLlh r)
+      × Promised basePosEcef (λ r. M.BasePosEcef r)
+      × Promised settingsSave (λ r. M.SettingsSave)
+      × Promised readByIndexDone (λ r. M.ReadByIndexDone)
+      × Promised readByIndexReq (λ r. M.ReadByIndexReq r)
+      × Promised startup (λ r. M.Startup r)
+      × Promised heartbeat (λ r. M.Heartbeat r)
+  -- OBS, and LOG
+  pub obs-read : Typed (first .kind) (λ r. M.Obs r) readObs
+  pub obs-reads-back : (sender : ℕ) (o : Obs) (entries : List Observation) (buf : List ℕ) (n : ℕ)
+      → sender < 65536 → o .count ≤ length entries → HeldRow (head .fields) (head .row (headOf o)) → obsWriteAnswer o (length buf) ≡ given n
+      → (stepAt (obsWritten sender o entries buf) 0 ≡ Found (obsFrame sender o entries))
+      × (readObs (payloadIn (obsWritten sender o entries buf) (obsFrame sender o entries)) ≡ given o)
+      × ((i : ℕ) (d : Observation) → i < o .count → HeldRow (observation .fields) (observation .row (getD entries i d))
+      → readEntry (payloadIn (obsWritten sender o entries buf) (obsFrame sender o entries)) i ≡ given (getD entries i d))
+  pub obs-again : (sender : ℕ) (r : Obs) (buf s : List ℕ) → Bytes s → readObs s ≡ given r
+      → obsWritten sender r (entriesFrom (r .count) 0 s) buf ≡ framed (first .kind) sender s buf
+  pub log-read : Typed logKind (λ r. M.Log r) readLog
+  pub log-reads-back : (sender level : ℕ) (text buf : List ℕ) (n : ℕ)
+      → sender < 65536 → planned (length (logPayload level text)) (length buf) ≡ given n
+      → (stepAt (framed logKind sender (logPayload level text) buf) 0 ≡ Found (logFrame sender level text))
+      × (readLog (payloadIn (framed logKind sender (logPayload level text) buf) (logFrame sender level text)) ≡ given (record { level = level; length = length text }))
+      × (textIn (payloadIn (framed logKind sender (logPayload level text) buf) (logFrame sender level text)) ≡ text)
+  pub log-again : (sender : ℕ) (r : Log) (buf s : List ℕ) → readLog s ≡ given r
+      → framed logKind sender (logPayload (r .level) (textIn s)) buf ≡ framed logKind sender s buf
+  -- the carrier phase has one pair, which gives it back
+  pub phase : ((z : ℤ) → phaseOf (partsOf z) ≡ z) × ((p : Phase) → p .«l_f» < 256 → partsOf (phaseOf p) ≡ p)
+
+-- "an epoch is reported exactly when its packets stand as document 01 says, once each"
+pub record EpochsReported : Type 0 where
+  -- after any frames, feeding one more reports an epoch exactly when that frame ends it
+  pub reported-exactly : (roster : List ℕ) → made roster .number ≡ 0 → (xs : List Item) (x : Item) (e : Report)
+      → (fedItem (after (made roster .collator) xs) x .happened ≡ H.Epoch e) ↔ EndsEpoch roster xs x e
+  -- which is, packet by packet, what document 01 says
+  pub in-words : (p : Packet) (past : List Packet) (total : ℕ) → 1 ≤ p .key .n → EpochEnds p past total ↔ InWords p past total
+  -- once each: a frame ends one epoch at most
+  pub one-at-most : (roster : List ℕ) → made roster .number ≡ 0 → (xs : List Item) (x : Item) (d e : Report)
+      → EndsEpoch roster xs x d → EndsEpoch roster xs x e → d ≡ e
+  -- "and the sum of k (at most 225)", of payloads that are bytes
+  pub at-most-225 : (roster : List ℕ) → made roster .number ≡ 0 → (xs : List Item) (x : Item) (e : Report) → Bytes (x .payload)
+      → fedItem (after (made roster .collator) xs) x .happened ≡ H.Epoch e → e .observations ≤ 225
+  -- a whole capture, read closed and fed in order to a fresh collator: its epochs are what is reported, each once and in order
+  pub capture-reported : (roster : List ℕ) → made roster .number ≡ 0 → (s : List ℕ) (es : List Report)
+      → Epochs roster [] (itemsOf s) es ↔ (es ≡ reports (made roster .collator) (itemsOf s))
+  -- `collate` counts them by place
+  pub capture-counted : (roster : List ℕ) → made roster .number ≡ 0 → (s : List ℕ) (es : List Report) → length s < 2 ^ 64 → Epochs roster [] (itemsOf s) es
+      → (i : ℕ) → i < length roster → getD (collated s roster .reports) i 0 ≡ length (reportsOf (getD roster i 0) es)
+
+pub record Demand2 : Type 0 where
+  pub frames-found : FramesFound
+  pub every-byte-counted : EveryByteCounted
+  pub read-and-written : ReadAndWritten
+  pub epochs-reported : EpochsReported
+
+-- ---- the proof
+
+frames-found : FramesFound
+frames-found = record {
+  five-lines = λ s p x. (λ e. subst (Line s p) e (line s p), λ l. sym (decides s p l));
+  closed-reading = λ s xs. (only-closed s, λ e. subst (Tiled s 0 (length s)) (sym e) (closed-tiled s));
+  open-reading = open-closed;
+  handed-out = handed.handed-out;
+  found-formed = λ s p f bytes e. found-bytes s p e bytes;
+  formed-found = λ m before rest h. reads-back-at (m .kind) (m .sender) (m .payload) rest (h .0) (h .1) (h .2) before;
+  written-found = λ ms h. (closed-stream ms h, stream-payloads ms h);
+}
+
+every-byte-counted : EveryByteCounted
+every-byte-counted = record { every-byte-once = each-once; counts-add-up = adds-up }
+
+read-and-written : ReadAndWritten
+read-and-written = record {
+  messages = (
+    (navigation.gps-time, answers.gps-time),
+    (navigation.dilutions, answers.dilutions),
+    (navigation.pos-ecef, answers.pos-ecef),
+    (navigation.pos-llh, answers.pos-llh),
+    (navigation.baseline-ecef, answers.baseline-ecef),
+    (navigation.vel-ecef, answers.vel-ecef),
+    (navigation.baseline-ned, answers.baseline-ned),
+    (navigation.vel-ned, answers.vel-ned),
+    (navigation.baseline-heading, answers.baseline-heading),
+    (observations.base-pos-llh, answers.base-pos-llh),
+    (observations.base-pos-ecef, answers.base-pos-ecef),
+    (system.settings-save, answers.settings-save),
+    (system.read-by-index-done, answers.read-by-index-done),
+    (system.read-by-index-req, answers.read-by-index-req),
+    (system.start-up, answers.start-up),
+    (system.heart-beat, answers.heart-beat),
+  );
+  obs-read = answers.obs;
+  obs-reads-back = λ sender o entries buf n s enough held g. (
+    obs-found sender o entries buf enough g s,
+    obs-back sender o entries buf enough g s held,
+    entry-back sender o entries buf enough g s,
+  );
+  obs-again = again.obs-again;
+  log-read = answers.log;
+  log-reads-back = λ sender level text buf n s g. (log-found sender level text buf s g, log-back sender level text buf s g, text-back sender level text buf s g);
+  log-again = again.log-again;
+  phase = (phase-parts, parts-phase);
+}
+
+epochs-reported : EpochsReported
+unfolding after
+epochs-reported = record {
+  reported-exactly = epoch-told;
+  in-words = runs.in-words;
+  one-at-most = λ roster ok xs x d e v w. one-epoch roster ok v w;
+  at-most-225 = epoch-small;
+  capture-reported = λ roster ok s es. (λ w. only-reported roster ok w, λ e. subst (Epochs roster [] (itemsOf s)) (sym e) (reported roster ok [] (itemsOf s)));
+  capture-counted = λ roster ok s es small w i below.
+      collated-counts s roster ok small i below ∙ ap (λ (rs : List Report). length (reportsOf (getD roster i 0) rs)) (sym (only-reported roster ok w));
+}
+
+pub demand-2 : Demand2
+demand-2 = record { frames-found = frames-found; every-byte-counted = every-byte-counted; read-and-written = read-and-written; epochs-reported = epochs-reported }

@@ -1,0 +1,15 @@
+pub mod Demand1
+pub mod Demand2
+pub mod Demand3
+pub mod Examples
+pub mod Idle
+pub mod Determined
+pub mod Order
+pub mod Refused
+pub mod Handed
+pub mod Again
+pub mod Reported
+pub mod Shuffled
+pub mod Noise
+pub mod OnceHonest
+pub mod TwoPackets

@@ -1,0 +1,22 @@
+-- All calls of `next` on a capture, one after the other from the start to where it hands out no frame. Assumes nothing.
+use Prim.Native.Nat.{ℕ}
+use mathlib.Core.Path.{_≡_}
+use mathlib.Core.Bool.{Bool, true}
+use mathlib.Core.List.{List}
+use Rattle.frames.specs.Reading.{steps, framesOf, countsOf}
+use Rattle.frames.specs.Cursors.{countsIn, nextOf, after, Led}
+use Rattle.frames.specs.declared.cursor.Cursor.{Cursor}
+use Rattle.frames.specs.declared.cursor.Next as Next
+
+-- a reading stops at the end or, open, where it needs more
+abbrev pub Stops : Bool → Next.Next → Type 0
+Stops growing (Next.the-variants.Frame f c) = ⊥
+Stops growing (Next.the-variants.End c) = Unit {0}
+Stops growing (Next.the-variants.Needs n c) = growing ≡ true
+
+-- they have handed out the frames of the reading's steps, in order, and end with the counts of these steps
+pub record Handed (growing : Bool) (s : List ℕ) : Type 0 where
+  pub last : Cursor
+  pub frames : Led growing s (framesOf (steps growing s 0)) last
+  pub stops : Stops growing (nextOf s last)
+  pub counts : countsIn (after (nextOf s last)) ≡ countsOf (steps growing s 0)

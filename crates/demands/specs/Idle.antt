@@ -1,0 +1,98 @@
+-- The five idle programs of document 01's last section, and what each has to meet.
+-- Assumes nothing.
+use Prim.Native.Nat.{ℕ, suc, _+_}
+use mathlib.Core.Path.{_≡_}
+use mathlib.Core.Bool.{Bool, true, false, cond}
+use mathlib.Core.List.{List, [], _∷_}
+use mathlib.Core.Logic.{_↔_}
+use lib.ListN.{length, drop}
+use Rattle.frames.specs.Step.{passed}
+use Rattle.frames.specs.Reading.{Placed, closedSteps, countsOf}
+use Rattle.frames.specs.Cursors.{nextOf}
+use Rattle.frames.specs.declared.step.Frame.{Frame}
+use Rattle.frames.specs.declared.step.Step.{Step}
+use Rattle.frames.specs.declared.step.Step.the-variants.{Finished, Junk, Short, Bad, Found}
+use Rattle.frames.specs.declared.cursor.Counts.{Counts}
+use Rattle.frames.specs.declared.cursor.Cursor.{Cursor}
+use Rattle.frames.specs.declared.cursor.Next as Next
+use Rattle.epochs.specs.Epoch.{Item, EndsEpoch}
+use Rattle.epochs.specs.declared.collating.Report.{Report}
+use Rattle.epochs.specs.declared.collating.Happened.{Happened}
+use Rattle.epochs.specs.declared.collating.Happened.the-variants as H
+
+-- ---- readers, one frame a call
+
+abbrev pub Reader : Type 0
+Reader = List ℕ → Cursor → Next.Next
+
+-- the contract of `next`: the frame rule
+abbrev pub FrameRule : Reader → Type 0
+FrameRule read = (s : List ℕ) (c : Cursor) → read s c ≡ nextOf s c
+
+-- refusing everything
+abbrev pub refusing : Reader
+refusing s c = Next.the-variants.End c
+
+-- any reader that never hands out a frame
+abbrev pub FindsNothing : Reader → Type 0
+FindsNothing read = (s : List ℕ) (c d : Cursor) (f : Frame) → read s c ≡ Next.the-variants.Frame f d → ⊥
+
+-- answering always alike
+abbrev pub alike : Next.Next → Reader
+alike x s c = x
+
+-- ---- collators, whatever their state is
+
+pub record Machine (C : Type 0) : Type 0 where
+  pub start : C
+  pub feed : C → Item → C × Happened
+
+-- the state after some frames
+abbrev pub standing : {C : Type 0} → Machine C → C → List Item → C
+standing m c [] = c
+standing m c (x ∷ xs) = standing m (m .feed c x .0) xs
+
+-- demand 2: after any frames a frame is answered with an epoch exactly when it ends one
+abbrev pub ReportsEpochs : {C : Type 0} → List ℕ → Machine C → Type 0
+ReportsEpochs roster m =
+    (xs : List Item) (x : Item) (e : Report) → (m .feed (standing m (m .start) xs) x .1 ≡ H.Epoch e) ↔ EndsEpoch roster xs x e
+
+-- never moving: any collator whose state stays as it is, whatever it answers
+abbrev pub NeverMoves : {C : Type 0} → Machine C → Type 0
+NeverMoves {C} m = (c : C) (x : Item) → m .feed c x .0 ≡ c
+
+-- ---- honest for its first frame, calling the rest junk
+
+unfoldable pub junkFrom : ℕ → List ℕ → List Placed
+junkFrom p [] = []
+junkFrom p (b ∷ t) = record { at = p; step = Junk } ∷ junkFrom (suc p) t
+
+abbrev pub isFrame : Step → Bool
+isFrame Finished = false
+isFrame Junk = false
+isFrame (Short n) = false
+isFrame Bad = false
+isFrame (Found f) = true
+
+-- where a step ends
+abbrev pub endOf : Placed → ℕ
+endOf x = x .at + passed (x .step)
+
+-- steps up to the first frame, and junk from its end on
+unfoldable pub upToFrame : List ℕ → List Placed → List Placed
+unfolding junkFrom
+upToFrame s [] = []
+upToFrame s (x ∷ xs) = x ∷ cond (isFrame (x .step)) (junkFrom (endOf x) (drop (endOf x) s)) (upToFrame s xs)
+
+abbrev pub onceHonest : List ℕ → List Placed
+onceHonest s = upToFrame s (closedSteps s)
+
+-- ---- invented totals
+
+-- the contract of `totals`: counts tied to steps
+abbrev pub TiedToSteps : (List ℕ → Counts) → Type 0
+TiedToSteps totals = (s : List ℕ) → totals s ≡ countsOf (closedSteps s)
+
+-- all of the capture is frames
+abbrev pub invented : List ℕ → Counts
+invented s = record { framed = length s; junk = 0; bad = 0; short = 0 }
