@@ -207,6 +207,18 @@ def observations():
         yield "parts %d %s" % (z, "%d %d" % (z // 256, z % 256) if -2**39 <= z < 2**39 else "refused 33")
 
 
+def walks():
+    """A reader over each of the rover's payloads, asked five times: it goes on after an observation, and stays at a refusal."""
+    s, t = mixed(3, 37, 300), mixed(9, 41, 300)
+    for payload in s[:39], s[:8], s[:7], t[:55]:
+        place, line = 0, "walk %d" % len(payload)
+        for _ in range(5):
+            told = entry(payload, place)
+            place += not told.startswith("refused")
+            line += " %s at %d" % (told, place)
+        yield line
+
+
 def types():
     sizes = {kind: [struct.calcsize("<" + layout)] for kind, layout, _ in MESSAGES.values()}
     sizes.update({0x0049: range(7, 248, 16), 0x0401: range(1, 256), 0x00A1: [0], 0x00A6: [0]})
@@ -292,6 +304,7 @@ def collated():
     yield from replayed("shuffled", bytes(3) + in_a_row(rover[0], base[0], stranger, base[1]) + bytes(5) + in_a_row(*rover[1:], base[2]))
 
 
-for part in checksums, numbers, doubles, captures, written, each, observations, types, collated:
-    for line in part():
-        print(line)
+if __name__ == "__main__":
+    for part in checksums, numbers, doubles, captures, written, each, observations, walks, types, collated:
+        for line in part():
+            print(line)

@@ -10,6 +10,7 @@ mod numbers;
 mod observations;
 mod payload;
 mod print;
+mod walks;
 mod written;
 
 fn main() {
@@ -20,6 +21,7 @@ fn main() {
     written::run();
     each::run();
     observations::run();
+    walks::run();
     answers::run();
     collated::run();
 }

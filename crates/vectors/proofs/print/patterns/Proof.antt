@@ -7,13 +7,16 @@ use Rattle.vectors.proofs.print.patterns.Statement.{statement}
 use Rattle.vectors.proofs.print.patterns.Tie as tie
 
 abbrev Inv-loop : tie.InvT-loop
-Inv-loop s i₀ i = i ≤ length s
+Inv-loop bits i₀ i = i ≤ length bits
 
 abbrev μ-loop : tie.MeasureT-loop
-μ-loop s i₀ i = length s - i
+μ-loop bits i₀ i = length bits - i
 
 loop-holds : tie.Need-loop-holds Inv-loop μ-loop
 loop-holds c = omega arith
+
+mul-hex : tie.Need-mul-hex Inv-loop μ-loop
+mul-hex c = search needs
 
 shared-slice-read-hex : tie.Need-shared-slice-read-hex Inv-loop μ-loop
 shared-slice-read-hex c = omega arith
@@ -34,4 +37,16 @@ returns : tie.Need-returns Inv-loop μ-loop
 returns c = search needs
 
 pub patterns-spec : {M : Type 1} → statement M
-patterns-spec = tie.close (tie.spec Inv-loop μ-loop loop-holds shared-slice-read-hex hex-requires add-i loop-less loop-again returns)
+patterns-spec =
+    tie.close
+    (tie.spec
+    Inv-loop
+    μ-loop
+    loop-holds
+    mul-hex
+    shared-slice-read-hex
+    hex-requires
+    add-i
+    loop-less
+    loop-again
+    returns)

@@ -7,13 +7,16 @@ use Rattle.vectors.proofs.print.row.Statement.{statement}
 use Rattle.vectors.proofs.print.row.Tie as tie
 
 abbrev Inv-loop : tie.InvT-loop
-Inv-loop s i₀ i = i ≤ length s
+Inv-loop numbers i₀ i = i ≤ length numbers
 
 abbrev μ-loop : tie.MeasureT-loop
-μ-loop s i₀ i = length s - i
+μ-loop numbers i₀ i = length numbers - i
 
 loop-holds : tie.Need-loop-holds Inv-loop μ-loop
 loop-holds c = omega arith
+
+mul-number : tie.Need-mul-number Inv-loop μ-loop
+mul-number c = search needs
 
 shared-slice-read-number : tie.Need-shared-slice-read-number Inv-loop μ-loop
 shared-slice-read-number c = omega arith
@@ -34,4 +37,16 @@ returns : tie.Need-returns Inv-loop μ-loop
 returns c = search needs
 
 pub row-spec : {M : Type 1} → statement M
-row-spec = tie.close (tie.spec Inv-loop μ-loop loop-holds shared-slice-read-number number-requires add-i loop-less loop-again returns)
+row-spec =
+    tie.close
+    (tie.spec
+    Inv-loop
+    μ-loop
+    loop-holds
+    mul-number
+    shared-slice-read-number
+    number-requires
+    add-i
+    loop-less
+    loop-again
+    returns)

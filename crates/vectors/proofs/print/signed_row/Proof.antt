@@ -7,16 +7,19 @@ use Rattle.vectors.proofs.print.signed_row.Statement.{statement}
 use Rattle.vectors.proofs.print.signed_row.Tie as tie
 
 abbrev Inv-loop : tie.InvT-loop
-Inv-loop s i₀ i = i ≤ length s
+Inv-loop numbers i₀ i = i ≤ length numbers
 
 abbrev μ-loop : tie.MeasureT-loop
-μ-loop s i₀ i = length s - i
+μ-loop numbers i₀ i = length numbers - i
 
 loop-holds : tie.Need-loop-holds Inv-loop μ-loop
 loop-holds c = omega arith
 
-shared-slice-read-signed-32 : tie.Need-shared-slice-read-signed-32 Inv-loop μ-loop
-shared-slice-read-signed-32 c = omega arith
+mul-signed-32 : tie.Need-mul-signed-32 Inv-loop μ-loop
+mul-signed-32 c = search needs
+
+shared-slice-copy-out-signed-32 : tie.Need-shared-slice-copy-out-signed-32 Inv-loop μ-loop
+shared-slice-copy-out-signed-32 c = omega arith
 
 signed-32-requires : tie.Need-signed-32-requires Inv-loop μ-loop
 signed-32-requires c κs = search needs
@@ -34,4 +37,16 @@ returns : tie.Need-returns Inv-loop μ-loop
 returns c = search needs
 
 pub signed-row-spec : {M : Type 1} → statement M
-signed-row-spec = tie.close (tie.spec Inv-loop μ-loop loop-holds shared-slice-read-signed-32 signed-32-requires add-i loop-less loop-again returns)
+signed-row-spec =
+    tie.close
+    (tie.spec
+    Inv-loop
+    μ-loop
+    loop-holds
+    mul-signed-32
+    shared-slice-copy-out-signed-32
+    signed-32-requires
+    add-i
+    loop-less
+    loop-again
+    returns)

@@ -1,0 +1,88 @@
+// Lists the frames and epochs of a capture on standard input: what `listing` makes of it, in one write.
+// A capture over 65536 bytes prints `R 11` alone; a read that fails says why on standard error and prints nothing.
+use frames::Written;
+
+// How reading standard input ended: with so many bytes, or with an error.
+enum Input {
+    Bytes(usize),
+    Failed,
+}
+
+// What one read brought.
+enum Brought {
+    Bytes(usize),
+    End,
+    Failed,
+}
+
+// Reads once into what is left of buf from n on. A read that a signal interrupts brings nothing and is tried again.
+fn more(buf: &mut [u8], n: usize) -> Brought {
+    if buf.len() <= n {
+        return Brought::End;
+    }
+    let rest = &mut buf[n..];
+    let got = libc::read(libc::STDIN_FILENO, rest);
+    if got == 0 {
+        return Brought::End;
+    }
+    if got < 0 {
+        if os::errno() == libc::EINTR {
+            return Brought::Bytes(0);
+        }
+        return Brought::Failed;
+    }
+    Brought::Bytes(io::count(got, rest))
+}
+
+// Reads to the end of the input, or until buf is full. The turns are counted so that the loop is seen to end.
+fn read_all(buf: &mut [u8]) -> Input {
+    let mut n: usize = 0;
+    let mut turns = u64::MAX;
+    while 0 < turns {
+        match more(buf, n) {
+            Brought::Bytes(k) => {
+                n = std::num::wrapping_add_usize(n, k);
+            }
+            Brought::End => {
+                return Input::Bytes(n);
+            }
+            Brought::Failed => {
+                return Input::Failed;
+            }
+        }
+        turns -= 1;
+    }
+    Input::Failed
+}
+
+fn print(text: &[u8]) {
+    if !io::write_all(libc::STDOUT_FILENO, text) {
+        os::fail(b"write");
+    }
+}
+
+// The text has room for every listing (listing/proofs/Sizes.antt), so that 11 is the only refusal.
+fn show(capture: &[u8], text: &mut [u8]) {
+    match listing::list(capture, text) {
+        Written::Bytes(n) => {
+            if n <= text.len() {
+                print(&text[0..n]);
+            }
+        }
+        Written::Refused(_) => print(b"R 11\n"),
+    }
+}
+
+fn main() {
+    // one byte more than is taken, to know that there are more
+    let mut capture = [0u8; 65537];
+    let mut text = [0u8; 524320];
+    match read_all(&mut capture) {
+        Input::Bytes(n) => {
+            if n <= capture.len() {
+                show(&capture[0..n], &mut text);
+            }
+        }
+        Input::Failed => os::fail(b"read"),
+    }
+}

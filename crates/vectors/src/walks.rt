@@ -1,0 +1,101 @@
+// The observation reader: a sender's observations in a capture, one question after the other, some of them past the last.
+use crate::payload::front;
+use crate::payload::mixed;
+use crate::print;
+use frames::Cursor;
+use frames::Next;
+use frames::Sender;
+use frames::Written;
+use observation::ObservationRead;
+
+pub fn run() {
+    let s = mixed(3, 37);
+    let t = mixed(9, 41);
+    let mut buf = [0u8; 300];
+    let n = filled(&mut buf, &s, &t);
+    frame_by_frame(front(&buf, n));
+}
+
+// Frames of a base and of the rover that it relays as sender 0, one of them of a wrong length.
+fn filled(buf: &mut [u8], s: &[u8], t: &[u8]) -> usize {
+    let mut at = put(buf, 0, 0, front(s, 39));
+    at = put(buf, at, 1228, front(t, 39));
+    at = put(buf, at, 0, front(s, 8));
+    at = put(buf, at, 0, front(s, 7));
+    put(buf, at, 0, front(t, 55))
+}
+
+fn frame_by_frame(s: &[u8]) {
+    let mut cursor = on(Cursor::closed(), s);
+    cursor = on(cursor, s);
+    cursor = on(cursor, s);
+    cursor = on(cursor, s);
+    on(cursor, s);
+}
+
+fn put(buf: &mut [u8], at: usize, sender: u16, payload: &[u8]) -> usize {
+    if buf.len() <= at {
+        return at;
+    }
+    match frames::write_frame(&mut buf[at..], 0x0049, Sender::Named(sender), payload) {
+        Written::Bytes(n) => std::num::wrapping_add_usize(at, n),
+        Written::Refused(_) => at,
+    }
+}
+
+// The next frame, walked through where it is the rover's.
+fn on(cursor: Cursor, s: &[u8]) -> Cursor {
+    match cursor.next(s) {
+        Next::Frame(f, after) => {
+            if f.sender == 0 {
+                walk(frames::payload(s, f));
+            }
+            after
+        }
+        Next::End(after) => after,
+        Next::Needs(_, after) => after,
+    }
+}
+
+fn walk(payload: &[u8]) {
+    print::word(b"walk");
+    print::number(payload.len() as u64);
+    let mut place = ask(payload, 0);
+    place = ask(payload, place);
+    place = ask(payload, place);
+    place = ask(payload, place);
+    ask(payload, place);
+    print::end();
+}
+
+fn ask(payload: &[u8], place: usize) -> usize {
+    let step = obs_reader::step_from(payload, place);
+    let answer = step.answer;
+    say(answer);
+    print::word(b" at");
+    print::number(step.place as u64);
+    step.place
+}
+
+fn say(answer: ObservationRead) {
+    match answer {
+        ObservationRead::Record(o) => {
+            print::number(o.p as u64);
+            print::signed_32(o.l_i);
+            print::row(
+                &[
+                    o.l_f as u64,
+                    o.cn0 as u64,
+                    o.lock as u64,
+                    o.sat as u64,
+                    o.code as u64,
+                    o.reserved as u64,
+                ],
+            );
+        }
+        ObservationRead::Refused(n) => {
+            print::word(b" refused");
+            print::number(n as u64);
+        }
+    }
+}
