@@ -1,3 +1,4 @@
 pub mod Rosters
+pub mod Accepted
 pub mod Texts
 pub mod Sizes
