@@ -2,3 +2,4 @@ pub mod Rosters
 pub mod Accepted
 pub mod Texts
 pub mod Sizes
+pub mod EpochLines
