@@ -20,7 +20,7 @@ use Rattle.epochs.proofs.Judgements.{judged-unlisted}
 use Rattle.epochs.proofs.Feeding.{fed-refused}
 use Rattle.epochs.proofs.Collations.{epoch-told}
 use Rattle.listing.specs.Roster.{rosterIn}
-use Rattle.listing.specs.Listing.{frameLine, epochLine, totalsLine, told, framesText, textOf}
+use Rattle.listing.specs.Listing.{frameLine, totalsLine, told, framesText, textOf}
 use Rattle.listing.specs.Words.{obsSendersIn, Lines, none, ending, passing}
 use Rattle.listing.proofs.Accepted.{roster-accepted, roster-empty}
 
