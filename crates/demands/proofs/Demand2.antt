@@ -76,16 +76,16 @@ use Rattle.epochs.proofs.Captures.{collated-counts}
 use Rattle.text.specs.Decimal.{decimal, valueFrom}
 use Rattle.text.proofs.Decimals.{decimal-value}
 use Rattle.listing.specs.Roster.{rosterIn}
-use Rattle.listing.specs.Listing.{frameLine, totalsLine, textOf}
+use Rattle.listing.specs.Listing.{frameLine, totalsLine, textOf, listAnswer, listed}
 use Rattle.listing.specs.Words.{obsSendersIn, different, Lines}
 use Rattle.listing.proofs.Accepted.{roster-first, roster-sent, roster-all, roster-accepted}
 use Rattle.listing.proofs.EpochLines.{text-lines, text-alone}
-use Rattle.listing.proofs.Sizes.{text-size}
 use Rattle.demands.specs.Handed.{Handed}
 use Rattle.demands.specs.Reported.{Epochs}
 use Rattle.demands.proofs.Again as again
 use Rattle.demands.proofs.Handed as handed
 use Rattle.demands.proofs.Reported.{reported, only-reported, one-epoch}
+use Rattle.demands.proofs.Room.{room-enough}
 
 -- a message keeps its promise, and under the number by which it is written its own reader reads it
 abbrev pub Promised : {R : Type 0} → wire.Message R → (R → Message) → Type 0
@@ -204,15 +204,16 @@ pub record Listed : Type 0 where
   pub lines-alone : (s : List ℕ) → obsSendersIn s ≡ [] → textOf s ≡ flatMap (frameLine s) (framesOf (closedSteps s)) ++ totalsLine s
   -- "numbers in decimal": the digits stand for the number
   pub decimals : (n : ℕ) → valueFrom 0 (decimal n) ≡ n
-  -- the text of a capture that is not over-long has room in 8 bytes for each of the capture's, and 32
-  pub room : (s : List ℕ) → Bytes s → length s ≤ 65536 → length (textOf s) ≤ 8 * length s + 32
+  -- a buffer of 8 bytes for each of a capture's, and 32, gets the whole text, and keeps the bytes after it
+  pub room : (s buf : List ℕ) → Bytes s → length s ≤ 65536 → 8 * length s + 32 ≤ length buf
+      → (listAnswer s (length buf) ≡ given (length (textOf s))) × (listed s buf ≡ textOf s ++ drop (length (textOf s)) buf)
 
 pub record Demand2 : Type 0 where
   pub frames-found : FramesFound
   pub every-byte-counted : EveryByteCounted
   pub read-and-written : ReadAndWritten
   pub epochs-reported : EpochsReported
-  pub listed : Listed
+  pub listing : Listed
 
 -- ---- the proof
 
@@ -277,16 +278,16 @@ epochs-reported = record {
       collated-counts s roster ok small i below ∙ ap (λ (rs : List Report). length (reportsOf (getD roster i 0) rs)) (sym (only-reported roster ok w));
 }
 
-listed : Listed
-listed = record {
+listing : Listed
+listing = record {
   roster = roster-first;
   roster-names = λ s sender. (roster-sent s sender, roster-all s sender);
   roster-taken = roster-accepted;
   lines = text-lines;
   lines-alone = text-alone;
   decimals = decimal-value;
-  room = λ s bytes short. text-size s bytes short (made (rosterIn s) .collator);
+  room = room-enough;
 }
 
 pub demand-2 : Demand2
-demand-2 = record { frames-found = frames-found; every-byte-counted = every-byte-counted; read-and-written = read-and-written; epochs-reported = epochs-reported; listed = listed }
+demand-2 = record { frames-found = frames-found; every-byte-counted = every-byte-counted; read-and-written = read-and-written; epochs-reported = epochs-reported; listing = listing }
