@@ -5,11 +5,12 @@
 use mathlib.Core.Path.{_≡_, refl, ap}
 use mathlib.Core.List.{List, []}
 use mathlib.Core.Logic.{_↔_, _⊎_}
-use Prim.Native.Nat.{ℕ, _+_, _*_}
+use Prim.Native.Nat.{ℕ, _+_, _*_, _<_}
 use lib.IntN.{ℤ}
 use lib.ListN.{length}
+use denote.Ref.{now}
 use Rattle.wire.specs.Field.{size, decode}
-use Rattle.wire.specs.Message.{given, refused, Message, readAs}
+use Rattle.wire.specs.Message.{Answer, given, refused, Message, readAs}
 use Rattle.frames.specs.Writer.{planned, framed}
 use Rattle.frames.specs.Message.{writeAnswer, writtenAs}
 use Rattle.frames.proofs.Written.{framed-unfit}
@@ -19,6 +20,9 @@ use Rattle.observation.specs.Phase.{partsOf, readPhase}
 use Rattle.observation.specs.declared.entry.Observation.{Observation}
 use Rattle.observation.specs.declared.obs.Obs.{Obs}
 use Rattle.system.specs.Log.{logIn, readLog}
+use Rattle.obs_reader.specs.Reader.{asked}
+use Rattle.obs_reader.specs.declared.ObsReader.{ObsReader}
+use Rattle.obs_reader.proofs.Places.{stays}
 use Rattle.payloads.specs.Table.{table, readFor}
 use Rattle.epochs.specs.Collator.{acted, rosterOf, fed, fresh, made}
 use Rattle.epochs.specs.Epoch.{Item, fedItem, after}
@@ -27,9 +31,11 @@ use Rattle.epochs.specs.declared.collating.Collator.{Collator}
 use Rattle.epochs.specs.declared.collating.Happened.the-variants as H
 use Rattle.epochs.proofs.Feeding.{refused-keeps}
 use Rattle.epochs.proofs.Captures.{collated-refused}
-use Rattle.demands.specs.Order.{Tests, ordered, FirstFails, AllPass, lineFor, readingAny, reading, readingObs, readingLog, oneObservation, writingBytes, writing, writingObs, phaseRange, rostering, asMade, feeding, forPlace, asJudged}
-use Rattle.demands.proofs.Order.{exactly-first, exactly-all, looks-up-ordered, reads-ordered, reads-obs-ordered, reads-log-ordered, reads-entry-ordered, plans-ordered, writes-ordered, writes-obs-ordered, phase-ordered, made-ordered, judged-ordered}
-use Rattle.demands.proofs.Refused.{record-unwritten, obs-unwritten, nobody-listed}
+use Rattle.text.specs.Line.{laid}
+use Rattle.listing.specs.Listing.{textOf, listAnswer, listedAs, listed}
+use Rattle.demands.specs.Order.{Tests, ordered, FirstFails, AllPass, lineFor, readingAny, reading, readingObs, readingLog, oneObservation, writingBytes, writing, writingObs, listing, phaseRange, rostering, asMade, feeding, forPlace, asJudged}
+use Rattle.demands.proofs.Order.{exactly-first, exactly-all, looks-up-ordered, reads-ordered, reads-obs-ordered, reads-log-ordered, reads-entry-ordered, plans-ordered, writes-ordered, writes-obs-ordered, lists-ordered, phase-ordered, made-ordered, judged-ordered}
+use Rattle.demands.proofs.Refused.{record-unwritten, obs-unwritten, line-unwritten, nobody-listed}
 
 -- "a roster, payload, index or buffer that doesn't fit is refused by number"
 pub record RefusedByNumber : Type 1 where
@@ -42,12 +48,16 @@ pub record RefusedByNumber : Type 1 where
   pub record-payload : (R : Type 0) (m : Message R) (s : List ℕ) → readAs m s ≡ ordered (reading m s) (m .make (decode (m .fields) s 0))
   pub obs-payload : (s : List ℕ) → readObs s ≡ ordered (readingObs s) (obsIn s)
   pub log-payload : (s : List ℕ) → readLog s ≡ ordered (readingLog s) (logIn s)
-  -- an index: 22, 25
+  -- an index: 22, 25; and the place of an observation reader
   pub index : (s : List ℕ) (i : ℕ) → readEntry s i ≡ ordered (oneObservation s i) (entryAt s i)
+  pub reader-place : (r : ObsReader)
+      → readEntry (now (r .payload)) (r .place) ≡ ordered (oneObservation (now (r .payload)) (r .place)) (entryAt (now (r .payload)) (r .place))
   -- a buffer: 23, 31, 32; for a record, for OBS, and for any bytes (a raw frame, and LOG)
   pub record-buffer : (R : Type 0) (m : Message R) (r : R) (room : ℕ) → writeAnswer m r room ≡ ordered (writing m r room) (size (m .fields) + 8)
   pub obs-buffer : (o : Obs) (room : ℕ) → obsWriteAnswer o room ≡ ordered (writingObs o room) (7 + o .count * 16 + 8)
   pub bytes-buffer : (n room : ℕ) → planned n room ≡ ordered (writingBytes n room) (n + 8)
+  -- a capture to list, and the buffer for its text: 11, 32
+  pub capture : (s : List ℕ) (room : ℕ) → listAnswer s room ≡ ordered (listing s room) (length (textOf s))
   -- a carrier phase: 33
   pub phase : (z : ℤ) → readPhase z ≡ ordered (phaseRange z) (partsOf z)
   -- a roster: 41, 42
@@ -66,11 +76,16 @@ pub record WritesNothing : Type 1 where
   -- a raw frame, and LOG
   pub refused-bytes : (kind sender : ℕ) (payload buf : List ℕ) (n : ℕ)
       → planned (length payload) (length buf) ≡ refused n → framed kind sender payload buf ≡ buf
+  pub refused-listing : (s buf : List ℕ) (n : ℕ) → listAnswer s (length buf) ≡ refused n → listed s buf ≡ buf
+  -- a line of text has no number to be refused by: where it has no room, nothing is written
+  pub unfit-line : (buf : List ℕ) (at : ℕ) (text : List ℕ) → length buf < at + length text → laid buf at text ≡ buf
 
 -- "and moves no state"
 pub record MovesNoState : Type 0 where
   pub refused-frame : (c : Collator) (kind sender : ℕ) (payload : List ℕ) (n : ℕ)
       → fed c kind sender payload .happened ≡ H.Refused n → fed c kind sender payload .collator ≡ c
+  -- an observation reader stays, with the payload that it was lent
+  pub refused-reader : (r : ObsReader) (n : ℕ) → readEntry (now (r .payload)) (r .place) ≡ refused n → asked r ≡ r
   -- a refused roster makes a collator that refuses every frame and never moves; a whole capture is not fed to it
   pub refused-roster : (roster : List ℕ) → (made roster .number ≡ 0 → ⊥) → (xs : List Item) (x : Item)
       → (n : ℕ) × ((n ≡ 46) ⊎ (n ≡ 22) ⊎ (n ≡ 43)) × (fedItem (after (made roster .collator) xs) x ≡ record { collator = fresh []; happened = H.Refused n })
@@ -92,9 +107,11 @@ refused-by-number = record {
   obs-payload = reads-obs-ordered;
   log-payload = reads-log-ordered;
   index = reads-entry-ordered;
+  reader-place = λ r. reads-entry-ordered (now (r .payload)) (r .place);
   record-buffer = λ R m. writes-ordered m;
   obs-buffer = writes-obs-ordered;
   bytes-buffer = plans-ordered;
+  capture = lists-ordered;
   phase = phase-ordered;
   roster = made-ordered;
   frame = λ c kind sender payload. ap (acted c sender) (judged-ordered (rosterOf c) kind sender payload);
@@ -105,11 +122,14 @@ writes-nothing = record {
   refused-record = λ R m sender r buf n e. record-unwritten m sender r buf e;
   refused-obs = λ sender o entries buf n fifteen e. obs-unwritten sender o entries buf fifteen e;
   refused-bytes = λ kind sender payload buf n e. framed-unfit kind sender payload buf e;
+  refused-listing = λ s buf n e. ap (λ (a : Answer ℕ). listedAs a s buf) e;
+  unfit-line = line-unwritten;
 }
 
 moves-no-state : MovesNoState
 moves-no-state = record {
   refused-frame = λ c kind sender payload n e. refused-keeps c kind sender payload e;
+  refused-reader = λ r n e. ap {B = ObsReader} (λ (i : ℕ). record { payload = r .payload; place = i }) (stays (now (r .payload)) (r .place) e);
   refused-roster = nobody-listed;
   refused-capture = λ s roster refuses. collated-refused s roster refl refuses;
 }

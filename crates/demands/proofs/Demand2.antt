@@ -1,13 +1,15 @@
 -- Demand 2: "Equal to the published protocol, reading and writing. The frames found are exactly those that specification 1.1 and our written
 -- resume rule give; every byte of a complete capture is in one frame or counted as passed over under one reason; a record written reads back
 -- bit for bit; an accepted payload written again gives the same bytes; an epoch is reported exactly when its packets stand as document 01 says,
--- once each." The statement first, sentence by sentence; then its proof, all of it citations. Assumes nothing.
+-- once each." The statement first, sentence by sentence, and document 01's section on `sbplist`; then its proof, all of it citations.
+-- Assumes nothing.
 use mathlib.Core.Path.{_≡_, sym, ap, _∙_, subst}
-use mathlib.Core.Bool.{Bool}
-use mathlib.Core.List.{List, [], _++_, map}
-use mathlib.Core.Logic.{_↔_}
-use Prim.Native.Nat.{ℕ, _+_, _^_, _≤_, _<_}
-use lib.ListN.{length, getD, take, drop}
+use mathlib.Core.Bool.{Bool, true}
+use mathlib.Core.List.{List, [], _++_, map, flatMap}
+use mathlib.Core.Logic.{_↔_, _⊎_}
+use Prim.Native.Nat.{ℕ, _+_, _*_, _^_, _≤_, _<_}
+use lib.ListN.{length, getD, take, drop, replicate}
+use denote.Ref.{now}
 use lib.IntN.{ℤ}
 use Rattle.wire.specs.Number.{Bytes}
 use Rattle.wire.specs.Field.{HeldRow}
@@ -54,11 +56,15 @@ use Rattle.system.specs.Startup.{startup}
 use Rattle.system.specs.declared.log.Log.{Log}
 use Rattle.system.proofs.Promises as system
 use Rattle.system.proofs.Logs.{log-found, log-back, text-back}
+use Rattle.obs_reader.specs.Walk.{Walk, standing, askedTimes, observationsIn, pastThem}
+use Rattle.obs_reader.specs.declared.ObsReader.{ObsReader}
+use Rattle.obs_reader.proofs.Walks.{whole-walk}
+use Rattle.obs_reader.proofs.Readers.{asked-times}
 use Rattle.payloads.specs.declared.Message.{Message}
 use Rattle.payloads.specs.declared.Message.the-variants as M
 use Rattle.payloads.proofs.Lines.{Typed}
 use Rattle.payloads.proofs.Answers as answers
-use Rattle.epochs.specs.Collator.{made}
+use Rattle.epochs.specs.Collator.{names, made}
 use Rattle.epochs.specs.Epoch.{EpochEnds, InWords, Item, fedItem, after, reports, reportsOf, EndsEpoch, itemsOf}
 use Rattle.epochs.specs.Capture.{collated}
 use Rattle.epochs.specs.declared.judging.Packet.{Packet}
@@ -67,11 +73,19 @@ use Rattle.epochs.specs.declared.collating.Happened.the-variants as H
 use Rattle.epochs.proofs.Runs as runs
 use Rattle.epochs.proofs.Collations.{epoch-told, epoch-small}
 use Rattle.epochs.proofs.Captures.{collated-counts}
+use Rattle.text.specs.Decimal.{decimal, valueFrom}
+use Rattle.text.proofs.Decimals.{decimal-value}
+use Rattle.listing.specs.Roster.{rosterIn}
+use Rattle.listing.specs.Listing.{frameLine, totalsLine, textOf, listAnswer, listed}
+use Rattle.listing.specs.Words.{obsSendersIn, different, Lines}
+use Rattle.listing.proofs.Accepted.{roster-first, roster-sent, roster-all, roster-accepted}
+use Rattle.listing.proofs.EpochLines.{text-lines, text-alone}
 use Rattle.demands.specs.Handed.{Handed}
 use Rattle.demands.specs.Reported.{Epochs}
 use Rattle.demands.proofs.Again as again
 use Rattle.demands.proofs.Handed as handed
 use Rattle.demands.proofs.Reported.{reported, only-reported, one-epoch}
+use Rattle.demands.proofs.Room.{room-enough}
 
 -- a message keeps its promise, and under the number by which it is written its own reader reads it
 abbrev pub Promised : {R : Type 0} → wire.Message R → (R → Message) → Type 0
@@ -138,6 +152,11 @@ pub record ReadAndWritten : Type 0 where
       → readEntry (payloadIn (obsWritten sender o entries buf) (obsFrame sender o entries)) i ≡ given (getD entries i d))
   pub obs-again : (sender : ℕ) (r : Obs) (buf s : List ℕ) → Bytes s → readObs s ≡ given r
       → obsWritten sender r (entriesFrom (r .count) 0 s) buf ≡ framed (first .kind) sender s buf
+  -- "a reader that keeps the lent payload and its place": asked n times it keeps its payload and stands where n questions lead
+  pub obs-asked : (n : ℕ) (r : ObsReader) → askedTimes n r ≡ record { payload = r .payload; place = standing n (now (r .payload)) (r .place) }
+  -- from place 0 they are answered by the payload's observations in order, each once, and by a refusal from then on
+  pub obs-walk : (s : List ℕ) (more : ℕ)
+      → Walk (length (observationsIn s) + more) s 0 (map given (observationsIn s) ++ replicate more (pastThem s)) (length (observationsIn s))
   pub log-read : Typed logKind (λ r. M.Log r) readLog
   pub log-reads-back : (sender level : ℕ) (text buf : List ℕ) (n : ℕ)
       → sender < 65536 → planned (length (logPayload level text)) (length buf) ≡ given n
@@ -169,11 +188,32 @@ pub record EpochsReported : Type 0 where
   pub capture-counted : (roster : List ℕ) → made roster .number ≡ 0 → (s : List ℕ) (es : List Report) → length s < 2 ^ 64 → Epochs roster [] (itemsOf s) es
       → (i : ℕ) → i < length roster → getD (collated s roster .reports) i 0 ≡ length (reportsOf (getD roster i 0) es)
 
+-- document 01, "`sbplist`"
+pub record Listed : Type 0 where
+  -- "The roster is the first eight different senders of frames of type 0x0049, malformed ones too, in order of appearance"
+  pub roster : (s : List ℕ) → rosterIn s ≡ take 8 (different [] (obsSendersIn s))
+  -- so it names only such senders, and every one of them while it has room
+  pub roster-names : (s : List ℕ) (sender : ℕ)
+      → (names (rosterIn s) sender ≡ true → names (obsSendersIn s) sender ≡ true)
+      × (length (rosterIn s) < 8 → names (obsSendersIn s) sender ≡ true → names (rosterIn s) sender ≡ true)
+  -- a collator takes it, unless it is empty
+  pub roster-taken : (s : List ℕ) → (rosterIn s ≡ []) ⊎ (made (rosterIn s) .number ≡ 0)
+  -- "for each frame `F` ..; after the frame that ends an epoch, `E` ..; at the end `T` ..": the text is these lines, and no other
+  pub lines : (s text : List ℕ) → Lines s (rosterIn s) [] (framesOf (closedSteps s)) text ↔ (textOf s ≡ text ++ totalsLine s)
+  -- "with none, no collator is made": no `E` line
+  pub lines-alone : (s : List ℕ) → obsSendersIn s ≡ [] → textOf s ≡ flatMap (frameLine s) (framesOf (closedSteps s)) ++ totalsLine s
+  -- "numbers in decimal": the digits stand for the number
+  pub decimals : (n : ℕ) → valueFrom 0 (decimal n) ≡ n
+  -- a buffer of 8 bytes for each of a capture's, and 32, gets the whole text, and keeps the bytes after it
+  pub room : (s buf : List ℕ) → Bytes s → length s ≤ 65536 → 8 * length s + 32 ≤ length buf
+      → (listAnswer s (length buf) ≡ given (length (textOf s))) × (listed s buf ≡ textOf s ++ drop (length (textOf s)) buf)
+
 pub record Demand2 : Type 0 where
   pub frames-found : FramesFound
   pub every-byte-counted : EveryByteCounted
   pub read-and-written : ReadAndWritten
   pub epochs-reported : EpochsReported
+  pub listing : Listed
 
 -- ---- the proof
 
@@ -218,6 +258,8 @@ read-and-written = record {
     entry-back sender o entries buf enough g s,
   );
   obs-again = again.obs-again;
+  obs-asked = asked-times;
+  obs-walk = whole-walk;
   log-read = answers.log;
   log-reads-back = λ sender level text buf n s g. (log-found sender level text buf s g, log-back sender level text buf s g, text-back sender level text buf s g);
   log-again = again.log-again;
@@ -236,5 +278,16 @@ epochs-reported = record {
       collated-counts s roster ok small i below ∙ ap (λ (rs : List Report). length (reportsOf (getD roster i 0) rs)) (sym (only-reported roster ok w));
 }
 
+listing : Listed
+listing = record {
+  roster = roster-first;
+  roster-names = λ s sender. (roster-sent s sender, roster-all s sender);
+  roster-taken = roster-accepted;
+  lines = text-lines;
+  lines-alone = text-alone;
+  decimals = decimal-value;
+  room = room-enough;
+}
+
 pub demand-2 : Demand2
-demand-2 = record { frames-found = frames-found; every-byte-counted = every-byte-counted; read-and-written = read-and-written; epochs-reported = epochs-reported }
+demand-2 = record { frames-found = frames-found; every-byte-counted = every-byte-counted; read-and-written = read-and-written; epochs-reported = epochs-reported; listing = listing }

@@ -1,13 +1,18 @@
 -- "That any two results it admits are equal is proved" (document 01, "What a contract here has to say"): one law, and each answer that a
--- contract speaks of. A contract is `answer r ≡ d`, with d a definition of the inputs, or plainly `r ≡ d`; of a lent buffer or a part of one it
--- is `now .. ≡ d`. Which function has which:
+-- contract speaks of. A contract is `answer r ≡ d`, with d a definition of the inputs, or plainly `r ≡ d`, or two such of the parts of r; of a
+-- lent buffer, part or reader it is `now .. ≡ d`. Which function has which:
 --   plain: every function of wire, crc and epochs; step_at, payload, closed, opened, next, counts, totals, sender_number, seal and place of
---     frames; the fix modes, flags and ranges; is_obs_length, put, carrier_phase, log_text; answer of payloads; each writer's buffer
---   written: plan, write_frame and every write_ function
---   reading: read of payloads
---   the others: the read_ function of that name, ecef-vector and ned-vector each for two, empty for both messages with no fields
+--     frames; the fix modes, flags and ranges of navigation; is_obs_length, put and carrier_phase; the flags of system, and log_text; answer of
+--     payloads; place_after and place of obs_reader; put_line; started of listing; each buffer of a writer, of put_line and of list; the reader
+--     that next of obs_reader leaves
+--   written: plan, write_frame, every write_ function, and list
+--   reading: read of payloads, and its reader of each type
+--   one-observation: read_observation, and what next of obs_reader answers
+--   reader: made and made_at of obs_reader
+--   stepped: step_from
+--   the others: the read_ function of that name, ecef-vector and ned-vector each for two, empty for both messages with no fields; phase_parts
 -- Assumes nothing.
-use mathlib.Core.Path.{_≡_, refl, sym, ap, _∙_}
+use mathlib.Core.Path.{_≡_, refl, sym, ap, ap₂, _∙_}
 use Prim.Native.Nat.{ℕ}
 use Rattle.wire.specs.Message.{Answer, given, refused}
 use Rattle.frames.specs.Writer as Writer
@@ -45,6 +50,8 @@ use Rattle.system.specs.declared.heartbeat.HeartbeatRead.the-variants as Heartb
 use Rattle.system.specs.declared.log.LogRead.the-variants as LogRead
 use Rattle.system.specs.declared.settings.ReadByIndexReqRead.the-variants as ReadByIndexReqRead
 use Rattle.system.specs.declared.startup.StartupRead.the-variants as StartupRead
+use Rattle.obs_reader.specs.declared.ObsReader.{ObsReader}
+use Rattle.obs_reader.specs.declared.Stepped.{Stepped}
 use Rattle.payloads.specs.Table as Table
 use Rattle.payloads.specs.declared.Reading.the-variants as Reading
 
@@ -68,6 +75,10 @@ variantOf record-of refusal (refused n) = refusal n
 
 enum : {E A : Type 0} (answer : E → Answer A) (record-of : A → E) (refusal : ℕ → E) → ((r : E) → variantOf record-of refusal (answer r) ≡ r) → Determines answer
 enum answer record-of refusal = way-back answer (variantOf record-of refusal)
+
+-- a contract of two equations, of two parts of a result
+abbrev pub DeterminesBoth : {E A B : Type 0} → (E → A) → (E → B) → Type 0
+DeterminesBoth {E} {A} {B} answer also = (a : A) (b : B) (q r : E) → (answer q ≡ a) × (also q ≡ b) → (answer r ≡ a) × (also r ≡ b) → q ≡ r
 
 -- ---- the answers
 
@@ -127,3 +138,13 @@ reading = enum Table.readingAnswer Reading.Record Reading.Refused (elim [ Readin
 
 pub written : Determines Writer.writtenAnswer
 written = enum Writer.writtenAnswer Written.Bytes Written.Refused (elim [ Written.Bytes r ↦ refl | Written.Refused n ↦ refl ])
+
+-- ---- the two parts of a reader, and of a step
+
+pub reader : DeterminesBoth (λ (r : ObsReader). r .payload) (λ (r : ObsReader). r .place)
+reader a b q r p e = ap₂ {C = ObsReader} (λ payload place. record { payload = payload; place = place }) (p .0 ∙ sym (e .0)) (p .1 ∙ sym (e .1))
+
+pub stepped : DeterminesBoth (λ (r : Stepped). Obs.entryAnswer (r .answer)) (λ (r : Stepped). r .place)
+stepped a b q r p e =
+    let answer = one-observation a (q .answer) (r .answer) (p .0) (e .0) in
+    ap₂ {C = Stepped} (λ answer place. record { answer = answer; place = place }) answer (p .1 ∙ sym (e .1))

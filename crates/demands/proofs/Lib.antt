@@ -9,6 +9,7 @@ pub mod Refused
 pub mod Handed
 pub mod Again
 pub mod Reported
+pub mod Room
 pub mod Shuffled
 pub mod Noise
 pub mod OnceHonest

@@ -26,7 +26,8 @@ use Rattle.epochs.specs.declared.judging.Packet.{Packet}
 use Rattle.epochs.specs.declared.judging.Seat.{Seat}
 use Rattle.epochs.specs.declared.judging.Judged.the-variants as J
 use Rattle.epochs.proofs.Rosters.{seat-listed, seat-unlisted}
-use Rattle.demands.specs.Order.{Tests, ordered, FirstFails, AllPass, known, lineFor, readingAny, reading, readingObs, readingLog, oneObservation, writingBytes, writing, writingObs, phaseRange, rostering, asMade, feeding, placeIn, forPlace, asJudged}
+use Rattle.listing.specs.Listing.{textOf, listAnswer}
+use Rattle.demands.specs.Order.{Tests, ordered, FirstFails, AllPass, known, lineFor, readingAny, reading, readingObs, readingLog, oneObservation, writingBytes, writing, writingObs, listing, phaseRange, rostering, asMade, feeding, placeIn, forPlace, asJudged}
 
 -- ---- the law
 
@@ -90,6 +91,10 @@ writes-ordered m r room = refl
 pub writes-obs-ordered : (o : Obs) (room : ℕ) → obsWriteAnswer o room ≡ ordered (writingObs o room) (7 + o .count * 16 + 8)
 unfolding obsWriteAnswer planned
 writes-obs-ordered o room = refl
+
+pub lists-ordered : (s : List ℕ) (room : ℕ) → listAnswer s room ≡ ordered (listing s room) (length (textOf s))
+unfolding listAnswer
+lists-ordered s room = refl
 
 pub phase-ordered : (z : ℤ) → readPhase z ≡ ordered (phaseRange z) (partsOf z)
 unfolding readPhase

@@ -1,14 +1,14 @@
--- A refused writer leaves the buffer as it was, and a refused roster makes a collator that refuses every frame and never moves.
+-- A refused writer leaves the buffer as it was, so does a line without room, and a refused roster makes a collator that refuses every frame and never moves.
 -- Assumes nothing.
 use mathlib.Core.Path.{_≡_, refl, sym, ap, _∙_}
 use mathlib.Core.Bool.{Bool, true, false, cond}
-use mathlib.Core.List.{List, [], _∷_}
+use mathlib.Core.List.{List, []}
 use mathlib.Core.Logic.{_⊎_, inl, inr}
-use Prim.Native.Nat.{ℕ, _+_, _*_}
+use Prim.Native.Nat.{ℕ, _+_, _*_, _<_}
 use native.Mathlib.Omega.{arith}
 use lib.Dec.{eqb, leb}
 use lib.ListN.{length}
-use borrow.Author.Tests.{leb-true, leb-false}
+use borrow.Author.Tests.{leb-true, leb-false, lt-leb}
 use Rattle.wire.specs.Field.{size, allowedRow}
 use Rattle.wire.specs.Message.{Answer, given, refused, Message}
 use Rattle.frames.specs.Writer.{planned}
@@ -25,9 +25,10 @@ use Rattle.epochs.specs.Epoch.{Item, fedItem, after}
 use Rattle.epochs.specs.declared.judging.Judged.the-variants as J
 use Rattle.epochs.specs.declared.collating.Collator.{Collator}
 use Rattle.epochs.specs.declared.collating.Made.{Made}
-use Rattle.epochs.specs.declared.collating.Fed.{Fed}
 use Rattle.epochs.specs.declared.collating.Happened.the-variants as H
 use Rattle.epochs.proofs.Feeding.{fed-refused}
+use Rattle.text.specs.Line.{laid}
+use Rattle.listing.proofs.EpochLines.{nobody-moves}
 use Rattle.demands.specs.Order.{ordered, rostering, asMade, asJudged}
 use Rattle.demands.proofs.Order.{made-ordered, judged-ordered}
 
@@ -59,6 +60,12 @@ obs-unwritten sender o entries buf fifteen e = by (leb (o .count) 15) refl
         sym (obs.wrote-nothing sender o entries buf few (omega arith) refl (sym (few-planned o (length buf) q) ∙ e) .1)
     by false q = sym (obs.wrote-31 sender o entries buf (leb-false (o .count) 15 q) .1)
 
+-- ---- a line that has no room
+
+pub line-unwritten : (buf : List ℕ) (at : ℕ) (text : List ℕ) → length buf < at + length text → laid buf at text ≡ buf
+unfolding laid
+line-unwritten buf at text h = rw (lt-leb (at + length text) (length buf) h)
+
 -- ---- a refused roster
 
 lists-nobody : (roster : List ℕ) → (made roster .number ≡ 0 → ⊥) → made roster .collator ≡ fresh []
@@ -81,11 +88,6 @@ module _ (x : Item) where
 
   nobody-fed : fedItem (fresh []) x ≡ record { collator = fresh []; happened = H.Refused (nobody-judges .0) }
   nobody-fed = fed-refused (fresh []) (x .kind) (x .sender) (x .payload) (nobody-judges .2)
-
-nobody-moves : (xs : List Item) → after (fresh []) xs ≡ fresh []
-unfolding after
-nobody-moves [] = refl
-nobody-moves (x ∷ xs) = ap (λ (f : Fed). after (f .collator) xs) (nobody-fed x) ∙ nobody-moves xs
 
 pub nobody-listed : (roster : List ℕ) → (made roster .number ≡ 0 → ⊥) → (xs : List Item) (x : Item)
     → (n : ℕ) × ((n ≡ 46) ⊎ (n ≡ 22) ⊎ (n ≡ 43)) × (fedItem (after (made roster .collator) xs) x ≡ record { collator = fresh []; happened = H.Refused n })

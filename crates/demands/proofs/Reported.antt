@@ -2,7 +2,6 @@
 use mathlib.Core.Path.{_≡_, refl, sym, ap, ap₂, _∙_, subst}
 use mathlib.Core.List.{List, [], _∷_, _++_}
 use Prim.Native.Nat.{ℕ}
-use native.Mathlib.Omega.{arith}
 use Rattle.epochs.specs.Collator.{made}
 use Rattle.epochs.specs.Epoch.{Item, fedItem, after, reportIn, reports, EndsEpoch}
 use Rattle.epochs.specs.declared.collating.Collator.{Collator}
@@ -10,19 +9,8 @@ use Rattle.epochs.specs.declared.collating.Report.{Report}
 use Rattle.epochs.specs.declared.collating.Happened.{Happened}
 use Rattle.epochs.specs.declared.collating.Happened.the-variants as H
 use Rattle.epochs.proofs.Collations.{epoch-told}
+use Rattle.listing.proofs.EpochLines.{never-taken, never-refused, after-one}
 use Rattle.demands.specs.Reported.{Epochs, none, ending, passing}
-
--- one frame more
-after-one : (c : Collator) (xs : List Item) (x : Item) → after c (xs ++ x ∷ []) ≡ fedItem (after c xs) x .collator
-unfolding after
-after-one c [] x = refl
-after-one c (y ∷ xs) x = after-one (fedItem c y .collator) xs x
-
-never-taken : {e : Report} → H.Taken ≡ H.Epoch e → ⊥
-never-taken e = let z : _≡_ {A = ℕ} 0 1 = cc in omega arith
-
-never-refused : {n : ℕ} {e : Report} → H.Refused n ≡ H.Epoch e → ⊥
-never-refused e = let z : _≡_ {A = ℕ} 0 1 = cc in omega arith
 
 same-epoch : {d e : Report} → H.Epoch d ≡ H.Epoch e → d ≡ e
 same-epoch e = cc

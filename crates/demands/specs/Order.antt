@@ -26,6 +26,7 @@ use Rattle.epochs.specs.declared.judging.Judged.{Judged}
 use Rattle.epochs.specs.declared.judging.Judged.the-variants as J
 use Rattle.epochs.specs.declared.collating.Collator.{Collator}
 use Rattle.epochs.specs.declared.collating.Made.{Made}
+use Rattle.listing.specs.Listing.{textOf}
 
 -- what has to be so, and the number of the refusal where it is not
 abbrev pub Tests : Type 0
@@ -69,7 +70,7 @@ readingObs s = (fitting first (length s), 22) ∷ []
 abbrev pub readingLog : List ℕ → Tests
 readingLog s = (logLength (length s), 22) ∷ []
 
--- ---- "One observation: 22, 25."
+-- ---- "One observation: 22, 25." The observation reader asks for the one at its place
 
 abbrev pub oneObservation : List ℕ → ℕ → Tests
 oneObservation s i = (fitting first (length s), 22) ∷ (ltb i (countIn first (length s)), 25) ∷ []
@@ -84,6 +85,11 @@ writing m r room = (allowedRow (m .fields) (m .row r), 23) ∷ writingBytes (siz
 
 abbrev pub writingObs : Obs → ℕ → Tests
 writingObs o room = (leb (o .count) 15, 31) ∷ writingBytes (7 + o .count * 16) room
+
+-- ---- `sbplist`: 11 for the capture, then 32 for the buffer of its text
+
+abbrev pub listing : List ℕ → ℕ → Tests
+listing s room = (leb (length s) 65536, 11) ∷ (leb (length (textOf s)) room, 32) ∷ []
 
 -- ---- the carrier phase: 33
 

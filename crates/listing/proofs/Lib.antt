@@ -1,3 +1,5 @@
 pub mod Rosters
+pub mod Accepted
 pub mod Texts
 pub mod Sizes
+pub mod EpochLines

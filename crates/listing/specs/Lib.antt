@@ -1,2 +1,3 @@
 pub mod Roster
 pub mod Listing
+pub mod Words

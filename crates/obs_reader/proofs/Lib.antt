@@ -2,5 +2,4 @@ pub mod Places
 pub mod Walks
 pub mod WrittenWalks
 pub mod Readers
-pub mod Determined
 pub mod Loans

@@ -1,0 +1,26 @@
+-- A buffer of eight bytes for each byte of a capture, and 32, gets the whole listing. Assumes nothing.
+use mathlib.Core.Path.{_≡_, refl, ap, _∙_}
+use mathlib.Core.List.{List, _++_}
+use Prim.Native.Nat.{ℕ, _+_, _*_, _≤_}
+use native.Mathlib.Omega.{arith}
+use lib.ListN.{length, drop}
+use borrow.Author.Tests.{le-leb}
+use Rattle.wire.specs.Number.{Bytes}
+use Rattle.wire.specs.Message.{Answer, given}
+use Rattle.epochs.specs.Collator.{made}
+use Rattle.listing.specs.Roster.{rosterIn}
+use Rattle.listing.specs.Listing.{textOf, listAnswer, listedAs, listed}
+use Rattle.listing.proofs.Sizes.{text-size}
+use Rattle.demands.specs.Order.{listing}
+use Rattle.demands.proofs.Order.{exactly-all, lists-ordered}
+
+module _ (s buf : List ℕ) (bytes : Bytes s) (short : length s ≤ 65536) (room : 8 * length s + 32 ≤ length buf) where
+  answered : listAnswer s (length buf) ≡ given (length (textOf s))
+  answered =
+      let size = text-size s bytes short (made (rosterIn s) .collator) in
+      let fits : length (textOf s) ≤ length buf = omega (arith, size, room) in
+      lists-ordered s (length buf)
+      ∙ exactly-all (length (textOf s)) (listing s (length buf)) (length (textOf s)) .1 ((le-leb (length s) 65536 short, (le-leb (length (textOf s)) (length buf) fits, tt)), refl)
+
+  pub room-enough : (listAnswer s (length buf) ≡ given (length (textOf s))) × (listed s buf ≡ textOf s ++ drop (length (textOf s)) buf)
+  room-enough = (answered, ap (λ (a : Answer ℕ). listedAs a s buf) answered)
