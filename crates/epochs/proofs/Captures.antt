@@ -1,7 +1,7 @@
 -- Collating a whole capture: what the loop of `collate` keeps, and what its answer is: the end state of the capture's frames, and for each
 -- place the number of its sender's reports. Assumes nothing.
-use mathlib.Core.Path.{_≡_, refl, sym, ap, ap₂, _∙_, subst}
-use mathlib.Core.Bool.{Bool, true, false, cond, false≢true}
+use mathlib.Core.Path.{_≡_, refl, sym, ap, ap₂, _∙_}
+use mathlib.Core.Bool.{Bool, true, false, cond}
 use mathlib.Core.List.{List, [], _∷_, map}
 use Prim.Native.Nat.{ℕ, zero, suc, pred, _+_, _%_, _^_, _≤_, _<_}
 use native.Mathlib.Omega.{arith}
@@ -10,7 +10,7 @@ use lib.ListN.{length, getD, replicate, length-set, length-map, getD-replicate}
 use lib.Seq.{getD-set-same, getD-set-other}
 use borrow.Author.Tests.{eqb-true, eqb-false, eq-eqb, ne-eqb}
 use Rattle.frames.specs.Step.{stepOf, passed, payloadIn}
-use Rattle.frames.specs.Reading.{Placed, stops, readFrom, steps, framesIn, framesOf}
+use Rattle.frames.specs.Reading.{Placed, stops, readFrom, framesIn, framesOf}
 use Rattle.frames.specs.Cursors.{nextOf}
 use Rattle.frames.specs.Cursors as cursors
 use Rattle.frames.specs.declared.step.Frame.{Frame}

@@ -1,6 +1,6 @@
 -- What a report's numbers are at most, whatever the state: those of its fields' widths. Assumes nothing.
-use mathlib.Core.Path.{_≡_, refl, sym, ap, _∙_, subst}
-use mathlib.Core.Bool.{Bool, true, false, cond}
+use mathlib.Core.Path.{_≡_, refl}
+use mathlib.Core.Bool.{Bool, true, false}
 use mathlib.Core.List.{List}
 use Prim.Native.Nat.{ℕ, _+_, _%_, _^_, _≤_, _<_}
 use native.Mathlib.Omega.{arith}
@@ -8,7 +8,7 @@ use lib.Dec.{eqb}
 use lib.ListN.{getD}
 use Rattle.wire.specs.Number.{Bytes}
 use Rattle.epochs.specs.Packet.{judged}
-use Rattle.epochs.specs.Collator.{idle, fits, summed, goesOn, continued, stepped, told, taken, acted, rosterOf, fed}
+use Rattle.epochs.specs.Collator.{idle, fits, summed, goesOn, continued, stepped, told, acted, rosterOf, fed}
 use Rattle.epochs.specs.declared.judging.Packet.{Packet}
 use Rattle.epochs.specs.declared.judging.Judged.{Judged}
 use Rattle.epochs.specs.declared.judging.Judged.the-variants as J

@@ -1,14 +1,11 @@
 -- The stores of a frame writer make the frame: the head, the payload at 6 and the CRC after it. Assumes nothing.
 use mathlib.Core.Path.{_≡_, refl, sym, ap, ap₂, _∙_}
-use mathlib.Core.Bool.{Bool, true, false}
 use mathlib.Core.List.{List, [], _∷_, _++_, append-assoc}
 use Prim.Native.Nat.{ℕ, suc, _+_, _-_, _≤_, _<_, zero-le}
 use native.Mathlib.Numerals.{add-one}
 use native.Mathlib.Omega.{arith}
-use lib.Dec.{ltb}
-use lib.ListN.{length, getD, take, drop, set, length-append, length-drop, take-append-drop, drop-of-length-le}
-use lib.Seq.{sets, set-out, drop-drop, drop-cons, take-append-seam, drop-append-add, take-at, drop-at, length-take-le, length-sets, sets-eq}
-use borrow.Author.Tests.{ltb-true, ltb-false}
+use lib.ListN.{length, getD, take, drop, length-append, length-drop, take-append-drop, drop-of-length-le}
+use lib.Seq.{sets, drop-drop, drop-cons, take-append-seam, drop-append-add, take-at, drop-at, length-take-le, length-sets, sets-eq}
 use Rattle.wire.specs.Number.{bytesOf, storedAt}
 use Rattle.wire.specs.Field.{Field, Row, size, encode, rowStored}
 use Rattle.wire.specs.Message.{given, refused}

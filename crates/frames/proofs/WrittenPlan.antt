@@ -11,18 +11,11 @@ use Rattle.wire.specs.Message.{Answer, given, refused}
 use Rattle.wire.proofs.Answers.{never-both, same-refused}
 use Rattle.frames.specs.Writer.{writtenAnswer, planned, fitting}
 use Rattle.frames.specs.declared.write.Written.{Written}
-use Rattle.frames.specs.declared.write.Written.the-variants.{Bytes, Refused}
 
 never-31-32 : {o : Answer ℕ} → o ≡ refused 31 → o ≡ refused 32 → ⊥
 never-31-32 p q = let z : _≡_ {A = ℕ} 31 32 = same-refused p q in omega arith
 
 -- the enum of an answer is determined by the answer, and says what was planned
-pub answer-determines : (a b : Written) → writtenAnswer a ≡ writtenAnswer b → a ≡ b
-answer-determines (Bytes m) (Bytes n) e = cc
-answer-determines (Bytes m) (Refused n) e = absurd (never-both refl e)
-answer-determines (Refused m) (Bytes n) e = absurd (never-both refl (sym e))
-answer-determines (Refused m) (Refused n) e = cc
-
 pub told : {o w : Written} {a : Answer ℕ} → writtenAnswer o ≡ a → o ≡ w → a ≡ writtenAnswer w
 told p e = sym p ∙ ap writtenAnswer e
 

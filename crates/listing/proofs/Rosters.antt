@@ -1,11 +1,10 @@
 -- The roster of a listing: what eight places hold after each frame, and that it is one that a collator takes, or empty. Assumes nothing.
-use mathlib.Core.Path.{_≡_, refl, sym, ap, ap₂, _∙_, subst}
+use mathlib.Core.Path.{_≡_, refl, sym, ap, ap₂, _∙_}
 use mathlib.Core.Bool.{Bool, true, false, cond}
 use mathlib.Core.List.{List, [], _∷_, _++_}
 use Prim.Native.Nat.{ℕ, zero, suc, _+_, _-_, _^_, _≤_, _<_}
 use native.Mathlib.Omega.{arith}
-use native.Mathlib.Numerals.{add-one}
-use lib.Dec.{eqb, leb, ltb}
+use lib.Dec.{eqb, leb}
 use lib.ListN.{length, set, take, drop, replicate, length-take, length-append}
 use lib.Seq.{take-take, take-append-seam}
 use borrow.Author.Tests.{leb-true, leb-false, lt-ltb, le-ltb, le-leb, lt-leb}
@@ -15,7 +14,7 @@ use Rattle.frames.specs.Cursors as cursors
 use Rattle.frames.specs.declared.step.Frame.{Frame}
 use Rattle.frames.specs.declared.cursor.Cursor.{Cursor}
 use Rattle.frames.specs.declared.cursor.Next as Next
-use Rattle.frames.proofs.Walks.{Walking, left, walking-begun, walking-on, walking-end}
+use Rattle.frames.proofs.Walks.{Walking, walking-begun, walking-on, walking-end}
 use Rattle.epochs.specs.Packet.{obsKind, seatOf}
 use Rattle.epochs.specs.Collator.{names}
 use Rattle.epochs.specs.declared.judging.Seat.{Seat}

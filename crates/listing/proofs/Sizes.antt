@@ -1,35 +1,32 @@
 -- How long a listing is: at most eight bytes for each byte of the capture, and 32. Assumes nothing.
-use mathlib.Core.Path.{_≡_, refl, sym, ap, _∙_, subst}
+use mathlib.Core.Path.{_≡_, refl, ap}
 use mathlib.Core.Bool.{Bool, true, false, cond}
 use mathlib.Core.List.{List, [], _∷_, _++_}
-use Prim.Native.Nat.{ℕ, zero, suc, _+_, _*_, _/_, _%_, _^_, _≤_, _<_}
+use Prim.Native.Nat.{ℕ, suc, _+_, _*_, _^_, _≤_, _<_}
 use native.Mathlib.Omega.{arith}
-use lib.Dec.{eqb, leb, lit<}
+use lib.Dec.{eqb, lit<}
 use lib.ListN.{length, drop, length-append}
-use Rattle.wire.specs.Number.{Bytes, numberAt}
-use Rattle.wire.specs.Message.{Answer, given, refused}
-use Rattle.wire.proofs.Numbers.{bytes-take, bytes-drop, number-lt}
+use Rattle.wire.specs.Number.{Bytes}
+use Rattle.wire.specs.Message.{given, refused}
+use Rattle.wire.proofs.Numbers.{bytes-take, bytes-drop}
 use Rattle.frames.specs.Step.{stepAt, passed, ends, payloadIn}
-use Rattle.frames.specs.Reading.{Placed, Tiled, done, then, placed, framesIn, framesOf, countsOf, closedSteps, sumOf}
+use Rattle.frames.specs.Reading.{Placed, Tiled, done, then, framesIn, framesOf, countsOf, closedSteps}
 use Rattle.frames.specs.declared.step.Frame.{Frame}
 use Rattle.frames.specs.declared.step.Step.{Step}
 use Rattle.frames.specs.declared.step.Step.the-variants.{Finished, Junk, Short, Bad, Found}
-use Rattle.frames.specs.declared.cursor.Counts.{Counts}
 use Rattle.frames.proofs.Frames.{found-at, found-fits, found-numbers}
 use Rattle.frames.proofs.Tiling.{closed-tiled, adds-up}
-use Rattle.payloads.specs.Table.{Line, table, readLine, lookUp, readFor, numberOf, answerFor}
+use Rattle.payloads.specs.Table.{Line, table, readLine, lookUp, numberOf, answerFor}
 use Rattle.payloads.specs.declared.Message.{Message}
 use Rattle.epochs.specs.Epoch.{fedItem, itemIn}
 use Rattle.epochs.specs.declared.collating.Collator.{Collator}
-use Rattle.epochs.specs.declared.collating.Report.{Report}
 use Rattle.epochs.specs.declared.collating.Happened.{Happened}
 use Rattle.epochs.specs.declared.collating.Happened.the-variants as H
 use Rattle.epochs.proofs.Reports.{SmallIn, report-small}
-use Rattle.text.specs.Decimal.{decimal}
 use Rattle.text.specs.Line.{fields, line}
 use Rattle.text.proofs.Decimals.{few-digits}
 use Rattle.text.proofs.Lines.{length-fields, length-line}
-use Rattle.listing.specs.Listing.{frameLine, epochLine, totalsLine, told, framesText, textFrom}
+use Rattle.listing.specs.Listing.{frameLine, totalsLine, told, framesText, textFrom}
 
 -- ---- a line of five numbers
 

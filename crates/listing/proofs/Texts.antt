@@ -1,5 +1,5 @@
 -- A listing put into a buffer line by line: what the loop of `put_text` keeps, and what `list` answers. Assumes nothing.
-use mathlib.Core.Path.{_≡_, refl, sym, ap, ap₂, _∙_, subst}
+use mathlib.Core.Path.{_≡_, refl, sym, ap, _∙_, subst}
 use mathlib.Core.Bool.{Bool, true, false, cond}
 use mathlib.Core.List.{List, [], _∷_, _++_, append-assoc}
 use Prim.Native.Nat.{ℕ, _+_, _%_, _^_, _≤_, _<_}
@@ -10,7 +10,6 @@ use lib.Seq.{sets, sets-eq, length-sets}
 use borrow.Author.Tests.{le-leb, lt-leb, leb-true}
 use Rattle.wire.specs.Message.{Answer, given, refused}
 use Rattle.frames.specs.Step.{payloadIn}
-use Rattle.frames.specs.Reading.{closedSteps, framesOf, countsOf}
 use Rattle.frames.specs.Cursors.{nextOf, countsIn}
 use Rattle.frames.specs.Cursors as cursors
 use Rattle.frames.specs.declared.step.Frame.{Frame}

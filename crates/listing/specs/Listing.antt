@@ -8,7 +8,6 @@ use Rattle.wire.specs.Message.{Answer, given, refused}
 use Rattle.frames.specs.Step.{payloadIn}
 use Rattle.frames.specs.Reading.{closedSteps, framesOf, countsOf}
 use Rattle.frames.specs.declared.step.Frame.{Frame}
-use Rattle.frames.specs.declared.cursor.Counts.{Counts}
 use Rattle.payloads.specs.Table.{answerFor}
 use Rattle.epochs.specs.Collator.{made}
 use Rattle.epochs.specs.Epoch.{fedItem, itemIn}

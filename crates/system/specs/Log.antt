@@ -3,7 +3,7 @@ use Prim.Native.Nat.{ℕ, _-_}
 use mathlib.Core.Bool.{Bool, _&&_, cond}
 use mathlib.Core.List.{List, _∷_}
 use lib.Dec.{leb}
-use lib.ListN.{length, getD, drop}
+use lib.ListN.{length, drop}
 use Rattle.wire.specs.Number.{numberAt}
 use Rattle.wire.specs.Message.{Answer, given, refused}
 use Rattle.system.specs.declared.log.Log.{Log}

@@ -2,7 +2,7 @@
 -- Assumes nothing.
 use Prim.Native.Nat.{ℕ}
 use mathlib.Core.Bool.{cond}
-use lib.Ieee.{Float, binary64, ofBits, toBits, isNan, nanBits}
+use lib.Ieee.{binary64, ofBits, toBits, isNan, nanBits}
 use Rattle.wire.specs.declared.double.Double.{Double}
 
 -- what 64 bits stand for: their value, and the bits themselves where that is a NaN

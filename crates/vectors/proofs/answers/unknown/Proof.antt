@@ -1,8 +1,7 @@
 -- `vectors::answers::unknown` is safe and ends: it counts to 65536.
-use Prim.Native.Nat.{_≤_, _+_, _-_}
+use Prim.Native.Nat.{_≤_, _-_}
 use native.Mathlib.Omega.{arith}
 use borrow.Author.Needs.{needs}
-use lib.ListN.{length}
 use Rattle.vectors.proofs.answers.unknown.Statement.{statement}
 use Rattle.vectors.proofs.answers.unknown.Tie as tie
 

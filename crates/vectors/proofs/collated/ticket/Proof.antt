@@ -1,8 +1,7 @@
 -- `vectors::collated::ticket` is safe and ends: it counts to 400.
-use Prim.Native.Nat.{_≤_, _+_, _-_}
+use Prim.Native.Nat.{_≤_, _-_}
 use native.Mathlib.Omega.{arith}
 use borrow.Author.Needs.{needs}
-use lib.ListN.{length}
 use Rattle.vectors.proofs.collated.ticket.Statement.{statement}
 use Rattle.vectors.proofs.collated.ticket.Tie as tie
 

@@ -1,8 +1,7 @@
 -- `vectors::each::fixes` is safe and ends: it counts to 256.
-use Prim.Native.Nat.{_≤_, _+_, _-_}
+use Prim.Native.Nat.{_≤_, _-_}
 use native.Mathlib.Omega.{arith}
 use borrow.Author.Needs.{needs}
-use lib.ListN.{length}
 use Rattle.vectors.proofs.each.fixes.Statement.{statement}
 use Rattle.vectors.proofs.each.fixes.Tie as tie
 

@@ -1,8 +1,7 @@
 -- `vectors::each::lengths` is safe and ends: it counts to 3.
-use Prim.Native.Nat.{_≤_, _+_, _-_}
+use Prim.Native.Nat.{_≤_, _-_}
 use native.Mathlib.Omega.{arith}
 use borrow.Author.Needs.{needs}
-use lib.ListN.{length}
 use Rattle.vectors.proofs.each.lengths.Statement.{statement}
 use Rattle.vectors.proofs.each.lengths.Tie as tie
 

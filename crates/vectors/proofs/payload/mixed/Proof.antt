@@ -1,5 +1,5 @@
 -- `vectors::payload::mixed` is safe and ends: it counts to 300, and the array keeps its length.
-use Prim.Native.Nat.{_≤_, _+_, _-_}
+use Prim.Native.Nat.{_≤_, _-_}
 use native.Mathlib.Omega.{arith}
 use borrow.Author.Needs.{needs}
 use lib.ListN.{length, length-set}

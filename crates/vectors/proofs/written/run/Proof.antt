@@ -1,8 +1,7 @@
 -- `vectors::written::run` is safe and ends: it counts to 256.
-use Prim.Native.Nat.{_≤_, _+_, _-_}
+use Prim.Native.Nat.{_≤_, _-_}
 use native.Mathlib.Omega.{arith}
 use borrow.Author.Needs.{needs}
-use lib.ListN.{length}
 use Rattle.vectors.proofs.written.run.Statement.{statement}
 use Rattle.vectors.proofs.written.run.Tie as tie
 
