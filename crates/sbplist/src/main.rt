@@ -1,5 +1,9 @@
 // Lists the frames and epochs of a capture on standard input: what `listing` makes of it, in one write.
 // A capture over 65536 bytes prints `R 11` alone; a read that fails says why on standard error and prints nothing.
+ghost use Prim.Native.Nat.{_≤_};
+ghost use mathlib.Core.Path.{_≡_};
+ghost use lib.ListN.{length, take};
+ghost use Rattle.listing.specs.Listing.{output};
 use frames::Written;
 
 // How reading standard input ended: with so many bytes, or with an error.
@@ -61,16 +65,23 @@ fn print(text: &[u8]) {
     }
 }
 
-// The text has room for every listing (listing/proofs/Sizes.antt), so that 11 is the only refusal.
-fn show(capture: &[u8], text: &mut [u8]) {
-    match listing::list(capture, text) {
-        Written::Bytes(n) => {
-            if n <= text.len() {
-                print(&text[0..n]);
-            }
-        }
-        Written::Refused(_) => print(b"R 11\n"),
+// Puts document 01's whole output at the start of text, and says how long it is: the listing, or `R 11` alone. The text has room for every
+// listing, so that 11 is the only refusal.
+fn put_output(capture: &[u8], text: &mut [u8]) -> usize
+    requires { ⌜ 524320 ≤ length (now text) ⌝ }
+    ensures { λ r. ⌜ r ≡ length (output (now (capture .entry))) ⌝ }
+    ensures { λ r. ⌜ take r (now (text .exit)) ≡ output (now (capture .entry)) ⌝ }
+    ensures { λ r. ⌜ r ≤ length (now (text .exit)) ⌝ }
+{
+    if let Written::Bytes(n) = listing::list(capture, text) {
+        return n;
     }
+    text[0] = b'R';
+    text[1] = b' ';
+    text[2] = b'1';
+    text[3] = b'1';
+    text[4] = b'\n';
+    5
 }
 
 fn main() {
@@ -80,7 +91,8 @@ fn main() {
     match read_all(&mut capture) {
         Input::Bytes(n) => {
             if n <= capture.len() {
-                show(&capture[0..n], &mut text);
+                let length = put_output(&capture[0..n], &mut text);
+                print(&text[0..length]);
             }
         }
         Input::Failed => os::fail(b"read"),
