@@ -1,0 +1,72 @@
+/* Checks what clist does not show: the published CRC values, the collator's
+ * making and refusals, and that closed reading counts as the listing does. */
+#include "fast.h"
+
+#include <stdio.h>
+#include <string.h>
+
+static int failed;
+
+static void check(int holds, const char *what)
+{
+    if (!holds) {
+        printf("FAILED: %s\n", what);
+        failed = 1;
+    }
+}
+
+int main(void)
+{
+    const uint8_t nine[] = "123456789";
+    check(sbp_crc(nine, 0) == 0, "CRC of nothing");
+    check(sbp_crc(nine, 9) == 0x31C3, "CRC of 123456789");
+
+    /* The table's rule, bit by bit. */
+    for (int b = 0; b < 256; b++) {
+        uint8_t byte = (uint8_t)b;
+        unsigned crc = (unsigned)b << 8;
+        for (int bit = 0; bit < 8; bit++)
+            crc = crc & 0x8000 ? crc << 1 ^ 0x11021 : crc << 1;
+        check(sbp_crc(&byte, 1) == crc, "table entry");
+    }
+
+    struct sbp_collator c;
+    struct sbp_epoch e;
+    const uint16_t nine_senders[9] = {1, 1, 1, 1, 1, 1, 1, 1, 1};
+    const uint16_t twice[2] = {0, 0};
+    const uint16_t two[2] = {0, 65535};
+    check(sbp_collator_make(&c, two, 0) == 41, "empty roster");
+    check(sbp_collator_make(&c, nine_senders, 9) == 41, "long roster");
+    check(sbp_collator_make(&c, twice, 2) == 42, "sender twice");
+    check(sbp_collator_make(&c, two, 2) == 0, "roster");
+
+    uint8_t p[23] = {1, 0, 0, 0, 2, 0, 0x20};
+    check(sbp_feed(&c, 0x0048, 5, p, 6, &e) == 46, "46");
+    check(sbp_feed(&c, 0x0049, 5, p, 6, &e) == 22, "22");
+    check(sbp_feed(&c, 0x0049, 5, p, 7, &e) == 43, "43");
+    check(sbp_feed(&c, 0x0049, 65535, p, 23, &e) == SBP_TAKEN, "begun");
+    p[6] = 0x00;
+    check(sbp_feed(&c, 0x0049, 65535, p, 7, &e) == 44, "44");
+    p[6] = 0x22;
+    check(sbp_feed(&c, 0x0049, 65535, p, 7, &e) == 45, "45");
+    p[6] = 0x21;
+    check(sbp_feed(&c, 0x0049, 0, p, 7, &e) == SBP_TAKEN, "idle");
+    check(sbp_feed(&c, 0x0049, 65535, p, 23, &e) == SBP_EPOCH, "epoch");
+    check(e.sender == 65535 && e.wn == 2 && e.tow == 1 && e.n == 2 &&
+              e.observations == 2,
+          "epoch's fields");
+
+    const uint8_t five[5] = {0x55, 0, 0, 0, 0};
+    const uint8_t eight[8] = {0x55, 0, 0, 0, 0, 0, 0, 0};
+    struct sbp_counts counts;
+    check(sbp_read_closed(five, 5, &counts) == 0 && counts.short_ == 1 &&
+              counts.junk == 4,
+          "five bytes");
+    check(sbp_read_closed(eight, 8, &counts) == 1 && counts.frame_bytes == 8,
+          "eight bytes");
+    check(sbp_read_closed(NULL, 0, &counts) == 0 && counts.junk == 0,
+          "no bytes");
+    if (!failed)
+        printf("ccheck: all hold\n");
+    return failed;
+}

@@ -1,0 +1,14 @@
+//! The same answers, written for speed: for benchmarks, and as a check on
+//! the plain modules. No code is shared with them.
+
+mod answer;
+mod collate;
+mod crc;
+mod decimal;
+mod find;
+mod listing;
+
+pub use answer::answer;
+pub use crc::{crc_sliced, crc_table};
+pub use find::{closed, Counts};
+pub use listing::listing_into;

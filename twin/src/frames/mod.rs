@@ -1,0 +1,23 @@
+//! Frames: 003 section 2, and 01's "Finding frames and resuming".
+
+mod closed;
+mod open;
+mod step;
+mod write;
+
+pub use closed::{closed, Closed};
+pub use open::{open, Open};
+pub use step::{step, Frame, Step, PREAMBLE};
+pub use write::{write, DEFAULT_SENDER};
+
+/// Header of 6 bytes and CRC of 2 around every payload.
+pub const AROUND: usize = 8;
+
+/// Bytes passed over, by reason.
+#[derive(Clone, Copy, Debug, Default, PartialEq, Eq)]
+pub struct Counts {
+    pub frame_bytes: usize,
+    pub junk: usize,
+    pub bad: usize,
+    pub short: usize,
+}

@@ -1,0 +1,114 @@
+//! What the generated captures reach, so that a comparison over them means
+//! something.
+
+use super::{capture, TYPES};
+use crate::epochs::{Collator, Outcome};
+use crate::frames::{closed, open, step, Step};
+use crate::listing::{roster, MAX_INPUT};
+use crate::messages::answer;
+use std::collections::BTreeMap;
+use std::fmt::Write;
+
+#[derive(Default)]
+pub struct Stats {
+    /// Counts by name, in the order of the names.
+    counts: BTreeMap<String, usize>,
+}
+
+impl Stats {
+    fn add(&mut self, name: &str, more: usize) {
+        *self.counts.entry(name.to_string()).or_default() += more;
+    }
+
+    pub fn get(&self, name: &str) -> usize {
+        self.counts.get(name).copied().unwrap_or(0)
+    }
+
+    /// Counts what one capture reaches.
+    pub fn take(&mut self, bytes: &[u8]) {
+        self.add("capture", 1);
+        self.add("capture bytes", bytes.len());
+        match bytes.len() {
+            0 | 1 | 65535 | 65536 => self.add(&format!("capture of length {}", bytes.len()), 1),
+            2..=4095 => self.add("capture of 2 to 4095", 1),
+            4096..=65534 => self.add("capture of 4096 to 65534", 1),
+            _ => {
+                self.add("capture too long (11)", 1);
+                return;
+            }
+        }
+        assert!(bytes.len() <= MAX_INPUT);
+        self.steps(bytes);
+        self.payloads_and_epochs(bytes);
+    }
+
+    fn steps(&mut self, bytes: &[u8]) {
+        let mut p = 0;
+        loop {
+            let (name, pass) = match step(bytes, p) {
+                Step::Finished => break,
+                Step::Junk => ("step junk", 1),
+                Step::Short { needed: 6 } => ("step short, 6 needed", 1),
+                Step::Short { .. } => ("step short, N + 8 needed", 1),
+                Step::Bad => ("step bad", 1),
+                Step::Frame(frame) => ("step frame", frame.size()),
+            };
+            self.add(name, 1);
+            p += pass;
+        }
+        match open(bytes, 0).needed {
+            None => self.add("open reading finished", 1),
+            Some(_) => self.add("open reading stopped", 1),
+        }
+    }
+
+    fn payloads_and_epochs(&mut self, bytes: &[u8]) {
+        let reading = closed(bytes);
+        let listed = roster(&reading.frames);
+        self.add(&format!("roster of {}", listed.len()), 1);
+        let mut collator = Collator::new(&listed).ok();
+        for frame in &reading.frames {
+            let no = answer(frame.msg_type, frame.payload);
+            self.add(&format!("answer {no:02}"), 1);
+            if TYPES.contains(&frame.msg_type) {
+                self.add(&format!("type {:#06x} answer {no:02}", frame.msg_type), 1);
+            }
+            let Some(before) = collator.take() else {
+                self.add("feed none: no collator", 1);
+                continue;
+            };
+            let fed = before.feed(frame.msg_type, frame.sender, frame.payload);
+            collator = Some(fed.collator);
+            match fed.outcome {
+                Outcome::Refused(no) => self.add(&format!("feed refused {no}"), 1),
+                Outcome::Taken => self.add("feed taken", 1),
+                Outcome::Epoch(epoch) => {
+                    self.add("feed epoch", 1);
+                    self.add(&format!("epoch of n {:02}", epoch.n), 1);
+                    if epoch.sender == 0 || epoch.sender == 65535 {
+                        self.add(&format!("epoch of sender {}", epoch.sender), 1);
+                    }
+                }
+            }
+        }
+    }
+
+    /// One line for each count.
+    pub fn text(&self) -> String {
+        let mut text = String::new();
+        for (name, count) in &self.counts {
+            // Writing to a String cannot fail.
+            let _ = writeln!(text, "{count:>10}  {name}");
+        }
+        text
+    }
+}
+
+/// The counts over `count` captures from `seed` on.
+pub fn stats(seed: u64, count: u64) -> Stats {
+    let mut found = Stats::default();
+    for each in 0..count {
+        found.take(&capture(seed.wrapping_add(each)));
+    }
+    found
+}

@@ -1,0 +1,14 @@
+//! A second, independent reading of SBP 1.1 (document 003) under the rules of
+//! document 01. Written to be obvious, so that another implementation can be
+//! compared with it; `fast` is the one module written for speed.
+
+#![forbid(unsafe_code)]
+
+pub mod crc;
+pub mod epochs;
+pub mod fast;
+pub mod frames;
+pub mod gen;
+pub mod listing;
+pub mod messages;
+pub mod numbers;

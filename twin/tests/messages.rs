@@ -1,0 +1,280 @@
+//! Reading and writing of every message.
+
+use twin::frames::{closed, write};
+use twin::gen::{broken_range, off_length, valid, Rng, TYPES};
+use twin::messages::flags::*;
+use twin::messages::*;
+
+/// Payload to record to frame gives the frame of that payload, bit for bit.
+#[test]
+fn round_trips() {
+    let mut rng = Rng::new(1);
+    for _ in 0..400 {
+        for msg_type in TYPES {
+            let payload = valid(&mut rng, msg_type);
+            assert_eq!(answer(msg_type, &payload), 0);
+            let message = Message::read(msg_type, &payload).unwrap();
+            let sender = rng.word() as u16;
+            let size = payload.len() + 8;
+
+            let mut raw = vec![0; size];
+            assert_eq!(write(msg_type, Some(sender), &payload, &mut raw), Ok(size));
+            let mut out = vec![0xA7; size + 3];
+            assert_eq!(message.write(Some(sender), &mut out), Ok(size));
+            assert_eq!(out[..size], raw);
+            assert_eq!(out[size..], [0xA7; 3]);
+
+            // No sender given: 0x42.
+            assert_eq!(message.write(None, &mut out), Ok(size));
+            assert_eq!(out[3..5], [0x42, 0]);
+            let reading = closed(&out[..size]);
+            assert_eq!(reading.frames.len(), 1);
+            assert_eq!(
+                Message::read(msg_type, reading.frames[0].payload),
+                Ok(message.clone())
+            );
+
+            // One byte too few: 32, and nothing written.
+            let mut small = vec![0xA7; size - 1];
+            assert_eq!(message.write(None, &mut small), Err(32));
+            assert!(small.iter().all(|&b| b == 0xA7));
+        }
+    }
+}
+
+#[test]
+fn refused_payloads() {
+    let mut rng = Rng::new(2);
+    let mut ranged = 0;
+    for _ in 0..400 {
+        for msg_type in TYPES {
+            if let Some(payload) = broken_range(&mut rng, msg_type) {
+                ranged += 1;
+                assert_eq!(answer(msg_type, &payload), 23);
+            }
+            let payload = off_length(&mut rng, msg_type);
+            let no = answer(msg_type, &payload);
+            assert_eq!(no, twin::fast::answer(msg_type, &payload));
+            // One off in length is 22 even where a range is broken too.
+            assert!(no != 21);
+        }
+    }
+    assert_eq!(ranged, 400 * 6);
+}
+
+/// Which lengths each type takes, from the table of document 01.
+#[test]
+fn every_length_of_every_type() {
+    for msg_type in TYPES {
+        for length in 0..=300 {
+            let right = match msg_type {
+                0x0100 => length == 11,
+                0x0206 => length == 14,
+                0x0200 => length == 32,
+                0x0201 => length == 34,
+                0x0202 | 0x0204 => length == 20,
+                0x0203 | 0x0205 => length == 22,
+                0x0207 => length == 10,
+                0x0044 | 0x0048 => length == 24,
+                0x0049 => length <= 247 && length % 16 == 7,
+                0x0401 => (1..=255).contains(&length),
+                0x00A2 => length == 2,
+                0xFF00 | 0xFFFF => length == 4,
+                _ => length == 0,
+            };
+            let payload = vec![0; length];
+            let expected = if right { 0 } else { 22 };
+            assert_eq!(
+                answer(msg_type, &payload),
+                expected,
+                "{msg_type:#06x} {length}"
+            );
+            assert_eq!(twin::fast::answer(msg_type, &payload), expected);
+        }
+    }
+}
+
+#[test]
+fn every_type_not_in_the_table_is_21() {
+    for msg_type in 0..=u16::MAX {
+        let known = TYPES.contains(&msg_type);
+        assert_eq!(answer(msg_type, &[]) != 21, known);
+        assert_eq!(twin::fast::answer(msg_type, &[]) != 21, known);
+    }
+}
+
+/// All 256 flags in each message that has a fix mode, and in the velocities.
+#[test]
+fn fix_mode_ranges() {
+    for (msg_type, length, highest) in [
+        (0x0200u16, 32, 2),
+        (0x0201, 34, 2),
+        (0x0202, 20, 1),
+        (0x0203, 22, 1),
+        (0x0207, 10, 1),
+        (0x0204, 20, 7),
+        (0x0205, 22, 7),
+    ] {
+        for flags in 0..=255u8 {
+            let mut payload = vec![0; length];
+            payload[length - 1] = flags;
+            let expected = if flags % 8 <= highest { 0 } else { 23 };
+            assert_eq!(answer(msg_type, &payload), expected);
+            assert_eq!(twin::fast::answer(msg_type, &payload), expected);
+        }
+    }
+}
+
+/// 23 comes before 32 when writing.
+#[test]
+fn writing_out_of_range() {
+    let mut out = [0xA7; 40];
+    let time = GpsTime {
+        wn: 1,
+        tow: 2,
+        ns: 500_001,
+        flags: 0,
+    };
+    assert_eq!(time.write(None, &mut out), Err(23));
+    assert_eq!(time.write(None, &mut []), Err(23));
+    let heading = BaselineHeading {
+        tow: 0,
+        heading: 0,
+        n_sats: 0,
+        flags: 2,
+    };
+    assert_eq!(heading.write(None, &mut []), Err(23));
+    assert_eq!(
+        BaselineHeading {
+            flags: 1,
+            ..heading
+        }
+        .write(None, &mut []),
+        Err(32)
+    );
+    assert!(out.iter().all(|&b| b == 0xA7));
+}
+
+#[test]
+fn doubles_keep_their_bits() {
+    for bits in [
+        0x8000_0000_0000_0000,
+        0x7FF0_0000_0000_0001,
+        0xFFF8_0000_0000_1234,
+        0x7FF8_0000_0000_0000,
+        f64::INFINITY.to_bits(),
+    ] {
+        let double = Double { bits };
+        assert_eq!(Double::from_value(double.value()), double);
+        let record = BasePosEcef {
+            x: double,
+            y: Double { bits: 1 },
+            z: double,
+        };
+        let mut out = [0; 32];
+        record.write(None, &mut out).unwrap();
+        assert_eq!(out[6..14], bits.to_le_bytes());
+        assert_eq!(BasePosEcef::read(&out[6..30]), Ok(record));
+    }
+}
+
+#[test]
+fn observations() {
+    let header = ObsHeader {
+        tow: 5,
+        wn: 6,
+        n_obs: 0x00,
+    };
+    let one = Observation {
+        p: 0x0403_0201,
+        l_i: -3,
+        l_f: 128,
+        cn0: 7,
+        lock: 0x0908,
+        sat: 0x0B0A,
+        code: 12,
+        reserved: 13,
+    };
+    let mut out = [0xA7; 300];
+    assert_eq!(write_obs(&header, &[one; 16], None, &mut out), Err(31));
+    assert_eq!(write_obs(&header, &[one; 16], None, &mut []), Err(31));
+    assert_eq!(
+        write_obs(&header, &[one; 15], None, &mut out[..254]),
+        Err(32)
+    );
+    assert!(out.iter().all(|&b| b == 0xA7));
+    assert_eq!(write_obs(&header, &[one; 2], None, &mut out), Ok(47));
+    let payload = &out[6..45];
+    assert_eq!(
+        payload[7..23],
+        [1, 2, 3, 4, 0xFD, 0xFF, 0xFF, 0xFF, 128, 7, 8, 9, 10, 11, 12, 13]
+    );
+    assert_eq!(read_obs_header(payload), Ok(header));
+    assert_eq!(observation(payload, 0), Ok(one));
+    assert_eq!(observation(payload, 1), Ok(one));
+    assert_eq!(observation(payload, 2), Err(25));
+    assert_eq!(observation(&payload[1..], 2), Err(22));
+    assert_eq!(observation(payload, usize::MAX), Err(25));
+
+    let mut reader = ObsReader::new(payload);
+    assert_eq!(reader.step(), Ok(one));
+    assert_eq!(reader.step(), Ok(one));
+    assert_eq!(reader.step(), Err(25));
+    assert_eq!(reader.step(), Err(25));
+    assert_eq!(reader.index(), 2);
+}
+
+#[test]
+fn log_text() {
+    let text = [b'x'; 255];
+    let mut out = [0xA7; 300];
+    let log = |length| Log {
+        level: 255,
+        text: &text[..length],
+    };
+    assert_eq!(log(255).write(None, &mut []), Err(31));
+    assert_eq!(log(254).write(None, &mut []), Err(32));
+    assert_eq!(log(254).write(None, &mut out), Ok(263));
+    assert_eq!(Log::read(&out[6..261]), Ok(log(254)));
+    assert_eq!(log_level_name(7), "DEBUG");
+    assert_eq!(log_level_name(8), "EMERG");
+}
+
+#[test]
+fn carrier_phase_limits() {
+    assert_eq!(phase_from_parts(i32::MIN, 0), PHASE_MIN);
+    assert_eq!(phase_from_parts(i32::MAX, 255), PHASE_MAX);
+    assert_eq!(phase_to_parts(PHASE_MIN), Ok((i32::MIN, 0)));
+    assert_eq!(phase_to_parts(PHASE_MAX), Ok((i32::MAX, 255)));
+    for outside in [PHASE_MIN - 1, PHASE_MAX + 1, i64::MIN, i64::MAX] {
+        assert_eq!(phase_to_parts(outside), Err(33));
+    }
+    let mut rng = Rng::new(3);
+    for _ in 0..10_000 {
+        let (l_i, l_f) = (rng.word() as i32, rng.byte());
+        assert_eq!(phase_to_parts(phase_from_parts(l_i, l_f)), Ok((l_i, l_f)));
+    }
+}
+
+#[test]
+fn flag_meanings() {
+    assert_eq!(pos_ecef_fix_mode(1), Some(FixMode::Float));
+    assert_eq!(pos_ecef_fix_mode(2), Some(FixMode::Fixed));
+    assert_eq!(pos_llh_fix_mode(1), Some(FixMode::Fixed));
+    assert_eq!(pos_llh_fix_mode(2), Some(FixMode::Float));
+    assert_eq!(pos_llh_fix_mode(0xF8), Some(FixMode::SinglePoint));
+    assert_eq!(pos_llh_fix_mode(3), None);
+    assert_eq!(baseline_fix_mode(0), Some(FixMode::Float));
+    assert_eq!(baseline_fix_mode(1), Some(FixMode::Fixed));
+    assert_eq!(baseline_fix_mode(2), None);
+    assert!(pos_ecef_raim_available(8) && !pos_ecef_raim_available(16));
+    assert!(pos_ecef_raim_repair(16));
+    assert!(pos_llh_raim_available(16) && !pos_llh_raim_available(8));
+    assert!(pos_llh_raim_repair(32));
+    assert_eq!(pos_llh_height_mode(8), HeightMode::AboveSeaLevel);
+    assert_eq!(pos_llh_height_mode(16), HeightMode::AboveEllipsoid);
+    assert!(baseline_raim_available(8) && baseline_raim_repair(16));
+    assert!(heartbeat_system_error(1) && !heartbeat_system_error(!1));
+    assert!(heartbeat_io_error(2) && heartbeat_nap_error(4));
+    assert!(heartbeat_antenna_present(1 << 31) && !heartbeat_antenna_present(!(1 << 31)));
+}
