@@ -1,0 +1,87 @@
+/* SBP 1.1 frames, payload answers, observation epochs and listings: the proved library, for C and Rust.
+ *
+ * Every function ends, on any input, and changes nothing but the memory that it is lent to write. What the caller keeps, at each call:
+ * a pointer and the length after it agree (so many bytes are there, readable or writable, for the length of the call), memory that is
+ * lent to be written overlaps no other argument, and a pointer to uint16_t or uint64_t is aligned. A length of 0 may come with any pointer.
+ *
+ * A refusal is one of document 01's numbers, and then nothing is written. */
+#ifndef SBP_H
+#define SBP_H
+
+#include <stdbool.h>
+#include <stddef.h>
+#include <stdint.h>
+
+#ifdef __cplusplus
+extern "C" {
+#endif
+
+/* The CRC of n bytes, from a start of 0. */
+uint16_t sbp_crc(const uint8_t *bytes, size_t n);
+
+/* What a payload of that type answers: 0, or 21 (type unknown), 22 (length), 23 (a field outside its range). */
+uint8_t sbp_answer(uint16_t kind, const uint8_t *payload, size_t n);
+
+/* The next frame of a capture from a position on. In closed reading (growing false) the capture is complete; in open reading more may come.
+ * 0: a frame; 1: the end; 2: more bytes are needed; 32: room is below SBP_FOUND. Otherwise found[0 .. SBP_FOUND] has the row of sbp_found. */
+#define SBP_FOUND 53
+uint8_t sbp_next(const uint8_t *capture, size_t n, size_t at, bool growing, uint8_t *found, size_t room);
+
+/* The listing of a capture of up to 65536 bytes, as sbplist prints it. 0, and its length in *size; or 11 (capture too long), 32 (no room).
+ * 8 * n + 32 bytes have room for every listing. */
+uint8_t sbp_list(const uint8_t *capture, size_t n, uint8_t *text, size_t room, uint64_t *size);
+
+/* A fresh collator in SBP_STATE bytes, for a roster of n senders: 0, or 41 (none, or more than 8), 42 (a sender twice), 32 (no room). */
+#define SBP_STATE 105
+uint8_t sbp_collator(uint8_t *state, size_t room, const uint16_t *roster, size_t n);
+
+/* A frame fed to a collator. 0: taken; 1: it ended an epoch, and report[0 .. SBP_REPORT] has the row of sbp_report; or 32 (state or report
+ * too short), 46 (not OBS), 22 (length), 43 (sender not listed), 44 (n is 0), 45 (counter not below n), and the state is as it was. */
+#define SBP_REPORT 11
+uint8_t sbp_feed(uint8_t *state, size_t room, uint16_t kind, uint16_t sender, const uint8_t *payload, size_t n, uint8_t *report, size_t report_room);
+
+/* ---- the rows, little-endian, as structs */
+
+/* Where a frame stands or, with no frame, the reading; where to go on; the bytes needed from there; the bytes passed over on the way, for each
+ * reason; the frame's type, sender and payload length. Its payload starts at at + 6. */
+struct sbp_found {
+    uint64_t at, next, needed, junk, bad, short_;
+    uint16_t kind, sender;
+    uint8_t length;
+};
+
+struct sbp_report {
+    uint16_t sender, wn;
+    uint32_t tow;
+    uint8_t n;
+    uint16_t observations;
+};
+
+static inline uint64_t sbp_number(const uint8_t *bytes, unsigned n) {
+    uint64_t value = 0;
+    for (unsigned i = n; i > 0; i--) {
+        value = value << 8 | bytes[i - 1];
+    }
+    return value;
+}
+
+static inline struct sbp_found sbp_found_of(const uint8_t row[SBP_FOUND]) {
+    struct sbp_found f = {
+        sbp_number(row, 8), sbp_number(row + 8, 8), sbp_number(row + 16, 8), sbp_number(row + 24, 8), sbp_number(row + 32, 8), sbp_number(row + 40, 8),
+        (uint16_t)sbp_number(row + 48, 2), (uint16_t)sbp_number(row + 50, 2), row[52],
+    };
+    return f;
+}
+
+static inline struct sbp_report sbp_report_of(const uint8_t row[SBP_REPORT]) {
+    struct sbp_report r = {
+        (uint16_t)sbp_number(row, 2), (uint16_t)sbp_number(row + 2, 2), (uint32_t)sbp_number(row + 4, 4), row[8], (uint16_t)sbp_number(row + 9, 2),
+    };
+    return r;
+}
+
+#ifdef __cplusplus
+}
+#endif
+
+#endif
