@@ -24,3 +24,4 @@ pub use placing::Part;
 pub use placing::Place;
 pub use placing::Run;
 pub use placing::Stepped;
+pub use placing::step;

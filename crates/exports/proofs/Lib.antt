@@ -1,0 +1,6 @@
+pub mod Parts
+pub mod Tables
+pub mod Answered
+pub mod States
+pub mod Feeds
+pub mod Makes

@@ -1,0 +1,107 @@
+-- Rows stored one after the other: each decodes where it stands. And lists of what stands at each index. Assumes nothing.
+use mathlib.Core.Path.{_≡_, refl, sym, ap, ap₂, _∙_}
+use mathlib.Core.Bool.{Bool, true, false}
+use mathlib.Core.List.{List, [], _∷_}
+use Prim.Native.Nat.{ℕ, zero, suc, _+_, _*_, _≤_, _<_}
+use native.Mathlib.Nat.{add-zero, add-suc, suc-add, suc-mul, mul-le-mul-right}
+use native.Mathlib.Numerals.{add-one}
+use native.Mathlib.Omega.{arith}
+use lib.Dec.{eqb}
+use lib.ListN.{length, getD, set}
+use borrow.Author.Tests.{eqb-true, eqb-false}
+use Rattle.wire.specs.Field.{Field, Row, HeldRow, SettledRow, size, decode, rowStored}
+use Rattle.wire.proofs.Fields.{length-row}
+use Rattle.exports.specs.Rows.{rowsStored, upTo}
+use Rattle.exports.proofs.Parts.{decode-stored, decode-before, decode-after}
+
+-- ---- lists by index
+
+module _ {A : Type 0} where
+  pub upTo-at : (n i : ℕ) (f : ℕ → A) (j : ℕ) (d : A) → j < n → getD (upTo n i f) j d ≡ f (i + j)
+  upTo-at zero i f j d h = absurd (omega arith)
+  upTo-at (suc n) i f zero d h = ap f (sym (add-zero i))
+  upTo-at (suc n) i f (suc j) d h = upTo-at n (suc i) f j d (omega arith) ∙ ap f (suc-add i j ∙ sym (add-suc i j))
+
+  pub upTo-same : (n i : ℕ) (f g : ℕ → A) → ((j : ℕ) → i ≤ j → j < i + n → f j ≡ g j) → upTo n i f ≡ upTo n i g
+  upTo-same zero i f g h = refl
+  upTo-same (suc n) i f g h =
+      ap₂ (λ (x : A) (xs : List A). x ∷ xs) (h i (omega arith) (omega arith)) (upTo-same n (suc i) f g (λ j a b. h j (omega arith) (omega arith)))
+
+  -- one index alone is another's
+  pub upTo-set : (n i : ℕ) (f g : ℕ → A) (j : ℕ) → j < n → ((k : ℕ) → k < i + n → (k ≡ i + j → ⊥) → g k ≡ f k)
+      → upTo n i g ≡ set (upTo n i f) j (g (i + j))
+  upTo-set zero i f g j h others = absurd (omega arith)
+  upTo-set (suc n) i f g zero h others =
+      ap₂ (λ (x : A) (xs : List A). x ∷ xs) (ap g (sym (add-zero i)))
+      (upTo-same n (suc i) g f (λ k a b. others k (omega arith) (λ e. omega arith)))
+  upTo-set (suc n) i f g (suc j) h others =
+      let on : suc i + j ≡ i + suc j = omega arith in
+      ap₂ (λ (x : A) (xs : List A). x ∷ xs) (others i (omega arith) (λ e. omega arith))
+      (upTo-set n (suc i) f g j (omega arith) (λ k b other. others k (omega arith) (λ e. other (omega arith)))
+      ∙ ap (λ (k : ℕ). set (upTo n (suc i) f) j (g k)) on)
+
+  pub upTo-list : (xs : List A) (i : ℕ) (f : ℕ → A) (d : A) → ((j : ℕ) → j < length xs → f (i + j) ≡ getD xs j d) → upTo (length xs) i f ≡ xs
+  upTo-list [] i f d h = refl
+  upTo-list (x ∷ xs) i f d h =
+      ap₂ (λ (x : A) (xs : List A). x ∷ xs) (ap f (sym (add-zero i)) ∙ h 0 (omega arith))
+      (upTo-list xs (suc i) f d (λ j b. ap f (suc-add i j ∙ sym (add-suc i j)) ∙ h (suc j) (omega arith)))
+
+-- ---- rows
+
+module _ (fs : List Field) (row : ℕ → Row fs) (s : List ℕ) (at : ℕ) where
+  pub length-stored : (n : ℕ) → length (rowsStored fs row n s at) ≡ length s
+  unfolding rowsStored
+  length-stored zero = refl
+  length-stored (suc n) = length-row fs (row n) (rowsStored fs row n s at) (at + n * size fs) ∙ length-stored n
+
+  pub rows-none : s ≡ rowsStored fs row 0 s at
+  unfolding rowsStored
+  rows-none = refl
+
+  -- one row more
+  pub rows-more : (n : ℕ) {t u : List ℕ} → t ≡ rowsStored fs row n s at → u ≡ rowStored fs (row n) t (at + n * size fs) → u ≡ rowsStored fs row (n + 1) s at
+  unfolding rowsStored
+  rows-more n p q = q ∙ ap (λ (t : List ℕ). rowStored fs (row n) t (at + n * size fs)) p ∙ rw add-one
+
+  -- the row after n others has room
+  next-room : (n : ℕ) → at + suc n * size fs ≤ length s → at + n * size fs + size fs ≤ length (rowsStored fs row n s at)
+  next-room n room = omega (arith, length-stored n, suc-mul n (size fs))
+
+  fewer-room : (n : ℕ) → at + suc n * size fs ≤ length s → at + n * size fs ≤ length s
+  fewer-room n room = omega (arith, suc-mul n (size fs))
+
+  module _ (gs : List Field) (b : ℕ) where
+    pub rows-before : (n : ℕ) → at + n * size fs ≤ length s → b + size gs ≤ at → decode gs (rowsStored fs row n s at) b ≡ decode gs s b
+    unfolding rowsStored
+    rows-before zero room h = refl
+    rows-before (suc n) room h =
+        decode-before fs (row n) (rowsStored fs row n s at) (at + n * size fs) (next-room n room) gs b (omega arith)
+        ∙ rows-before n (fewer-room n room) h
+
+    pub rows-after : (n : ℕ) → at + n * size fs ≤ length s → at + n * size fs ≤ b → decode gs (rowsStored fs row n s at) b ≡ decode gs s b
+    unfolding rowsStored
+    rows-after zero room h = refl
+    rows-after (suc n) room h =
+        decode-after fs (row n) (rowsStored fs row n s at) (at + n * size fs) (next-room n room) gs b (omega (arith, suc-mul n (size fs)))
+        ∙ rows-after n (fewer-room n room) (omega (arith, suc-mul n (size fs)))
+
+  -- each row decodes where it stands
+  pub rows-own : (n : ℕ) → at + n * size fs ≤ length s → ((j : ℕ) → j < n → HeldRow fs (row j) × SettledRow fs (row j))
+      → (j : ℕ) → j < n → decode fs (rowsStored fs row n s at) (at + j * size fs) ≡ row j
+  unfolding rowsStored
+  rows-own zero room kept j h = absurd (omega arith)
+  rows-own (suc n) room kept j h = by (eqb j n) refl (rows-own n (fewer-room n room) (λ k b. kept k (omega arith)) j)
+    where
+      by : (t : Bool) → eqb j n ≡ t → (j < n → decode fs (rowsStored fs row n s at) (at + j * size fs) ≡ row j)
+          → decode fs (rowsStored fs row (suc n) s at) (at + j * size fs) ≡ row j
+      by true e earlier =
+          let same : j ≡ n = eqb-true j n e in
+          ap (λ (k : ℕ). decode fs (rowsStored fs row (suc n) s at) (at + k * size fs)) same
+          ∙ decode-stored fs (row n) (rowsStored fs row n s at) (at + n * size fs) (next-room n room) (kept n (omega arith) .0) (kept n (omega arith) .1)
+          ∙ ap row (sym same)
+      by false e earlier =
+          let other : j ≡ n → ⊥ = eqb-false j n e in
+          let below : suc j ≤ n = omega arith in
+          let ordered : suc j * size fs ≤ n * size fs = mul-le-mul-right (size fs) below in
+          decode-before fs (row n) (rowsStored fs row n s at) (at + n * size fs) (next-room n room) fs (at + j * size fs) (omega (arith, suc-mul j (size fs)))
+          ∙ earlier below

@@ -1,0 +1,77 @@
+-- `exports::placing::put_slot` meets its contract: one store after the other.
+use Rattle.wire.proofs.Fields.{then}
+use borrow.Author.Needs.{needs}
+use Rattle.exports.proofs.placing.put_slot.Statement.{statement}
+use Rattle.exports.proofs.placing.put_slot.Tie as tie
+
+mul-opened : tie.Need-mul-opened
+mul-opened c = search needs
+
+add-opened : tie.Need-add-opened
+add-opened c = search needs
+
+add-tow : tie.Need-add-tow
+add-tow c = search needs
+
+add-wn : tie.Need-add-wn
+add-wn c = search needs
+
+add-n : tie.Need-add-n
+add-n c = search needs
+
+add-next : tie.Need-add-next
+add-next c = search needs
+
+add-total : tie.Need-add-total
+add-total c = search needs
+
+store-u8-requires : tie.Need-store-u8-requires
+store-u8-requires c κs = search needs
+
+store-u32-requires : tie.Need-store-u32-requires
+store-u32-requires c κs = search needs
+
+store-u16-requires : tie.Need-store-u16-requires
+store-u16-requires c κs = search needs
+
+store-u8-requires-2 : tie.Need-store-u8-requires-2
+store-u8-requires-2 c κs = search needs
+
+store-u8-requires-3 : tie.Need-store-u8-requires-3
+store-u8-requires-3 c κs = search needs
+
+store-u16-requires-2 : tie.Need-store-u16-requires-2
+store-u16-requires-2 c κs = search needs
+
+same-length : tie.Need-same-length
+same-length c = search needs
+
+returns : tie.Need-returns
+returns c =
+    let k6 = c .before .before in
+    let k5 = k6 .before .before .before .before in
+    let k4 = k5 .before .before .before .before in
+    let k3 = k4 .before .before .before .before in
+    let k2 = k3 .before .before .before .before in
+    let k1 = k2 .before .before .before .before in
+    then _ _ _ (then _ _ _ (then _ _ _ (then _ _ _ (then _ _ _ (k1 .store-u8 .ensures) (k2 .store-u32 .ensures)) (k3 .store-u16 .ensures)) (k4 .store-u82 .ensures)) (k5 .store-u83 .ensures)) (k6 .store-u162 .ensures)
+
+pub put-slot-spec : {M : Type 1} → statement M
+put-slot-spec =
+    tie.close
+    (tie.spec
+    mul-opened
+    add-opened
+    add-tow
+    add-wn
+    add-n
+    add-next
+    add-total
+    store-u8-requires
+    store-u32-requires
+    store-u16-requires
+    store-u8-requires-2
+    store-u8-requires-3
+    store-u16-requires-2
+    same-length
+    returns)

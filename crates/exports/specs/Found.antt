@@ -1,0 +1,49 @@
+-- What `sbp_next` answers and the row that it stores. Assumes nothing.
+use Prim.Native.Nat.{ℕ}
+use mathlib.Core.Bool.{Bool, cond}
+use mathlib.Core.List.{List, [], _∷_}
+use lib.Dec.{leb}
+use lib.ListN.{length}
+use Rattle.wire.specs.Field.{Field, any, u8, u16, u64, Row, size}
+use Rattle.frames.specs.Cursors.{nextOf}
+use Rattle.frames.specs.declared.cursor.Cursor.{Cursor}
+use Rattle.frames.specs.declared.cursor.Next as Next
+use Rattle.exports.specs.Rows.{atFront}
+use Rattle.exports.specs.declared.reading.Found.{Found}
+
+-- at, next, needed, junk, bad, short, kind, sender, length: 53 bytes
+abbrev pub foundFields : List Field
+foundFields = any u64 ∷ any u64 ∷ any u64 ∷ any u64 ∷ any u64 ∷ any u64 ∷ any u16 ∷ any u16 ∷ any u8 ∷ []
+
+abbrev pub foundRow : Found → Row foundFields
+foundRow f = (f .at, (f .next, (f .needed, (f .junk, (f .bad, (f .short, (f .kind, (f .sender, (f .length, tt)))))))))
+
+-- a reading that begins at a position, having passed over nothing
+abbrev pub startAt : ℕ → Bool → Cursor
+startAt at growing = record { at = at; growing = growing; framed = 0; junk = 0; bad = 0; short = 0 }
+
+-- no frame: the reading stands at the cursor, and needs so many bytes from there
+abbrev pub nothingAt : Cursor → ℕ → Found
+nothingAt c needed =
+    record { at = c .at; next = c .at; needed = needed; junk = c .junk; bad = c .bad; short = c .short; kind = 0; sender = 0; length = 0 }
+
+abbrev pub foundIn : Next.Next → Found
+foundIn (Next.the-variants.Frame f c) =
+    record { at = f .at; next = c .at; needed = 0; junk = c .junk; bad = c .bad; short = c .short; kind = f .kind; sender = f .sender; length = f .length }
+foundIn (Next.the-variants.End c) = nothingAt c 0
+foundIn (Next.the-variants.Needs n c) = nothingAt c n
+
+-- 0 a frame, 1 the end, 2 more bytes are needed
+abbrev pub numberIn : Next.Next → ℕ
+numberIn (Next.the-variants.Frame f c) = 0
+numberIn (Next.the-variants.End c) = 1
+numberIn (Next.the-variants.Needs n c) = 2
+
+-- 32 where the row has no room
+unfoldable pub nextAnswer : List ℕ → ℕ → Bool → ℕ → ℕ
+nextAnswer s at growing room = cond (leb (size foundFields) room) (numberIn (nextOf s (startAt at growing))) 32
+
+-- the buffer after it: the row and the bytes after it as they were, or all as it was
+unfoldable pub nextStored : List ℕ → ℕ → Bool → List ℕ → List ℕ
+nextStored s at growing buf =
+    cond (leb (size foundFields) (length buf)) (atFront foundFields (foundRow (foundIn (nextOf s (startAt at growing)))) buf) buf

@@ -1,0 +1,5 @@
+pub mod Rows
+pub mod Found
+pub mod Text
+pub mod State
+pub mod Feed

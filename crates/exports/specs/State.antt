@@ -1,0 +1,78 @@
+-- A collator in 105 bytes: how many senders are listed, the eight seats of the roster, the eight places. Assumes nothing.
+use Prim.Native.Nat.{ℕ, _+_, _*_}
+use mathlib.Core.Bool.{cond}
+use mathlib.Core.List.{List, [], _∷_}
+use lib.Dec.{eqb}
+use lib.ListN.{getD}
+use Rattle.wire.specs.Number.{numberAt}
+use Rattle.wire.specs.Field.{Field, any, u8, u16, u32, Row, decode, rowStored}
+use Rattle.epochs.specs.Collator.{idle}
+use Rattle.epochs.specs.declared.placing.Run.{Run}
+use Rattle.epochs.specs.declared.placing.Run.the-variants.{Idle, Open}
+use Rattle.epochs.specs.declared.placing.Place.{Place}
+use Rattle.epochs.specs.declared.collating.Collator.{Collator}
+use Rattle.exports.specs.Rows.{rowsStored, upTo}
+use Rattle.exports.specs.declared.placing.Slot.{Slot}
+
+-- ---- one place
+
+-- opened, tow, wn, n, next, total: 11 bytes
+abbrev pub slotFields : List Field
+slotFields = any u8 ∷ any u32 ∷ any u16 ∷ any u8 ∷ any u8 ∷ any u16 ∷ []
+
+abbrev pub slotRow : Slot → Row slotFields
+slotRow x = (x .opened, (x .tow, (x .wn, (x .n, (x .next, (x .total, tt))))))
+
+abbrev pub slotMake : Row slotFields → Slot
+slotMake v = record { opened = v .0; tow = v .1 .0; wn = v .1 .1 .0; n = v .1 .1 .1 .0; next = v .1 .1 .1 .1 .0; total = v .1 .1 .1 .1 .1 .0 }
+
+-- idle where opened is 0
+abbrev pub placeOf : Slot → Place
+placeOf x =
+    cond (eqb (x .opened) 0) idle
+    (record { run = Open (record { key = record { tow = x .tow; wn = x .wn; n = x .n }; next = x .next; total = x .total }) })
+
+abbrev pub slotFor : Run → Slot
+slotFor Idle = record { opened = 0; tow = 0; wn = 0; n = 0; next = 0; total = 0 }
+slotFor (Open part) = record { opened = 1; tow = part .key .tow; wn = part .key .wn; n = part .key .n; next = part .next; total = part .total }
+
+abbrev pub slotOf : Place → Slot
+slotOf place = slotFor (place .run)
+
+-- where place i begins
+abbrev pub slotAt : ℕ → ℕ
+slotAt i = 17 + i * 11
+
+abbrev pub slotIn : List ℕ → ℕ → Slot
+slotIn s i = slotMake (decode slotFields s (slotAt i))
+
+abbrev pub slotStored : List ℕ → ℕ → Slot → List ℕ
+slotStored s i x = rowStored slotFields (slotRow x) s (slotAt i)
+
+abbrev pub placeIn : List ℕ → ℕ → Place
+placeIn s i = placeOf (slotIn s i)
+
+abbrev pub placeStored : List ℕ → ℕ → Place → List ℕ
+placeStored s i place = slotStored s i (slotOf place)
+
+-- ---- what the bytes stand for
+
+abbrev pub countIn : List ℕ → ℕ
+countIn s = numberAt 1 s 0
+
+abbrev pub seatsIn : List ℕ → List ℕ
+seatsIn s = upTo 8 0 (λ i. numberAt 2 s (1 + i * 2))
+
+abbrev pub stateIn : List ℕ → Collator
+stateIn s = record { places = upTo 8 0 (placeIn s); roster = seatsIn s; count = countIn s }
+
+-- ---- a collator stored
+
+abbrev pub seatsStored : List ℕ → ℕ → List ℕ → List ℕ
+seatsStored roster n s = rowsStored (any u16 ∷ []) (λ i. (getD roster i 0, tt)) n s 1
+
+abbrev pub placesStored : List Place → ℕ → List ℕ → List ℕ
+placesStored places n s = rowsStored slotFields (λ i. slotRow (slotOf (getD places i idle))) n s 17
+
+abbrev pub collatorStored : Collator → List ℕ → List ℕ
+collatorStored c s = placesStored (c .places) 8 (seatsStored (c .roster) 8 (rowStored (any u8 ∷ []) (c .count, tt) s 0))

@@ -1,0 +1,116 @@
+// A frame fed to a collator in lent bytes. The roster is read, and then the frame's own place alone is read, stepped and stored.
+ghost use mathlib.Core.Path.{_≡_};
+ghost use Prim.Native.Nat.{_<_, _≤_};
+ghost use lib.ListN.{length};
+ghost use Rattle.wire.specs.Field.{rowStored};
+ghost use Rattle.epochs.specs.Packet.{judged};
+ghost use Rattle.epochs.specs.Collator.{stepped, told, rosterOf};
+ghost use Rattle.exports.specs.State.{seatsIn, stateIn, placeIn, placeStored};
+ghost use Rattle.exports.specs.Feed.{reportFields, reportRow, happenedNumber, happenedStored, fedIn};
+use crate::placing::place_in;
+use crate::placing::put_place;
+use epochs::Ended;
+use epochs::Judged;
+use epochs::Packet;
+use epochs::Report;
+
+fn seats_in(s: &[u8]) -> [u16; 8]
+    ensures { λ r. ⌜ r ≡ seatsIn (now (s .entry)) ⌝ }
+{
+    [
+        wire::read_u16(s, 1),
+        wire::read_u16(s, 3),
+        wire::read_u16(s, 5),
+        wire::read_u16(s, 7),
+        wire::read_u16(s, 9),
+        wire::read_u16(s, 11),
+        wire::read_u16(s, 13),
+        wire::read_u16(s, 15),
+    ]
+}
+
+// What the frame is to the collator.
+fn judged_in(s: &[u8], kind: u16, sender: u16, payload: &[u8]) -> Judged
+    ensures { λ r. ⌜ r ≡ judged (rosterOf (stateIn (now (s .entry)))) kind sender (now (payload .entry)) ⌝ }
+{
+    let roster = seats_in(s);
+    let count = wire::read_u8(s, 0) as usize;
+    epochs::judge(roster, count, kind, sender, payload)
+}
+
+// Place i takes a packet.
+fn take(s: &mut [u8], i: usize, packet: Packet) -> Ended
+    requires { ⌜ i < 8 ⌝ }
+    ensures { λ r. ⌜ r ≡ stepped (placeIn (now (s .entry)) i) packet .ended ⌝ }
+    ensures { λ _. ⌜ now (s .exit) ≡ placeStored (now (s .entry)) i (stepped (placeIn (now (s .entry)) i) packet .place) ⌝ }
+{
+    let next = epochs::step(place_in(s, i), packet);
+    let place = next.place;
+    put_place(s, i, place);
+    next.ended
+}
+
+fn put_report(buf: &mut [u8], e: Report)
+    ensures { λ _. ⌜ now (buf .exit) ≡ rowStored reportFields (reportRow e) (now (buf .entry)) 0 ⌝ }
+{
+    wire::store_u16(buf, 0, e.sender);
+    wire::store_u16(buf, 2, e.wn);
+    wire::store_u32(buf, 4, e.tow);
+    wire::store_u8(buf, 8, e.n);
+    wire::store_u16(buf, 9, e.observations);
+}
+
+// 0, or 1 with an epoch's report.
+fn tell(buf: &mut [u8], sender: u16, packet: Packet, ended: Ended) -> u8
+    requires { ⌜ 11 ≤ length (now buf) ⌝ }
+    ensures { λ r. ⌜ r ≡ happenedNumber (told sender packet ended) ⌝ }
+    ensures { λ _. ⌜ now (buf .exit) ≡ happenedStored (told sender packet ended) (now (buf .entry)) ⌝ }
+{
+    match ended {
+        Ended::Not => 0,
+        Ended::Whole(total) => {
+            let key = packet.key;
+            put_report(
+                buf,
+                Report {
+                    sender,
+                    wn: key.wn,
+                    tow: key.tow,
+                    n: key.n,
+                    observations: total,
+                },
+            );
+            1
+        }
+    }
+}
+
+// 32 where state is shorter than 105 bytes or report shorter than 11, then 46, 22, 43, 44, 45; 0 taken; 1 an epoch, whose report is at
+// report[0..11].
+#[no_mangle]
+pub extern "C" fn sbp_feed(
+    state: &mut [u8],
+    kind: u16,
+    sender: u16,
+    payload: &[u8],
+    report: &mut [u8],
+) -> u8
+    ensures { λ r. ⌜ r ≡ fedIn (now (state .entry)) kind sender (now (payload .entry)) (now (report .entry)) .answer ⌝ }
+    ensures { λ _. ⌜ now (state .exit) ≡ fedIn (now (state .entry)) kind sender (now (payload .entry)) (now (report .entry)) .state ⌝ }
+    ensures { λ _. ⌜ now (report .exit) ≡ fedIn (now (state .entry)) kind sender (now (payload .entry)) (now (report .entry)) .report ⌝ }
+{
+    if state.len() < 105 {
+        return 32;
+    }
+    if report.len() < 11 {
+        return 32;
+    }
+    let verdict = judged_in(state, kind, sender, payload);
+    match verdict {
+        Judged::Refused(number) => number,
+        Judged::For(i, packet) => {
+            let ended = take(state, i, packet);
+            tell(report, sender, packet, ended)
+        }
+    }
+}

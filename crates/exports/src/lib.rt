@@ -1,0 +1,17 @@
+// The library for firmware in C or Rust: `extern "C"` functions over numbers and lent slices, none with a requires.
+// A refusal is document 01's number and writes nothing. A collator lives in 105 lent bytes.
+// Read specs/Found.antt (the row of a frame), specs/Text.antt, specs/State.antt (what a collator's bytes stand for) and
+// specs/Feed.antt; proofs/Feeds.antt and proofs/Makes.antt tie the bytes to the collator of `epochs`.
+mod answering;
+mod feeding;
+mod making;
+mod placing;
+mod reading;
+mod texting;
+
+pub use answering::sbp_answer;
+pub use answering::sbp_crc;
+pub use feeding::sbp_feed;
+pub use making::sbp_collator;
+pub use reading::sbp_next;
+pub use texting::sbp_list;
