@@ -1,7 +1,7 @@
 #!/usr/bin/env bash
 # The exported functions linked from C and from Rust: both examples print the epochs of the sample as sbplist does, and the twin asks the
 # functions through tests/exports/driver.c. The last line is 'N passed, M failed'.
-# The library is for x86-64. On another processor Debian's cross compilers build for it and the kit's emulator runs it; where these cannot be
+# The library is for x86-64. On another processor Debian's cross compilers build for it and Debian's emulator runs it; where these cannot be
 # had nothing is linked, and the first line says so.
 # usage: tests/linked.sh (after rt check sbplist)
 set -eu
@@ -11,31 +11,34 @@ work=$(mktemp -d)
 trap 'rm -rf "$work"' EXIT
 flags="-O2 -Wall -Wextra -Werror -Iinclude"
 lib=target/staticlib/libexports.a
-wrapper=rust/src/lib.rs example=rust/examples/epochs.rs
 
 if [ "$(uname -m)" = x86_64 ]; then
     cc=gcc emulator=
     rust() { rustc "$@"; }
 else
-    needed() { command -v x86_64-linux-gnu-gcc && [ -x /usr/bin/rustc ] && [ -d /usr/lib/rustlib/x86_64-unknown-linux-gnu ]; }
-    if ! needed >/dev/null; then
-        (dpkg --add-architecture amd64 && apt-get update && apt-get install -y --no-install-recommends gcc-x86-64-linux-gnu libc6-dev-amd64-cross rustc libstd-rust-dev:amd64) >"$work/apt" 2>&1 || true
+    packages="gcc-x86-64-linux-gnu libc6-dev-amd64-cross rustc libstd-rust-dev:amd64 qemu-user"
+    found() { [ -x /usr/bin/x86_64-linux-gnu-gcc ] && [ -x /usr/bin/rustc ] && [ -d /usr/lib/rustlib/x86_64-unknown-linux-gnu ] && [ -x /usr/bin/qemu-x86_64 ]; }
+    if ! found; then
+        (dpkg --add-architecture amd64 && apt-get update && apt-get install -y --no-install-recommends $packages) >"$work/apt" 2>&1 || true
     fi
-    if ! needed >/dev/null; then
+    if ! found; then
         echo "no compilers for x86-64 here: nothing is linked"
         echo "0 passed, 0 failed"
         exit 0
     fi
-    cc="x86_64-linux-gnu-gcc -static"
-    emulator=$(dirname "$(dirname "$(readlink -f "$(command -v rt)")")")/on/$(uname -m)/toolchain/bin/qemu-x86_64
-    rust() { /usr/bin/rustc --target x86_64-unknown-linux-gnu -C linker=x86_64-linux-gnu-gcc -C target-feature=+crt-static "$@"; }
+    cc="x86_64-linux-gnu-gcc -static" emulator=/usr/bin/qemu-x86_64
+    # the cross compiler's libm.a names a file of another package
+    ln -s /usr/x86_64-linux-gnu/lib/libm-*.a "$work/libm.a"
+    rust() {
+        /usr/bin/rustc --target x86_64-unknown-linux-gnu -C linker=x86_64-linux-gnu-gcc -C target-feature=+crt-static -C relocation-model=static -L "$work" "$@"
+    }
 fi
 
 rt staticlib exports >"$work/staticlib" 2>&1 || { cat "$work/staticlib"; exit 1; }
 $cc $flags -o "$work/driver" tests/exports/driver.c "$lib"
 $cc $flags -o "$work/in-c" examples/epochs.c "$lib"
-rust --edition 2021 -O --crate-name sbp --crate-type rlib -o "$work/libsbp.rlib" "$wrapper"
-rust --edition 2021 -O --extern sbp="$work/libsbp.rlib" -L target/staticlib -l static=exports -o "$work/in-rust" "$example"
+rust --edition 2021 -O --crate-name sbp --crate-type rlib -L target/staticlib -l static=exports -o "$work/libsbp.rlib" rust/src/lib.rs
+rust --edition 2021 -O --extern sbp="$work/libsbp.rlib" -o "$work/in-rust" rust/examples/epochs.rs
 
 passed=0 failed=0
 tools/run sbplist <sample/base-and-rover.sbp | grep '^E' >"$work/epochs"
