@@ -1,12 +1,12 @@
 -- What each exported function answers, from the answers of those it calls. Assumes nothing.
 use mathlib.Core.Path.{_≡_, sym, ap, _∙_}
-use mathlib.Core.Bool.{Bool, true, false, cond}
+use mathlib.Core.Bool.{Bool}
 use mathlib.Core.List.{List}
 use Prim.Native.Nat.{ℕ, _≤_, _<_}
 use lib.ListN.{length}
 use borrow.Author.Tests.{le-leb, lt-leb}
 use Rattle.wire.specs.Field.{rowStored}
-use Rattle.wire.specs.Message.{Answer, given, refused}
+use Rattle.wire.specs.Message.{Answer}
 use Rattle.frames.specs.Cursors.{nextOf}
 use Rattle.frames.specs.Writer.{writtenAnswer}
 use Rattle.frames.specs.declared.cursor.Next as Next

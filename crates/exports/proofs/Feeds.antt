@@ -2,16 +2,15 @@
 -- Assumes nothing.
 use mathlib.Core.Path.{_≡_, refl, sym, ap, _∙_, subst}
 use mathlib.Core.List.{List}
-use Prim.Native.Nat.{ℕ, _^_, _≤_, _<_}
+use Prim.Native.Nat.{ℕ, _≤_, _<_}
 use native.Mathlib.Nat.{zero-add}
 use native.Mathlib.Omega.{arith}
 use lib.ListN.{length, getD, set, length-take}
 use borrow.Author.Tests.{le-leb, lt-leb}
 use Rattle.wire.specs.Number.{Bytes}
-use Rattle.wire.specs.Field.{decode, rowStored}
-use Rattle.wire.proofs.Fields.{length-row}
+use Rattle.wire.specs.Field.{decode}
 use Rattle.epochs.specs.Packet.{judged}
-use Rattle.epochs.specs.Collator.{idle, stepped, told, taken, acted, rosterOf, fed}
+use Rattle.epochs.specs.Collator.{idle, stepped, told, acted, rosterOf, fed}
 use Rattle.epochs.specs.declared.judging.Packet.{Packet}
 use Rattle.epochs.specs.declared.judging.Judged.{Judged}
 use Rattle.epochs.specs.declared.judging.Judged.the-variants as J
@@ -24,7 +23,7 @@ use Rattle.epochs.specs.declared.collating.Happened.{Happened}
 use Rattle.epochs.specs.declared.collating.Happened.the-variants as H
 use Rattle.epochs.proofs.Judgements.{judged-below, judged-formed, judged-n, judged-time}
 use Rattle.epochs.proofs.Reports.{SmallIn, Small, report-small}
-use Rattle.exports.specs.Rows.{upTo, atFront}
+use Rattle.exports.specs.Rows.{upTo}
 use Rattle.exports.specs.State.{placeIn, placeStored, stateIn}
 use Rattle.exports.specs.Feed.{reportFields, reportRow, happenedNumber, happenedStored, FedIn, cameOut, takenIn, actedIn, fedIn}
 use Rattle.exports.proofs.Parts.{stored-front, decode-stored}

@@ -4,14 +4,13 @@ use mathlib.Core.Path.{_≡_, refl, sym, ap, _∙_, subst}
 use mathlib.Core.List.{List, _++_}
 use Prim.Native.Nat.{ℕ, _≤_, _<_}
 use native.Mathlib.Omega.{arith}
-use lib.ListN.{length, getD, take, replicate, length-append, length-replicate, getD-replicate}
+use lib.ListN.{length, getD, replicate, length-append, getD-replicate}
 use lib.Seq.{length-take-le, getD-take}
 use borrow.Author.Tests.{le-leb, lt-leb, eq-eqb, ne-eqb}
 use Rattle.epochs.specs.Collator.{idle, fresh, made}
-use Rattle.epochs.specs.declared.placing.Place.{Place}
 use Rattle.epochs.specs.declared.collating.Collator.{Collator}
 use Rattle.epochs.specs.declared.collating.Made.{Made}
-use Rattle.epochs.proofs.Making.{Accepted, accepted}
+use Rattle.epochs.proofs.Making.{accepted}
 use Rattle.epochs.proofs.Rosters.{with-zeros}
 use Rattle.exports.specs.State.{stateIn, collatorStored}
 use Rattle.exports.specs.Feed.{madeAnswer, madeStored}
