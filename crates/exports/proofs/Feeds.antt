@@ -53,7 +53,7 @@ module _ (s : List ℕ) (kind sender : ℕ) (payload report : List ℕ) where
     report-short h = rw (le-leb 105 (length s) long, lt-leb 11 (length report) h)
 
     module _ (room : 11 ≤ length report) where
-      fed-acted : fedIn s kind sender payload report ≡ actedIn s report sender (judged (rosterOf (stateIn s)) kind sender payload)
+      pub fed-acted : fedIn s kind sender payload report ≡ actedIn s report sender (judged (rosterOf (stateIn s)) kind sender payload)
       unfolding fedIn
       fed-acted = rw (le-leb 105 (length s) long, le-leb 11 (length report) room)
 

@@ -148,6 +148,12 @@ seatRow roster i = (getD roster i 0, tt)
 abbrev pub placeRow : List Place → ℕ → Row slotFields
 placeRow places i = slotRow (slotOf (getD places i idle))
 
+pub length-collator : (c : Collator) (s : List ℕ) → length (collatorStored c s) ≡ length s
+length-collator c s =
+    length-stored slotFields (placeRow (c .places)) (seatsStored (c .roster) 8 (countStored (c .count) s)) 17 8
+    ∙ length-stored (any u16 ∷ []) (seatRow (c .roster)) (countStored (c .count) s) 1 8
+    ∙ length-row (any u8 ∷ []) (c .count, tt) s 0
+
 module _ (c : Collator) (h : Held c) (s : List ℕ) (long : 105 ≤ length s) where
   counted-long : 105 ≤ length (countStored (c .count) s)
   counted-long = omega (arith, length-row (any u8 ∷ []) (c .count, tt) s 0)
