@@ -1,20 +1,23 @@
 -- What each exported function answers, from the answers of those it calls. Assumes nothing.
-use mathlib.Core.Path.{_≡_, sym, ap, _∙_}
-use mathlib.Core.Bool.{Bool, true, false, cond}
+use mathlib.Core.Path.{_≡_, refl, sym, ap, _∙_}
+use mathlib.Core.Bool.{Bool}
 use mathlib.Core.List.{List}
-use Prim.Native.Nat.{ℕ, _≤_, _<_}
+use Prim.Native.Nat.{ℕ, _^_, _≤_, _<_}
+use native.Mathlib.Omega.{arith}
 use lib.ListN.{length}
 use borrow.Author.Tests.{le-leb, lt-leb}
-use Rattle.wire.specs.Field.{rowStored}
-use Rattle.wire.specs.Message.{Answer, given, refused}
-use Rattle.frames.specs.Cursors.{nextOf}
+use Rattle.wire.specs.Field.{HeldRow, decode, rowStored}
+use Rattle.wire.specs.Message.{Answer}
+use Rattle.frames.specs.Reading.{steps, framesOf}
+use Rattle.frames.specs.Cursors.{nextOf, Told}
 use Rattle.frames.specs.Writer.{writtenAnswer}
 use Rattle.frames.specs.declared.cursor.Next as Next
 use Rattle.frames.specs.declared.write.Written.{Written}
+use Rattle.frames.proofs.Answers.{told}
 use Rattle.exports.specs.Rows.{atFront}
 use Rattle.exports.specs.Found.{foundFields, foundRow, startAt, foundIn, numberIn, nextAnswer, nextStored}
 use Rattle.exports.specs.declared.reading.Found.{Found}
-use Rattle.exports.proofs.Parts.{stored-front}
+use Rattle.exports.proofs.Parts.{stored-front, decode-stored}
 
 -- ---- the next frame
 
@@ -35,6 +38,18 @@ module _ (s : List ℕ) (at : ℕ) (growing : Bool) (buf : List ℕ) where
       ∙ stored-front foundFields (foundRow f) buf h
       ∙ ap (λ (f : Found). atFront foundFields (foundRow f) buf) (q ∙ ap foundIn p)
       ∙ rw (le-leb 53 (length buf) h)
+
+-- a row that its fields hold is read back
+pub next-back : (s : List ℕ) (at : ℕ) (growing : Bool) (buf : List ℕ) → 53 ≤ length buf → HeldRow foundFields (foundRow (foundIn (nextOf s (startAt at growing))))
+    → decode foundFields (nextStored s at growing buf) 0 ≡ foundRow (foundIn (nextOf s (startAt at growing)))
+next-back s at growing buf h held =
+    let v = foundRow (foundIn (nextOf s (startAt at growing))) in
+    ap (λ (t : List ℕ). decode foundFields t 0) (sym (next-put s at growing buf h refl refl refl))
+    ∙ decode-stored foundFields v buf 0 (omega arith) held (refl, (refl, (refl, (refl, (refl, (refl, (refl, (refl, (refl, tt)))))))))
+
+-- from a position on it tells the first frame that is left of the reading there, and where the others are left; or that there is none
+pub next-left : (s : List ℕ) → length s < 2 ^ 64 → (at : ℕ) (growing : Bool) → at ≤ length s → Told growing s (framesOf (steps growing s at)) (nextOf s (startAt at growing))
+next-left s small at growing h = told s small growing (startAt at growing) refl h
 
 -- ---- the listing
 

@@ -2,16 +2,15 @@
 -- Assumes nothing.
 use mathlib.Core.Path.{_≡_, refl, sym, ap, _∙_, subst}
 use mathlib.Core.List.{List}
-use Prim.Native.Nat.{ℕ, _^_, _≤_, _<_}
+use Prim.Native.Nat.{ℕ, _≤_, _<_}
 use native.Mathlib.Nat.{zero-add}
 use native.Mathlib.Omega.{arith}
 use lib.ListN.{length, getD, set, length-take}
 use borrow.Author.Tests.{le-leb, lt-leb}
 use Rattle.wire.specs.Number.{Bytes}
-use Rattle.wire.specs.Field.{decode, rowStored}
-use Rattle.wire.proofs.Fields.{length-row}
+use Rattle.wire.specs.Field.{decode}
 use Rattle.epochs.specs.Packet.{judged}
-use Rattle.epochs.specs.Collator.{idle, stepped, told, taken, acted, rosterOf, fed}
+use Rattle.epochs.specs.Collator.{idle, stepped, told, acted, rosterOf, fed}
 use Rattle.epochs.specs.declared.judging.Packet.{Packet}
 use Rattle.epochs.specs.declared.judging.Judged.{Judged}
 use Rattle.epochs.specs.declared.judging.Judged.the-variants as J
@@ -24,7 +23,7 @@ use Rattle.epochs.specs.declared.collating.Happened.{Happened}
 use Rattle.epochs.specs.declared.collating.Happened.the-variants as H
 use Rattle.epochs.proofs.Judgements.{judged-below, judged-formed, judged-n, judged-time}
 use Rattle.epochs.proofs.Reports.{SmallIn, Small, report-small}
-use Rattle.exports.specs.Rows.{upTo, atFront}
+use Rattle.exports.specs.Rows.{upTo}
 use Rattle.exports.specs.State.{placeIn, placeStored, stateIn}
 use Rattle.exports.specs.Feed.{reportFields, reportRow, happenedNumber, happenedStored, FedIn, cameOut, takenIn, actedIn, fedIn}
 use Rattle.exports.proofs.Parts.{stored-front, decode-stored}
@@ -54,7 +53,7 @@ module _ (s : List ℕ) (kind sender : ℕ) (payload report : List ℕ) where
     report-short h = rw (le-leb 105 (length s) long, lt-leb 11 (length report) h)
 
     module _ (room : 11 ≤ length report) where
-      fed-acted : fedIn s kind sender payload report ≡ actedIn s report sender (judged (rosterOf (stateIn s)) kind sender payload)
+      pub fed-acted : fedIn s kind sender payload report ≡ actedIn s report sender (judged (rosterOf (stateIn s)) kind sender payload)
       unfolding fedIn
       fed-acted = rw (le-leb 105 (length s) long, le-leb 11 (length report) room)
 

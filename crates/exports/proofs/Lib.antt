@@ -4,3 +4,4 @@ pub mod Answered
 pub mod States
 pub mod Feeds
 pub mod Makes
+pub mod Lives

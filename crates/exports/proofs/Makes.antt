@@ -1,21 +1,22 @@
 -- A collator made in bytes: what `sbp_collator` answers, case by case, and that the bytes stand for the collator of that roster.
 -- Assumes nothing.
 use mathlib.Core.Path.{_≡_, refl, sym, ap, _∙_, subst}
+use mathlib.Core.Bool.{Bool, true, false, _&&_, cond}
 use mathlib.Core.List.{List, _++_}
 use Prim.Native.Nat.{ℕ, _≤_, _<_}
 use native.Mathlib.Omega.{arith}
-use lib.ListN.{length, getD, take, replicate, length-append, length-replicate, getD-replicate}
+use lib.Dec.{leb, eqb}
+use lib.ListN.{length, getD, replicate, length-append, getD-replicate}
 use lib.Seq.{length-take-le, getD-take}
 use borrow.Author.Tests.{le-leb, lt-leb, eq-eqb, ne-eqb}
 use Rattle.epochs.specs.Collator.{idle, fresh, made}
-use Rattle.epochs.specs.declared.placing.Place.{Place}
 use Rattle.epochs.specs.declared.collating.Collator.{Collator}
 use Rattle.epochs.specs.declared.collating.Made.{Made}
-use Rattle.epochs.proofs.Making.{Accepted, accepted}
+use Rattle.epochs.proofs.Making.{accepted}
 use Rattle.epochs.proofs.Rosters.{with-zeros}
 use Rattle.exports.specs.State.{stateIn, collatorStored}
 use Rattle.exports.specs.Feed.{madeAnswer, madeStored}
-use Rattle.exports.proofs.States.{Held, Small, state-stored}
+use Rattle.exports.proofs.States.{Held, Small, state-stored, length-collator}
 
 module _ (roster s : List ℕ) {m : Made} (e : m ≡ made roster) where
   number : m .number ≡ made roster .number
@@ -69,3 +70,11 @@ makes roster s zero senders long =
     ap stateIn (sym (put .1) ∙ ap (λ (c : Collator). collatorStored c s) whole)
     ∙ state-stored (fresh roster) (fresh-held roster (a .few) senders) s long
     ∙ sym whole
+
+pub length-made : (roster s : List ℕ) → length (madeStored roster s) ≡ length s
+unfolding madeStored
+length-made roster s = by (eqb (made roster .number) 0 && leb 105 (length s))
+  where
+    by : (t : Bool) → length (cond t (collatorStored (made roster .collator) s) s) ≡ length s
+    by true = length-collator (made roster .collator) s
+    by false = refl

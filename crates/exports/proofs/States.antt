@@ -1,5 +1,5 @@
 -- What the bytes of a collator stand for after a place, or a whole collator, is stored among them. Assumes nothing.
-use mathlib.Core.Path.{_≡_, refl, sym, ap, ap₂, _∙_}
+use mathlib.Core.Path.{_≡_, refl, sym, ap, _∙_}
 use mathlib.Core.Bool.{Bool, true, false}
 use mathlib.Core.List.{List, [], _∷_}
 use Prim.Native.Nat.{ℕ, _+_, _*_, _%_, _^_, _≤_, _<_}
@@ -9,7 +9,7 @@ use lib.Dec.{eqb, ltb}
 use lib.ListN.{length, getD, set}
 use borrow.Author.Tests.{ltb-true, ltb-false}
 use Rattle.wire.specs.Number.{numberAt}
-use Rattle.wire.specs.Field.{any, u8, u16, HeldRow, SettledRow, decode, rowStored, Row}
+use Rattle.wire.specs.Field.{any, u8, u16, HeldRow, SettledRow, rowStored, Row}
 use Rattle.wire.proofs.Fields.{length-row}
 use Rattle.epochs.specs.Collator.{idle, fits, summed, goesOn, continued, stepped}
 use Rattle.epochs.specs.declared.judging.Packet.{Packet}
@@ -19,9 +19,9 @@ use Rattle.epochs.specs.declared.placing.Run.the-variants.{Idle, Open}
 use Rattle.epochs.specs.declared.placing.Place.{Place}
 use Rattle.epochs.specs.declared.collating.Collator.{Collator}
 use Rattle.exports.specs.Rows.{upTo}
-use Rattle.exports.specs.State.{slotFields, slotRow, slotMake, placeOf, slotFor, slotOf, slotAt, placeIn, placeStored, countIn, seatsIn, stateIn, seatsStored, placesStored, collatorStored}
+use Rattle.exports.specs.State.{slotFields, slotRow, slotMake, placeOf, slotFor, slotOf, slotAt, placeIn, placeStored, countIn, seatsIn, stateIn, seatsStored, collatorStored}
 use Rattle.exports.proofs.Parts.{decode-stored, decode-before, decode-after}
-use Rattle.exports.proofs.Tables.{upTo-set, upTo-same, upTo-list, rows-own, rows-before, rows-after, length-stored}
+use Rattle.exports.proofs.Tables.{upTo-set, upTo-same, upTo-list, rows-own, rows-before, length-stored}
 
 -- ---- a place that its bytes hold
 
@@ -147,6 +147,12 @@ seatRow roster i = (getD roster i 0, tt)
 
 abbrev pub placeRow : List Place → ℕ → Row slotFields
 placeRow places i = slotRow (slotOf (getD places i idle))
+
+pub length-collator : (c : Collator) (s : List ℕ) → length (collatorStored c s) ≡ length s
+length-collator c s =
+    length-stored slotFields (placeRow (c .places)) (seatsStored (c .roster) 8 (countStored (c .count) s)) 17 8
+    ∙ length-stored (any u16 ∷ []) (seatRow (c .roster)) (countStored (c .count) s) 1 8
+    ∙ length-row (any u8 ∷ []) (c .count, tt) s 0
 
 module _ (c : Collator) (h : Held c) (s : List ℕ) (long : 105 ≤ length s) where
   counted-long : 105 ≤ length (countStored (c .count) s)

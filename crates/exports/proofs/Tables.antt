@@ -12,7 +12,7 @@ use borrow.Author.Tests.{eqb-true, eqb-false}
 use Rattle.wire.specs.Field.{Field, Row, HeldRow, SettledRow, size, decode, rowStored}
 use Rattle.wire.proofs.Fields.{length-row}
 use Rattle.exports.specs.Rows.{rowsStored, upTo}
-use Rattle.exports.proofs.Parts.{decode-stored, decode-before, decode-after}
+use Rattle.exports.proofs.Parts.{decode-stored, decode-before}
 
 -- ---- lists by index
 
@@ -77,13 +77,6 @@ module _ (fs : List Field) (row : ℕ → Row fs) (s : List ℕ) (at : ℕ) wher
     rows-before (suc n) room h =
         decode-before fs (row n) (rowsStored fs row n s at) (at + n * size fs) (next-room n room) gs b (omega arith)
         ∙ rows-before n (fewer-room n room) h
-
-    pub rows-after : (n : ℕ) → at + n * size fs ≤ length s → at + n * size fs ≤ b → decode gs (rowsStored fs row n s at) b ≡ decode gs s b
-    unfolding rowsStored
-    rows-after zero room h = refl
-    rows-after (suc n) room h =
-        decode-after fs (row n) (rowsStored fs row n s at) (at + n * size fs) (next-room n room) gs b (omega (arith, suc-mul n (size fs)))
-        ∙ rows-after n (fewer-room n room) (omega (arith, suc-mul n (size fs)))
 
   -- each row decodes where it stands
   pub rows-own : (n : ℕ) → at + n * size fs ≤ length s → ((j : ℕ) → j < n → HeldRow fs (row j) × SettledRow fs (row j))

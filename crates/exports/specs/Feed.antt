@@ -1,12 +1,13 @@
 -- What `sbp_collator` and `sbp_feed` answer and leave in the bytes that they are lent, step by step. Assumes nothing.
 use Prim.Native.Nat.{ℕ}
-use mathlib.Core.Bool.{Bool, _&&_, cond}
+use mathlib.Core.Bool.{_&&_, cond}
 use mathlib.Core.List.{List, [], _∷_}
 use lib.Dec.{leb, eqb}
 use lib.ListN.{length}
 use Rattle.wire.specs.Field.{Field, any, u8, u16, u32, Row, size}
 use Rattle.epochs.specs.Packet.{judged}
 use Rattle.epochs.specs.Collator.{stepped, told, rosterOf, made}
+use Rattle.epochs.specs.Epoch.{Item}
 use Rattle.epochs.specs.declared.judging.Packet.{Packet}
 use Rattle.epochs.specs.declared.judging.Judged.{Judged}
 use Rattle.epochs.specs.declared.judging.Judged.the-variants as J
@@ -77,3 +78,11 @@ fedIn state kind sender payload report =
     cond (leb stateSize (length state) && leb (size reportFields) (length report))
     (actedIn state report sender (judged (rosterOf (stateIn state)) kind sender payload))
     (record { state = state; report = report; answer = 32 })
+
+-- frames fed one after the other
+unfoldable pub afterIn : List ℕ → List ℕ → List Item → List ℕ
+unfolding fedIn
+afterIn state report [] = state
+afterIn state report (x ∷ xs) =
+    let out = fedIn state (x .kind) (x .sender) (x .payload) report in
+    afterIn (out .state) (out .report) xs
