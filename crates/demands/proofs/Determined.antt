@@ -1,7 +1,7 @@
 -- "That any two results it admits are equal is proved" (document 01, "What a contract here has to say"): one law, and each answer that a
 -- contract speaks of. A contract is `answer r ≡ d`, with d a definition of the inputs, or plainly `r ≡ d`, or two such of the parts of r; of a
 -- lent buffer, part or reader it is `now .. ≡ d`. Which function has which:
---   plain: every function of wire, crc and epochs; step_at, payload, closed, opened, next, counts, totals, sender_number, seal and place of
+--   plain: every function of wire, crc, epochs and exports; step_at, payload, closed, opened, next, counts, totals, sender_number, seal and place of
 --     frames; the fix modes, flags and ranges of navigation; is_obs_length, put and carrier_phase; the flags of system, and log_text; answer of
 --     payloads; place_after and place of obs_reader; put_line; started of listing; each buffer of a writer, of put_line and of list; the reader
 --     that next of obs_reader leaves
