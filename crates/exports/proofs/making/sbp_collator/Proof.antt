@@ -1,4 +1,5 @@
 -- `exports::making::sbp_collator` meets its contract, case by case.
+use native.Mathlib.Omega.{arith}
 use borrow.Author.Needs.{needs}
 use Rattle.exports.proofs.Makes.{made-refused, made-short, made-few, made-put}
 use Rattle.exports.proofs.making.sbp_collator.Statement.{statement}
@@ -13,7 +14,7 @@ returns c = let a = c .before .before .before .before .args in made-refused (a .
 returns-2 : tie.Need-returns-2
 returns-2 c =
     let a = c .before .before .before .before .before .args in
-    made-short (a .roster .now) (a .state .now) (c .before .before .made .ensures) (c .before .if1 .left) (c .if2 .taken)
+    made-short (a .roster .now) (a .state .now) (c .before .before .made .ensures) (c .before .if1 .left) (omega arith)
 
 put-collator-requires : tie.Need-put-collator-requires
 put-collator-requires c κs =
