@@ -165,6 +165,8 @@ def each():
         for name, table in zip(("pos-ecef", "pos-llh", "baseline-ecef"), tables):
             size = struct.calcsize("<" + MESSAGES[name][1])
             line += " %d %s" % (answer(name, bytes(size - 1) + bytes([flags])), (table + ("reserved",) * 8)[flags % 8])
+        for name, size in ("baseline-ned", 22), ("baseline-heading", 10):
+            line += " %d" % answer(name, bytes(size - 1) + bytes([flags]))
         yield line + "".join(" %d" % (flags >> k & 1) for k in (3, 4, 3, 4, 5))
 
 

@@ -102,14 +102,14 @@ fn put_slot(s: &mut [u8], i: usize, slot: Slot)
     wire::store_u16(s, total, slot.total);
 }
 
-pub fn place_in(s: &[u8], i: usize) -> Place
+pub(crate) fn place_in(s: &[u8], i: usize) -> Place
     requires { ⌜ i < 8 ⌝ }
     ensures { λ r. ⌜ r ≡ placeIn (now (s .entry)) i ⌝ }
 {
     place_of(slot_in(s, i))
 }
 
-pub fn put_place(s: &mut [u8], i: usize, place: Place)
+pub(crate) fn put_place(s: &mut [u8], i: usize, place: Place)
     requires { ⌜ i < 8 ⌝ }
     ensures { λ _. ⌜ now (s .exit) ≡ placeStored (now (s .entry)) i place ⌝ }
 {

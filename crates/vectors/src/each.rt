@@ -119,6 +119,7 @@ fn fix(flags: u8) {
     print::number(flags as u64);
     positions(flags);
     baseline(flags);
+    other_baselines(flags);
     bit(navigation::raim_available(flags));
     bit(navigation::raim_repaired(flags));
     bit(navigation::pos_llh_above_sea(flags));
@@ -142,6 +143,28 @@ fn baseline(flags: u8) {
     wire::store_u8(&mut s, 19, flags);
     vector(navigation::read_baseline_ecef(&s));
     mode(navigation::baseline_fix(flags));
+}
+
+fn other_baselines(flags: u8) {
+    let mut s = [0u8; 22];
+    wire::store_u8(&mut s, 21, flags);
+    ned(navigation::read_baseline_ned(&s));
+    wire::store_u8(&mut s, 9, flags);
+    heading(navigation::read_baseline_heading(front(&s, 10)));
+}
+
+fn ned(r: navigation::NedVectorRead) {
+    match r {
+        navigation::NedVectorRead::Record(_) => print::number(0),
+        navigation::NedVectorRead::Refused(n) => print::number(n as u64),
+    }
+}
+
+fn heading(r: navigation::BaselineHeadingRead) {
+    match r {
+        navigation::BaselineHeadingRead::Record(_) => print::number(0),
+        navigation::BaselineHeadingRead::Refused(n) => print::number(n as u64),
+    }
 }
 
 fn ecef(r: navigation::PosEcefRead) {
