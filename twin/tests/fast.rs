@@ -1,7 +1,8 @@
 //! The fast variants give what the plain ones give.
 
 use twin::crc::crc;
-use twin::fast::{crc_sliced, crc_table, listing_into};
+use twin::epochs::Outcome;
+use twin::fast::{closed, crc_sliced, crc_table, listing_into};
 use twin::gen::{self, Rng};
 use twin::listing::listing;
 
@@ -23,10 +24,14 @@ fn readings_and_listings_agree() {
     let mut fast = Vec::new();
     for seed in 0..2000 {
         let capture = gen::capture(seed);
-        listing_into(&capture, &mut fast);
-        assert!(fast == listing(&capture).as_bytes(), "seed {seed}");
+        let expected = listing(&capture);
+        listing_into(crc_table, &capture, &mut fast);
+        assert!(fast == expected.as_bytes(), "seed {seed}");
+        listing_into(crc_sliced, &capture, &mut fast);
+        assert!(fast == expected.as_bytes(), "seed {seed}, sliced");
 
-        let counts = twin::fast::closed(&capture);
+        let counts = closed(crc_table, &capture);
+        assert_eq!(counts, closed(crc_sliced, &capture));
         let reading = twin::frames::closed(&capture);
         assert_eq!(counts.frames, reading.frames.len());
         assert_eq!(counts.frame_bytes, reading.counts.frame_bytes);
@@ -34,6 +39,56 @@ fn readings_and_listings_agree() {
         assert_eq!(counts.bad, reading.counts.bad);
         assert_eq!(counts.short, reading.counts.short);
     }
+}
+
+#[test]
+fn collators_agree() {
+    let (mut epochs, mut refused) = (0, 0);
+    for seed in 0..2000 {
+        let capture = gen::capture(seed);
+        let reading = twin::frames::closed(&capture);
+        // Of the capture's senders every other, so that 43 comes too.
+        let mut senders: Vec<u16> = reading.frames.iter().map(|f| f.sender).collect();
+        senders.sort();
+        senders.dedup();
+        let roster: Vec<u16> = senders.into_iter().step_by(2).take(8).collect();
+        let Ok(mut plain) = twin::epochs::Collator::new(&roster) else {
+            assert_eq!(twin::fast::Collator::new(&roster).err(), Some(41));
+            continue;
+        };
+        let mut fast = twin::fast::Collator::new(&roster).expect("it is made");
+        for frame in &reading.frames {
+            let fed = plain.feed(frame.msg_type, frame.sender, frame.payload);
+            plain = fed.collator;
+            match (
+                fed.outcome,
+                fast.feed(frame.msg_type, frame.sender, frame.payload),
+            ) {
+                (Outcome::Refused(no), Err(theirs)) => {
+                    assert_eq!(no, theirs, "seed {seed}");
+                    refused += 1;
+                }
+                (Outcome::Taken, Ok(None)) => {}
+                (Outcome::Epoch(e), Ok(Some(f))) => {
+                    assert_eq!((e.sender, e.wn, e.tow), (f.sender, f.wn, f.tow));
+                    assert_eq!((e.n, e.observations), (f.n, f.observations.into()));
+                    epochs += 1;
+                }
+                _ => panic!("seed {seed}"),
+            }
+        }
+    }
+    assert!(epochs > 1000 && refused > 1000, "{epochs}, {refused}");
+}
+
+#[test]
+fn rosters() {
+    let made = |roster: &[u16]| twin::fast::Collator::new(roster).err();
+    assert_eq!(made(&[]), Some(41));
+    assert_eq!(made(&[1; 9]), Some(41));
+    assert_eq!(made(&[1, 2, 3, 4, 5, 6, 7, 1]), Some(42));
+    assert_eq!(made(&[0, 0]), Some(42));
+    assert_eq!(made(&[0, 65535]), None);
 }
 
 #[test]

@@ -173,6 +173,6 @@ fn sbplist_example() {
     let expected = "F 1 514 1228 20 0\nF 29 73 0 7 0\nE 0 1900 1000 1 0\nT 45 43 1 0 1\n";
     assert_eq!(twin::listing::listing(&capture), expected);
     let mut fast = Vec::new();
-    twin::fast::listing_into(&capture, &mut fast);
+    twin::fast::listing_into(twin::fast::crc_table, &capture, &mut fast);
     assert_eq!(fast, expected.as_bytes());
 }

@@ -1,7 +1,5 @@
 //! Finding frames in a closed capture.
 
-use super::crc::crc_sliced;
-
 #[derive(Clone, Copy, Debug, Default, PartialEq, Eq)]
 pub struct Counts {
     pub frames: usize,
@@ -18,16 +16,18 @@ pub(super) struct Found<'a> {
     pub payload: &'a [u8],
 }
 
-/// A closed reading in progress.
-pub(super) struct Finder<'a> {
+/// A closed reading in progress, by either form of the CRC.
+pub(super) struct Finder<'a, F> {
+    crc: F,
     capture: &'a [u8],
     p: usize,
     pub counts: Counts,
 }
 
-impl<'a> Finder<'a> {
-    pub fn new(capture: &'a [u8]) -> Finder<'a> {
+impl<'a, F: Fn(&[u8]) -> u16> Finder<'a, F> {
+    pub fn new(crc: F, capture: &'a [u8]) -> Finder<'a, F> {
         Finder {
+            crc,
             capture,
             p: 0,
             counts: Counts::default(),
@@ -51,7 +51,7 @@ impl<'a> Finder<'a> {
             let size = usize::from(n) + 8;
             if let Some(frame) = rest.get(..size) {
                 let (body, stated) = frame.split_at(size - 2);
-                if crc_sliced(&body[1..]) == u16::from_le_bytes([stated[0], stated[1]]) {
+                if (self.crc)(&body[1..]) == u16::from_le_bytes([stated[0], stated[1]]) {
                     let offset = self.p;
                     self.p += size;
                     self.counts.frames += 1;
@@ -108,9 +108,9 @@ fn junk_run(bytes: &[u8]) -> usize {
     at + rest.iter().position(|&b| b == 0x55).unwrap_or(rest.len())
 }
 
-/// Counts of a closed reading.
-pub fn closed(capture: &[u8]) -> Counts {
-    let mut finder = Finder::new(capture);
+/// Counts of a closed reading; `crc` is `crc_table` or `crc_sliced`.
+pub fn closed(crc: impl Fn(&[u8]) -> u16, capture: &[u8]) -> Counts {
+    let mut finder = Finder::new(crc, capture);
     while finder.next().is_some() {}
     finder.counts
 }

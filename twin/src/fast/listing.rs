@@ -5,15 +5,16 @@ use super::collate::Collator;
 use super::decimal::Line;
 use super::find::Finder;
 
-/// Replaces `out` by the listing of `capture`.
-pub fn listing_into(capture: &[u8], out: &mut Vec<u8>) {
+/// Replaces `out` by the listing of `capture`; `crc` is `crc_table` or
+/// `crc_sliced`.
+pub fn listing_into(crc: impl Fn(&[u8]) -> u16, capture: &[u8], out: &mut Vec<u8>) {
     out.clear();
     if capture.len() > 65536 {
         out.extend_from_slice(b"R 11\n");
         return;
     }
-    let mut finder = Finder::new(capture);
-    let mut collator = Collator::default();
+    let mut finder = Finder::new(crc, capture);
+    let mut collator = Collator::growing();
     while let Some(frame) = finder.next() {
         // Offsets and lengths are at most 65536 here.
         Line::new(b'F')
@@ -24,9 +25,9 @@ pub fn listing_into(capture: &[u8], out: &mut Vec<u8>) {
             .number(answer(frame.msg_type, frame.payload).into())
             .end(out);
         if frame.msg_type == 0x0049 {
-            if let Some(epoch) = collator.feed(frame.sender, frame.payload) {
+            if let Some(epoch) = collator.feed_listing(frame.sender, frame.payload) {
                 Line::new(b'E')
-                    .number(frame.sender.into())
+                    .number(epoch.sender.into())
                     .number(epoch.wn.into())
                     .number(epoch.tow)
                     .number(epoch.n.into())

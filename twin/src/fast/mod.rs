@@ -9,6 +9,7 @@ mod find;
 mod listing;
 
 pub use answer::answer;
+pub use collate::{Collator, Epoch};
 pub use crc::{crc_sliced, crc_table};
 pub use find::{closed, Counts};
 pub use listing::listing_into;
