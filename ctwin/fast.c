@@ -41,12 +41,20 @@ static const uint16_t table[256] = {
     0x6e17, 0x7e36, 0x4e55, 0x5e74, 0x2e93, 0x3eb2, 0x0ed1, 0x1ef0,
 };
 
+/* Instead of the register it carries the index of the next look-up, and what
+ * is mixed into the one after: one exclusive or waits between two look-ups. */
 uint16_t sbp_crc(const uint8_t *bytes, size_t length)
 {
-    uint32_t crc = 0;
-    for (size_t i = 0; i < length; i++)
-        crc = (crc << 8 ^ table[(crc >> 8 & 0xff) ^ bytes[i]]) & 0xffff;
-    return (uint16_t)crc;
+    if (length < 2)
+        return length == 0 ? 0 : table[bytes[0]];
+    uint32_t index = bytes[0], after = bytes[1];
+    for (size_t i = 2; i < length; i++) {
+        uint32_t entry = table[index];
+        index = after ^ entry >> 8;
+        after = (entry & 0xff) ^ bytes[i];
+    }
+    uint32_t entry = table[index];
+    return (uint16_t)(entry << 8 ^ table[after ^ entry >> 8]);
 }
 
 static inline uint16_t get16(const uint8_t *p)

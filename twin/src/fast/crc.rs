@@ -42,10 +42,23 @@ fn run(mut register: u16, bytes: &[u8]) -> u16 {
     register
 }
 
-/// One table look-up for each byte.
+/// One table look-up for each byte. Instead of the register it carries the
+/// index of the next look-up, and what is mixed into the one after: one
+/// exclusive or waits between two look-ups.
 #[inline]
 pub fn crc_table(bytes: &[u8]) -> u16 {
-    run(0, bytes)
+    let &[first, second, ref rest @ ..] = bytes else {
+        return run(0, bytes);
+    };
+    // Both stay below 256. Kept wide they need no cutting on the way.
+    let (mut index, mut after) = (usize::from(first), usize::from(second));
+    for &byte in rest {
+        let entry = TABLES[0][index];
+        index = after ^ usize::from(entry >> 8);
+        after = usize::from(entry as u8 ^ byte);
+    }
+    let entry = TABLES[0][index];
+    entry << 8 ^ TABLES[0][after ^ usize::from(entry >> 8)]
 }
 
 /// Slicing by eight: the eight look-ups of a block do not wait on each other.
