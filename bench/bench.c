@@ -1,4 +1,5 @@
-/* Times the exported functions beside the C twin, in one run and by turns: ns a byte of each, and their ratio, the median of several rounds.
+/* Times the exported functions beside the C twin and the Rust twin, in one run and by turns. A line for each case: the ns a byte of each, our
+ * time over theirs, and Rust's ns a byte with the CRC in another form, eight bytes at a time. Each number is the median of the rounds.
  * usage: bench [MEBIBYTES [ROUNDS]], by default 64 and 9 (bench/run builds it) */
 #define _POSIX_C_SOURCE 199309L
 #include <stdio.h>
@@ -6,7 +7,7 @@
 #include <string.h>
 #include <time.h>
 
-/* The twin has our names: it gets its own here. */
+/* The twin has our names: it gets its own here. Being of this file, it may be compiled into the loops that call it. */
 #define sbp_crc twin_crc
 #define sbp_answer twin_answer
 #define sbp_feed twin_feed
@@ -19,15 +20,28 @@
 
 #include "../include/sbp.h"
 
+/* bench/twin.rs, which says what they do. */
+uint16_t rust_crc(const uint8_t *bytes, size_t n);
+uint16_t rust_crc_sliced(const uint8_t *bytes, size_t n);
+void rust_closed(const uint8_t *capture, size_t n, uint64_t counts[4]);
+void rust_closed_sliced(const uint8_t *capture, size_t n, uint64_t counts[4]);
+void rust_feed(const uint8_t *capture, size_t n, uint64_t sums[4]);
+const uint8_t *rust_list(const uint8_t *capture, size_t n, uint64_t *size);
+
+enum { OURS, C, RUST, SLICED, SIDES, ROUNDS_MAX = 99, ROOM = 8 * SBP_INPUT_MAX + 32 };
+
 static uint8_t *capture;
 static size_t length;
-static char *text;
-/* What the calls answer is kept, so that none of them is left out. */
-static volatile uint64_t kept;
+static uint8_t our_text[ROOM];
+static char twins_text[SBP_LIST_MAX];
+/* What a call found, in numbers or as a text of told[0] bytes. All sides must find the same. */
+static uint64_t told[4];
+static const uint8_t *text;
 
+/* The time that this program has had, so that others on the machine count little. */
 static double now(void) {
     struct timespec t;
-    clock_gettime(CLOCK_MONOTONIC, &t);
+    clock_gettime(CLOCK_PROCESS_CPUTIME_ID, &t);
     return (double)t.tv_sec * 1e9 + (double)t.tv_nsec;
 }
 
@@ -36,83 +50,137 @@ static int by_size(const void *a, const void *b) {
     return (x > y) - (x < y);
 }
 
-/* ---- what is timed: ours and the twin's, over the capture */
-
-static void our_crc(void) { kept = sbp_crc(capture, length); }
-static void twins_crc(void) { kept = twin_crc(capture, length); }
-
-static void our_reading(void) {
-    uint8_t found[SBP_FOUND];
-    uint64_t frames = 0;
-    for (size_t at = 0; sbp_next(capture, length, at, false, found, sizeof found) == 0; frames++) {
-        at = sbp_number(found + 8, 8);
-    }
-    kept = frames;
+static double median(double *all, int rounds) {
+    qsort(all, (size_t)rounds, sizeof *all, by_size);
+    return all[rounds / 2];
 }
+
+/* ---- what is timed, over the capture */
+
+static void our_crc(void) { told[0] = sbp_crc(capture, length); }
+static void twins_crc(void) { told[0] = twin_crc(capture, length); }
+static void rusts_crc(void) { told[0] = rust_crc(capture, length); }
+static void sliced_crc(void) { told[0] = rust_crc_sliced(capture, length); }
+
+/* Frame by frame: frame bytes, junk, bad, short. */
+static void our_reading(void) {
+    uint8_t row[SBP_FOUND];
+    uint8_t answer;
+    size_t at = 0;
+    do {
+        answer = sbp_next(capture, length, at, false, row, sizeof row);
+        struct sbp_found found = sbp_found_of(row);
+        told[0] += found.next - found.at;
+        told[1] += found.junk;
+        told[2] += found.bad;
+        told[3] += found.short_;
+        at = found.next;
+    } while (answer == 0);
+}
+
+#ifdef SBP_TOTALS
+/* The same numbers in one call. */
+static void our_totals(void) {
+    uint8_t counts[SBP_TOTALS];
+    sbp_totals(capture, length, counts, sizeof counts);
+    for (int i = 0; i < 4; i++) {
+        told[i] = sbp_number(counts + 8 * i, 8);
+    }
+}
+#endif
 
 static void twins_reading(void) {
     struct sbp_counts counts;
-    kept = sbp_read_closed(capture, length, &counts);
+    sbp_read_closed(capture, length, &counts);
+    told[0] = counts.frame_bytes, told[1] = counts.junk, told[2] = counts.bad, told[3] = counts.short_;
 }
 
-/* Frames of a clean capture, one after the other. */
+static void rusts_reading(void) { rust_closed(capture, length, told); }
+static void sliced_reading(void) { rust_closed_sliced(capture, length, told); }
+
+/* Frames of a clean capture, one after the other: the epochs, and sums of all answers and of what the epochs say. */
 static void our_feeding(void) {
     const uint16_t roster[] = {1228, 0};
     uint8_t state[SBP_STATE], report[SBP_REPORT];
-    uint64_t epochs = 0;
     sbp_collator(state, sizeof state, roster, 2);
     for (size_t at = 0; at < length; at += capture[at + 5] + 8u) {
         const uint8_t *f = capture + at;
-        epochs += sbp_feed(state, sizeof state, (uint16_t)(f[1] | f[2] << 8), (uint16_t)(f[3] | f[4] << 8), f + 6, f[5], report, sizeof report) == 1;
+        uint8_t answer =
+            sbp_feed(state, sizeof state, (uint16_t)(f[1] | f[2] << 8), (uint16_t)(f[3] | f[4] << 8), f + 6, f[5], report, sizeof report);
+        told[1] += answer;
+        if (answer == 1) {
+            struct sbp_report e = sbp_report_of(report);
+            told[0]++;
+            told[2] += (uint64_t)e.sender + e.wn + e.tow;
+            told[3] += (uint64_t)e.n + e.observations;
+        }
     }
-    kept = epochs;
 }
 
 static void twins_feeding(void) {
     const uint16_t roster[] = {1228, 0};
     struct sbp_collator collator;
-    struct sbp_epoch epoch;
-    uint64_t epochs = 0;
+    struct sbp_epoch e;
     sbp_collator_make(&collator, roster, 2);
     for (size_t at = 0; at < length; at += capture[at + 5] + 8u) {
         const uint8_t *f = capture + at;
-        epochs += twin_feed(&collator, (uint16_t)(f[1] | f[2] << 8), (uint16_t)(f[3] | f[4] << 8), f + 6, f[5], &epoch) == SBP_EPOCH;
+        int answer = twin_feed(&collator, (uint16_t)(f[1] | f[2] << 8), (uint16_t)(f[3] | f[4] << 8), f + 6, f[5], &e);
+        told[1] += (uint64_t)answer;
+        if (answer == SBP_EPOCH) {
+            told[0]++;
+            told[2] += (uint64_t)e.sender + e.wn + e.tow;
+            told[3] += (uint64_t)e.n + e.observations;
+        }
     }
-    kept = epochs;
 }
+
+static void rusts_feeding(void) { rust_feed(capture, length, told); }
 
 static void our_listing(void) {
-    uint64_t size = 0;
-    sbp_list(capture, length, (uint8_t *)text, 8 * 65536 + 32, &size);
-    kept = size;
+    sbp_list(capture, length, our_text, sizeof our_text, told);
+    text = our_text;
 }
 
-static void twins_listing(void) { kept = twin_list(capture, length, text); }
+static void twins_listing(void) {
+    told[0] = twin_list(capture, length, twins_text);
+    text = (const uint8_t *)twins_text;
+}
 
-static void timed(const char *name, void (*ours)(void), void (*twins)(void), int rounds, int times) {
-    double mine[99], theirs[99], ratio[99];
+static void rusts_listing(void) { text = rust_list(capture, length, told); }
+
+/* The sides by turns, each so many times; the last may be NULL. */
+static void timed(const char *name, int rounds, int times, void (*const sides[SIDES])(void)) {
+    double ns[SIDES][ROUNDS_MAX], ratio[SIDES][ROUNDS_MAX];
+    uint64_t ours[4];
     for (int r = 0; r < rounds; r++) {
-        double a = now();
-        for (int i = 0; i < times; i++) {
-            ours();
+        for (int s = 0; s < SIDES && sides[s] != NULL; s++) {
+            double took = 0;
+            text = NULL;
+            for (int i = 0; i < times; i++) {
+                memset(told, 0, sizeof told);
+                double start = now();
+                sides[s]();
+                took += now() - start;
+            }
+            for (uint64_t i = 0; text != NULL && i < told[0]; i++) {
+                told[1] = told[1] * 31 + text[i];
+            }
+            if (s == OURS) {
+                memcpy(ours, told, sizeof ours);
+            } else if (memcmp(ours, told, sizeof ours) != 0) {
+                fprintf(stderr, "%s: side %d found something else\n", name, s);
+                exit(EXIT_FAILURE);
+            }
+            ns[s][r] = took / ((double)length * times);
+            ratio[s][r] = ns[OURS][r] / ns[s][r];
         }
-        double b = now();
-        uint64_t told = kept;
-        for (int i = 0; i < times; i++) {
-            twins();
-        }
-        double c = now();
-        if (told != kept) {
-            printf("%s: %llu and %llu\n", name, (unsigned long long)told, (unsigned long long)kept);
-            exit(EXIT_FAILURE);
-        }
-        double bytes = (double)length * times;
-        mine[r] = (b - a) / bytes, theirs[r] = (c - b) / bytes, ratio[r] = (b - a) / (c - b);
     }
-    qsort(mine, (size_t)rounds, sizeof *mine, by_size);
-    qsort(theirs, (size_t)rounds, sizeof *theirs, by_size);
-    qsort(ratio, (size_t)rounds, sizeof *ratio, by_size);
-    printf("%-28s %8.3f ns/byte, C %8.3f, ratio %.2f\n", name, mine[rounds / 2], theirs[rounds / 2], ratio[rounds / 2]);
+    printf("%-40s %8.3f %8.3f %8.3f", name, median(ns[OURS], rounds), median(ns[C], rounds), median(ns[RUST], rounds));
+    printf(" %8.2f %8.2f", median(ratio[C], rounds), median(ratio[RUST], rounds));
+    if (sides[SLICED] != NULL) {
+        printf(" %18.3f", median(ns[SLICED], rounds));
+    }
+    printf("\n");
     fflush(stdout);
 }
 
@@ -170,23 +238,37 @@ static void preambles(size_t most) {
     memset(capture, 0x55, most);
 }
 
+static void readings(const char *by_frame, const char *in_one, int rounds) {
+    timed(by_frame, rounds, 1, (void (*const[SIDES])(void)){our_reading, twins_reading, rusts_reading, sliced_reading});
+#ifdef SBP_TOTALS
+    timed(in_one, rounds, 1, (void (*const[SIDES])(void)){our_totals, twins_reading, rusts_reading, sliced_reading});
+#else
+    (void)in_one;
+#endif
+}
+
 int main(int argc, char **argv) {
-    size_t most = (size_t)(argc > 1 ? atoi(argv[1]) : 64) << 20;
-    int rounds = argc > 2 ? atoi(argv[2]) : 9;
-    capture = malloc(most);
-    text = malloc(SBP_LIST_MAX > 8 * 65536 + 32 ? SBP_LIST_MAX : 8 * 65536 + 32);
-    if (capture == NULL || text == NULL || rounds < 1 || rounds > 99) {
+    int mebibytes = argc > 1 ? atoi(argv[1]) : 64, rounds = argc > 2 ? atoi(argv[2]) : 9;
+    if (mebibytes < 1 || mebibytes > 1024 || rounds < 1 || rounds > ROUNDS_MAX) {
+        fprintf(stderr, "usage: bench [MEBIBYTES [ROUNDS]]\n");
         return EXIT_FAILURE;
     }
-    noise(most);
-    timed("CRC of a long buffer", our_crc, twins_crc, rounds, 1);
-    timed("closed reading of noise", our_reading, twins_reading, rounds, 1);
+    size_t most = (size_t)mebibytes << 20;
+    capture = malloc(most);
+    if (capture == NULL) {
+        return EXIT_FAILURE;
+    }
+    printf("%-40s %8s %8s %8s %8s %8s %18s\n", "ns a byte", "Rattle", "C", "Rust", "to C", "to Rust", "Rust, sliced by 8");
     clean(most);
-    timed("closed reading, clean", our_reading, twins_reading, rounds, 1);
-    timed("feeding epochs", our_feeding, twins_feeding, rounds, 1);
+    timed("CRC of a long buffer", rounds, 1, (void (*const[SIDES])(void)){our_crc, twins_crc, rusts_crc, sliced_crc});
+    readings("closed reading, clean, frame by frame", "closed reading, clean, in one call", rounds);
+    timed("feeding epochs", rounds, 1, (void (*const[SIDES])(void)){our_feeding, twins_feeding, rusts_feeding, NULL});
+    noise(most);
+    readings("closed reading, noise, frame by frame", "closed reading, noise, in one call", rounds);
+    /* Every byte begins a frame of 93 that is bad: some 200 ns a byte, so a 64th of them. */
     preambles(most / 64);
-    timed("closed reading of all 0x55", our_reading, twins_reading, rounds, 1);
-    clean(65536);
-    timed("listing of 64 KiB", our_listing, twins_listing, rounds, (int)(most >> 20));
+    readings("closed reading, all 0x55, frame by frame", "closed reading, all 0x55, in one call", rounds);
+    clean(SBP_INPUT_MAX);
+    timed("listing of 64 KiB", rounds, (int)(most / SBP_INPUT_MAX), (void (*const[SIDES])(void)){our_listing, twins_listing, rusts_listing, NULL});
     return EXIT_SUCCESS;
 }
