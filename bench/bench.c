@@ -30,6 +30,8 @@ const uint8_t *rust_list(const uint8_t *capture, size_t n, uint64_t *size);
 
 enum { OURS, C, RUST, SLICED, SIDES, ROUNDS_MAX = 99, ROOM = 8 * SBP_INPUT_MAX + 32 };
 
+typedef void (*side)(void);
+
 static uint8_t *capture;
 static size_t length;
 static uint8_t our_text[ROOM];
@@ -149,7 +151,7 @@ static void twins_listing(void) {
 static void rusts_listing(void) { text = rust_list(capture, length, told); }
 
 /* The sides by turns, each so many times; the last may be NULL. */
-static void timed(const char *name, int rounds, int times, void (*const sides[SIDES])(void)) {
+static void timed(const char *name, int rounds, int times, const side sides[SIDES]) {
     double ns[SIDES][ROUNDS_MAX], ratio[SIDES][ROUNDS_MAX];
     uint64_t ours[4];
     for (int r = 0; r < rounds; r++) {
@@ -239,9 +241,9 @@ static void preambles(size_t most) {
 }
 
 static void readings(const char *by_frame, const char *in_one, int rounds) {
-    timed(by_frame, rounds, 1, (void (*const[SIDES])(void)){our_reading, twins_reading, rusts_reading, sliced_reading});
+    timed(by_frame, rounds, 1, (const side[SIDES]){our_reading, twins_reading, rusts_reading, sliced_reading});
 #ifdef SBP_TOTALS
-    timed(in_one, rounds, 1, (void (*const[SIDES])(void)){our_totals, twins_reading, rusts_reading, sliced_reading});
+    timed(in_one, rounds, 1, (const side[SIDES]){our_totals, twins_reading, rusts_reading, sliced_reading});
 #else
     (void)in_one;
 #endif
@@ -260,15 +262,15 @@ int main(int argc, char **argv) {
     }
     printf("%-40s %8s %8s %8s %8s %8s %18s\n", "ns a byte", "Rattle", "C", "Rust", "to C", "to Rust", "Rust, sliced by 8");
     clean(most);
-    timed("CRC of a long buffer", rounds, 1, (void (*const[SIDES])(void)){our_crc, twins_crc, rusts_crc, sliced_crc});
+    timed("CRC of a long buffer", rounds, 1, (const side[SIDES]){our_crc, twins_crc, rusts_crc, sliced_crc});
     readings("closed reading, clean, frame by frame", "closed reading, clean, in one call", rounds);
-    timed("feeding epochs", rounds, 1, (void (*const[SIDES])(void)){our_feeding, twins_feeding, rusts_feeding, NULL});
+    timed("feeding epochs", rounds, 1, (const side[SIDES]){our_feeding, twins_feeding, rusts_feeding, NULL});
     noise(most);
     readings("closed reading, noise, frame by frame", "closed reading, noise, in one call", rounds);
     /* Every byte begins a frame of 93 that is bad: some 200 ns a byte, so a 64th of them. */
     preambles(most / 64);
     readings("closed reading, all 0x55, frame by frame", "closed reading, all 0x55, in one call", rounds);
     clean(SBP_INPUT_MAX);
-    timed("listing of 64 KiB", rounds, (int)(most / SBP_INPUT_MAX), (void (*const[SIDES])(void)){our_listing, twins_listing, rusts_listing, NULL});
+    timed("listing of 64 KiB", rounds, (int)(most / SBP_INPUT_MAX), (const side[SIDES]){our_listing, twins_listing, rusts_listing, NULL});
     return EXIT_SUCCESS;
 }
