@@ -9,6 +9,7 @@ use lib.Bits.{xor-lt}
 use lib.ListN.{length, getD, drop, drop-of-length-le}
 use lib.Seq.{drop-cons}
 use Rattle.crc.specs.Crc.{bitStep, bitSteps, byteStep, crcFrom}
+use Rattle.crc.specs.Table.{byteBy, crcBy}
 
 step-fits : (c : ℕ) → bitStep c < 65536
 unfolding bitStep
@@ -28,19 +29,18 @@ unfolding crcFrom
 crcFrom-fits c [] h = h
 crcFrom-fits c (b ∷ s) h = crcFrom-fits (byteStep c b) s (byteStep-fits c b)
 
--- a loop over s, begun at a start value: c is the register once i bytes are taken
-module _ (start : ℕ) (s : List ℕ) where
+-- a loop over s by a table, begun at a start value: c is the register once i bytes are taken
+module _ (t : List ℕ) (start : ℕ) (s : List ℕ) where
   abbrev pub Taken : ℕ → ℕ → Type 0
-  Taken c i = (i ≤ length s) × (c < 65536) × (crcFrom c (drop i s) ≡ crcFrom start s)
+  Taken c i = (i ≤ length s) × (c < 65536) × (crcBy t c (drop i s) ≡ crcBy t start s)
 
   pub taken-none : start < 65536 → Taken start 0
   taken-none h = (zero-le, h, refl)
 
-  pub taken-more : {c i r : ℕ} → Taken c i → i < length s → r ≡ byteStep c (getD s i 0) → Taken r (i + 1)
-  unfolding crcFrom
-  taken-more {c} {i} inv h e =
-      rw e (omega arith, byteStep-fits c (getD s i 0), rw add-one (rw (drop-cons s i 0) at (inv .2)))
+  pub taken-more : {c i r : ℕ} → Taken c i → i < length s → r < 65536 → r ≡ byteBy t c (getD s i 0) → Taken r (i + 1)
+  unfolding crcBy
+  taken-more {c} {i} inv h fits e = (omega arith, fits, rw e (rw add-one (rw (drop-cons s i 0) at (inv .2))))
 
-  pub taken-all : {c i : ℕ} → Taken c i → length s ≤ i → c ≡ crcFrom start s
-  unfolding crcFrom
-  taken-all {c} inv h = sym (ap (crcFrom c) (drop-of-length-le s h)) ∙ inv .2
+  pub taken-all : {c i : ℕ} → Taken c i → length s ≤ i → c ≡ crcBy t start s
+  unfolding crcBy
+  taken-all {c} inv h = sym (ap (crcBy t c) (drop-of-length-le s h)) ∙ inv .2

@@ -9,8 +9,10 @@ use lib.Bits.{bitXor, xor-block, xor-lt, xor-zero-r}
 use lib.Dec.{lit≤}
 use lib.ListN.{getD}
 use lib.Pow as Pow
-use Rattle.crc.specs.Crc.{bitSteps, byteStep}
+use Rattle.crc.specs.Crc.{bitSteps, byteStep, crcFrom}
+use Rattle.crc.specs.Table.{Rule, byteBy, crcBy}
 use Rattle.crc.proofs.Split.{split}
+use Rattle.crc.proofs.Fold.{byteStep-fits}
 
 -- f at 0, 1, .., n of them
 unfoldable pub listed : (ℕ → ℕ) → ℕ → List ℕ
@@ -38,13 +40,22 @@ added c b =
     ∙ xor-block 8 (c / 256) b (c % 256) 0 (omega arith) (lit≤ tt)
     ∙ ap (λ (x : ℕ). bitXor (c / 256) b * 256 + x) (xor-zero-r (c % 256))
 
--- the entry at p with the lower half moved up is the register after the byte
-pub byte-by-table : {c b p r : ℕ} (t : List ℕ) → ((k : ℕ) → k < 256 → getD t k 0 ≡ bitSteps 8 (k * 256)) → c < 65536 → b < 256
-    → p ≡ bitXor (c / 256) b → r ≡ bitXor (c % 256 * 256) (getD t p 0) → r ≡ byteStep c b
-unfolding byteStep
-byte-by-table {c} {b} t rule hc hb hp hr =
-    hr
-    ∙ ap (λ (x : ℕ). bitXor (c % 256 * 256) (getD t x 0)) hp
-    ∙ ap (bitXor (c % 256 * 256)) (rule (bitXor (c / 256) b) (place-fits hc hb refl))
-    ∙ sym (split 8 8 (bitXor (c / 256) b) (c % 256) (omega arith) (lit≤ tt))
-    ∙ ap (bitSteps 8) (sym (added c b))
+-- the register after a byte has 16 bits again
+pub moved-fits : (c : ℕ) {e r : ℕ} → e < 65536 → r ≡ bitXor (c % 256 * 256) e → r < 65536
+moved-fits c {e} he hr = rw hr (xor-lt 16 (c % 256 * 256) e (omega arith) he)
+
+module _ (t : List ℕ) (rule : Rule t) where
+  -- a byte by the table is eight single-bit steps
+  byte-by-table : (c b : ℕ) → c < 65536 → b < 256 → byteBy t c b ≡ byteStep c b
+  unfolding byteStep
+  byte-by-table c b hc hb =
+      ap (bitXor (c % 256 * 256)) (rule (bitXor (c / 256) b) (place-fits hc hb refl))
+      ∙ sym (split 8 8 (bitXor (c / 256) b) (c % 256) (omega arith) (lit≤ tt))
+      ∙ ap (bitSteps 8) (sym (added c b))
+
+  -- and so for all the bytes
+  pub crc-by-table : (c : ℕ) (s : List ℕ) → c < 65536 → ((i : ℕ) → getD s i 0 < 256) → crcBy t c s ≡ crcFrom c s
+  unfolding crcBy crcFrom
+  crc-by-table c [] hc bytes = refl
+  crc-by-table c (b ∷ s) hc bytes =
+      ap (λ (x : ℕ). crcBy t x s) (byte-by-table c b hc (bytes 0)) ∙ crc-by-table (byteStep c b) s (byteStep-fits c b) (λ i. bytes (suc i))

@@ -1,10 +1,11 @@
 // The CRC of a frame. Read specs/Crc.antt first: the single-bit step, eight of them for a byte, a fold over the bytes.
-// The code takes a byte at a time from a constant table; `entries` states the table's rule, proved over all of it.
+// The code takes a byte at a time from a constant table, specs/Table.antt; `entries` states the table's rule, proved over all of it.
+// A constant is built anew wherever it is named: who sums many frames makes the table once and lends it to `crc_by`.
 ghost use mathlib.Core.Path.{_≡_};
-ghost use Prim.Native.Nat.{ℕ, _*_, _/_, _%_, _<_};
+ghost use Prim.Native.Nat.{_*_, _/_, _%_, _<_};
 ghost use lib.Bits.{bitXor};
-ghost use lib.ListN.{getD};
-ghost use Rattle.crc.specs.Crc.{bitSteps, crcFrom};
+ghost use Rattle.crc.specs.Crc.{crcFrom};
+ghost use Rattle.crc.specs.Table.{Rule, crcBy};
 
 // What eight single-bit steps make of each upper half of the register.
 const TABLE: [u16; 256] = [
@@ -267,8 +268,8 @@ const TABLE: [u16; 256] = [
 ];
 
 // The table, and its rule: entry i is the register i * 256 after eight single-bit steps.
-fn entries() -> [u16; 256]
-    ensures { λ r. ⌜ ((i : ℕ) → i < 256 → getD r i 0 ≡ bitSteps 8 (i * 256)) ⌝ }
+pub fn entries() -> [u16; 256]
+    ensures { λ r. ⌜ Rule r ⌝ }
 {
     TABLE
 }
@@ -280,19 +281,17 @@ fn place(c: usize, b: u8) -> usize
     (c / 256) ^ (b as usize)
 }
 
-// The register after a byte, given its entry: the lower half moves up.
+// The register after a byte, given its entry: the lower half moves up, and 16 bits are left.
 fn moved(c: usize, entry: u16) -> usize
-    ensures { λ r. ⌜ r ≡ bitXor (c % 256 * 256) entry ⌝ }
+    ensures { λ r. ⌜ (r ≡ bitXor (c % 256 * 256) entry) × (r < 65536) ⌝ }
 {
     (c % 256 * 256) ^ (entry as usize)
 }
 
-// The CRC of s, begun at 0.
-pub fn crc(s: &[u8]) -> u16
-    ensures { λ r. ⌜ r ≡ crcFrom 0 (now (s .entry)) ⌝ }
+// What a table makes of s, begun at 0. By `entries` it is the CRC.
+pub fn crc_by(table: &[u16; 256], s: &[u8]) -> u16
+    ensures { λ r. ⌜ r ≡ crcBy (now (table .entry)) 0 (now (s .entry)) ⌝ }
 {
-    // a local copy: indexed in place, the constant would be built anew for every byte
-    let table = entries();
     // the register, 16 bits: in a usize it takes fewer moves a byte than in a u16
     let mut c: usize = 0;
     let mut i = 0;
@@ -301,4 +300,12 @@ pub fn crc(s: &[u8]) -> u16
         i += 1;
     }
     c as u16
+}
+
+// The CRC of s, begun at 0.
+pub fn crc(s: &[u8]) -> u16
+    ensures { λ r. ⌜ r ≡ crcFrom 0 (now (s .entry)) ⌝ }
+{
+    let table = entries();
+    crc_by(&table, s)
 }

@@ -3,6 +3,7 @@ pub mod Frames
 pub mod Readings
 pub mod Tiling
 pub mod Cursors
+pub mod Runs
 pub mod Answers
 pub mod Walks
 pub mod WrittenPlan

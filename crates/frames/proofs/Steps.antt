@@ -6,13 +6,15 @@ use mathlib.Core.List.{List}
 use Prim.Native.Nat.{ℕ, _+_, _-_, _≤_, _<_}
 use native.Mathlib.Nat.{add-zero, add-assoc}
 use native.Mathlib.Omega.{arith}
-use lib.Dec.{eqb, leb, ltb}
+use lib.Dec.{eqb, leb, ltb, lit<}
 use lib.ListN.{length, getD, take, drop, length-drop, List·getD-eq-default}
 use lib.Seq.{drop-drop, getD-drop}
 use borrow.Author.Tests.{eq-eqb, ne-eqb, lt-ltb, le-ltb, eqb-true, eqb-false, leb-true, leb-false, ltb-true, ltb-false}
-use Rattle.wire.specs.Number.{numberAt}
-use Rattle.wire.proofs.Numbers.{number-byte, number-past}
+use Rattle.wire.specs.Number.{Bytes, numberAt}
+use Rattle.wire.proofs.Numbers.{bytes-take, bytes-drop, number-byte, number-past}
 use Rattle.crc.specs.Crc.{crcFrom}
+use Rattle.crc.specs.Table.{Rule, crcBy}
+use Rattle.crc.proofs.Table.{crc-by-table}
 use Rattle.frames.specs.Step.{stepOf, stepAt, passed}
 use Rattle.frames.specs.Reading.{stops}
 use Rattle.frames.specs.declared.step.Frame.{Frame}
@@ -74,8 +76,15 @@ module _ (s : List ℕ) (p : ℕ) where
   in-place = simp (length-drop, number-from, number-one, getD-drop, drop-drop, add-zero, ← add-assoc)
 
   -- the bytes that the CRC covers, as the part from first to last
-  pub summed : {a : ℕ} → a ≡ crcFrom 0 (take (p + size + 6 - (p + 1)) (drop (p + 1) s)) → a ≡ sum
-  summed e = let n : p + size + 6 - (p + 1) ≡ size + 5 = omega arith in rw n at e
+  abbrev part : List ℕ
+  part = take (p + size + 6 - (p + 1)) (drop (p + 1) s)
+
+  pub summed : {a : ℕ} (t : List ℕ) → Rule t → Bytes s → a ≡ crcBy t 0 part → a ≡ sum
+  summed t rule bytes e =
+      let n : p + size + 6 - (p + 1) ≡ size + 5 = omega arith in
+      e
+      ∙ crc-by-table t rule 0 part (lit< tt) (bytes-take (p + size + 6 - (p + 1)) (drop (p + 1) s) (bytes-drop (p + 1) s bytes))
+      ∙ ap (λ (n : ℕ). crcFrom 0 (take n (drop (p + 1) s))) n
 
   left-over : p < length s → stepAt s p ≡ marked
   left-over h = in-place ∙ rw (ne-eqb left 0 (omega arith))

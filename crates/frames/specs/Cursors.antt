@@ -23,11 +23,14 @@ countsIn c = record { framed = c .framed; junk = c .junk; bad = c .bad; short = 
 abbrev pub plus : ℕ → ℕ → ℕ
 plus a b = (a + b) % 2 ^ 64
 
--- past a step: further by the bytes that it passes, and with what it counts
+-- further by n bytes, and with what they count
+abbrev pub past : Cursor → ℕ → Counts → Cursor
+past c n k =
+    record { at = plus (c .at) n; growing = c .growing; framed = plus (c .framed) (k .framed); junk = plus (c .junk) (k .junk); bad = plus (c .bad) (k .bad); short = plus (c .short) (k .short) }
+
+-- past a step
 abbrev pub over : Cursor → Step → Cursor
-over c x =
-    let k = counted x in
-    record { at = plus (c .at) (passed x); growing = c .growing; framed = plus (c .framed) (k .framed); junk = plus (c .junk) (k .junk); bad = plus (c .bad) (k .bad); short = plus (c .short) (k .short) }
+over c x = past c (passed x) (counted x)
 
 -- what a cursor passes over on its way to the next frame
 abbrev pub passes : Bool → Step → Bool

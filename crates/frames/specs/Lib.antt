@@ -2,5 +2,6 @@ pub mod Frame
 pub mod Step
 pub mod Reading
 pub mod Cursors
+pub mod Junk
 pub mod Writer
 pub mod Message

@@ -3,10 +3,12 @@ ghost use mathlib.Core.Path.{_≡_};
 ghost use mathlib.Core.Bool.{true, false};
 ghost use Rattle.frames.specs.Step.{passed};
 ghost use Rattle.frames.specs.Reading.{stops, counted, countsOf, closedSteps};
-ghost use Rattle.frames.specs.Cursors.{passes, over, ended, begun, countsIn, nextOf};
+ghost use Rattle.frames.specs.Junk.{pastJunk};
+ghost use Rattle.frames.specs.Cursors.{passes, past, over, ended, begun, countsIn, nextOf};
+use crate::junk::junk_run;
 use crate::step::Frame;
 use crate::step::Step;
-use crate::step::step_at;
+use crate::step::step_by;
 
 // The bytes in frames, and those passed over as junk, bad or short.
 pub struct Counts {
@@ -112,12 +114,10 @@ impl Cursor {
         Cursor::begun(true)
     }
 
-    // Past a step, which is counted. The sums wrap, so that no value of a cursor traps.
-    fn over(self, step: Step) -> Self
-        ensures { λ r. ⌜ r ≡ over self step ⌝ }
+    // Further by n bytes, and with what they count. The sums wrap, so that no value of a cursor traps.
+    fn past(self, n: usize, k: Counts) -> Self
+        ensures { λ r. ⌜ r ≡ past self n k ⌝ }
     {
-        let n = passed(step);
-        let k = counted(step);
         Cursor {
             at: std::num::wrapping_add_usize(self.at, n),
             growing: self.growing,
@@ -126,6 +126,28 @@ impl Cursor {
             bad: std::num::wrapping_add_usize(self.bad, k.bad),
             short: std::num::wrapping_add_usize(self.short, k.short),
         }
+    }
+
+    fn over(self, step: Step) -> Self
+        ensures { λ r. ⌜ r ≡ over self step ⌝ }
+    {
+        let n = passed(step);
+        self.past(n, counted(step))
+    }
+
+    // Past the junk where it stands, all of it at once.
+    fn past_junk(self, s: &[u8]) -> Self
+        ensures { λ r. ⌜ r ≡ pastJunk (now (s .entry)) self ⌝ }
+    {
+        let at = self.at;
+        if s.len() <= at {
+            return self;
+        }
+        if s[at] == 0x55 {
+            return self;
+        }
+        let n = junk_run(s, at);
+        self.past(n, tally(0, n, 0, 0))
     }
 
     // The answer at a step that is not passed over.
@@ -145,13 +167,15 @@ impl Cursor {
     pub fn next(self, s: &[u8]) -> Next
         ensures { λ r. ⌜ r ≡ nextOf (now (s .entry)) self ⌝ }
     {
+        let table = crc::entries();
         let mut c = self;
         loop {
-            let step = step_at(s, c.at);
-            if passes(c.growing, step) {
-                c = c.over(step);
+            let here = c.past_junk(s);
+            let step = step_by(&table, s, here.at);
+            if passes(here.growing, step) {
+                c = here.over(step);
             } else {
-                return c.ended(step);
+                return here.ended(step);
             }
         }
     }
@@ -180,12 +204,14 @@ fn finished(step: Step) -> bool
 pub fn totals(s: &[u8]) -> Counts
     ensures { λ r. ⌜ r ≡ countsOf (closedSteps (now (s .entry))) ⌝ }
 {
+    let table = crc::entries();
     let mut c = Cursor::closed();
     loop {
-        let step = step_at(s, c.at);
+        let here = c.past_junk(s);
+        let step = step_by(&table, s, here.at);
         if finished(step) {
-            return c.counts();
+            return here.counts();
         }
-        c = c.over(step);
+        c = here.over(step);
     }
 }

@@ -2,6 +2,7 @@
 // Read specs/Frame.antt (a frame's bytes), specs/Step.antt (the five lines), specs/Reading.antt (whole readings and their
 // counts), specs/Cursors.antt, then specs/Writer.antt and specs/Message.antt.
 mod cursor;
+mod junk;
 mod step;
 mod write;
 

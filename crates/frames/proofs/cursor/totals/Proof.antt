@@ -8,23 +8,32 @@ use borrow.Author.Needs.{needs}
 use lib.ListN.{length}
 use Rattle.frames.specs.Cursors.{Honest}
 use Rattle.frames.proofs.Cursors.{comes-further, honest-begun, honest-past, honest-given}
+use Rattle.frames.proofs.Runs.{past-junk-honest, past-junk-further}
 use Rattle.frames.proofs.cursor.totals.Statement.{statement}
 use Rattle.frames.proofs.cursor.totals.Tie as tie
 
 abbrev Inv-loop : tie.InvT-loop
-Inv-loop s c₀ c = Honest false s c
+Inv-loop s table c₀ c = Honest false s c
 
 abbrev μ-loop : tie.MeasureT-loop
-μ-loop s c₀ c = length s - c .at
+μ-loop s table c₀ c = length s - c .at
+
+entries-requires : tie.Need-entries-requires Inv-loop μ-loop
+entries-requires c κs = search needs
 
 closed-requires : tie.Need-closed-requires Inv-loop μ-loop
 closed-requires c κs = search needs
 
 loop-holds : tie.Need-loop-holds Inv-loop μ-loop
-loop-holds c = subst⁻¹ (Honest false (c .before .before .args .s .now)) (c .closed .ensures) (honest-begun (c .before .before .args .s .now) (c .before .before .good .0 .0) false)
+loop-holds c =
+    let start = c .before .before .before in
+    subst⁻¹ (Honest false (start .args .s .now)) (c .closed .ensures) (honest-begun (start .args .s .now) (start .good .0 .0) false)
 
-step-at-requires : tie.Need-step-at-requires Inv-loop μ-loop
-step-at-requires c κs = search needs
+past-junk-requires : tie.Need-past-junk-requires Inv-loop μ-loop
+past-junk-requires c κs = search needs
+
+step-by-requires : tie.Need-step-by-requires Inv-loop μ-loop
+step-by-requires c κs = c .before .before .before .before .entries .ensures
 
 finished-requires : tie.Need-finished-requires Inv-loop μ-loop
 finished-requires c κs = search needs
@@ -34,21 +43,30 @@ counts-requires c κs = search needs
 
 returns : tie.Need-returns Inv-loop μ-loop
 returns c =
-    let k = c .before .before .before .before .loop in
-    honest-given (c .before .before .before .before .before .before .before .args .s .now) (c .before .before .before .before .before .before .before .good .0 .0) false (k .c) (k .inv) (c .before .before .before .step-at .ensures) (c .counts .ensures) (sym (c .before .before .finished .ensures) ∙ c .before .if1 .taken)
+    let start = c .before .before .before .before .before .before .before .before .before .before in
+    let k = c .before .before .before .before .before in
+    let honest = past-junk-honest (start .args .s .now) (start .good .0 .0) (k .before .loop .c) (k .past-junk .ensures) false (k .before .loop .inv) in
+    honest-given (start .args .s .now) (start .good .0 .0) false (k .past-junk .result) honest (c .before .before .before .step-by .ensures) (c .counts .ensures) (sym (c .before .before .finished .ensures) ∙ c .before .if1 .taken)
 
 over-requires : tie.Need-over-requires Inv-loop μ-loop
 over-requires c κs = search needs
 
 loop-less : tie.Need-loop-less Inv-loop μ-loop
 loop-less c =
-    omega
-    (arith, comes-further (c .before .before .before .before .before .before .before .args .s .now) (c .before .before .before .before .before .before .before .good .0 .0) (c .before .before .before .before .loop .c) (c .before .before .before .step-at .ensures) (c .over .ensures) false (sym (c .before .before .finished .ensures) ∙ c .before .if1 .left))
+    let start = c .before .before .before .before .before .before .before .before .before .before in
+    let k = c .before .before .before .before .before in
+    omega (
+      arith,
+      past-junk-further (start .args .s .now) (start .good .0 .0) (k .before .loop .c) (k .past-junk .ensures),
+      comes-further (start .args .s .now) (start .good .0 .0) (k .past-junk .result) (c .before .before .before .step-by .ensures) (c .over .ensures) false (sym (c .before .before .finished .ensures) ∙ c .before .if1 .left),
+    )
 
 loop-again : tie.Need-loop-again Inv-loop μ-loop
 loop-again c =
-    let k = c .before .before .before .before .loop in
-    honest-past (c .before .before .before .before .before .before .before .args .s .now) (c .before .before .before .before .before .before .before .good .0 .0) false (k .c) (k .inv) (c .before .before .before .step-at .ensures) (c .over .ensures) (sym (c .before .before .finished .ensures) ∙ c .before .if1 .left)
+    let start = c .before .before .before .before .before .before .before .before .before .before in
+    let k = c .before .before .before .before .before in
+    let honest = past-junk-honest (start .args .s .now) (start .good .0 .0) (k .before .loop .c) (k .past-junk .ensures) false (k .before .loop .inv) in
+    honest-past (start .args .s .now) (start .good .0 .0) false (k .past-junk .result) honest (c .before .before .before .step-by .ensures) (c .over .ensures) (sym (c .before .before .finished .ensures) ∙ c .before .if1 .left)
 
 pub totals-spec : {M : Type 1} → statement M
 totals-spec =
@@ -56,9 +74,11 @@ totals-spec =
     (tie.spec
     Inv-loop
     μ-loop
+    entries-requires
     closed-requires
     loop-holds
-    step-at-requires
+    past-junk-requires
+    step-by-requires
     finished-requires
     counts-requires
     returns

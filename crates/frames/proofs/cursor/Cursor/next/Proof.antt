@@ -7,20 +7,27 @@ use borrow.Author.Needs.{needs}
 use lib.ListN.{length}
 use Rattle.frames.specs.Cursors.{nextOf}
 use Rattle.frames.proofs.Cursors.{passed-on, comes-further, next-kept, next-given}
+use Rattle.frames.proofs.Runs.{past-junk-next, past-junk-further}
 use Rattle.frames.proofs.cursor.Cursor.next.Statement.{statement}
 use Rattle.frames.proofs.cursor.Cursor.next.Tie as tie
 
 abbrev Inv-loop : tie.InvT-loop
-Inv-loop s c₀ c = nextOf s c ≡ nextOf s c₀
+Inv-loop s table c₀ c = nextOf s c ≡ nextOf s c₀
 
 abbrev μ-loop : tie.MeasureT-loop
-μ-loop s c₀ c = length s - c .at
+μ-loop s table c₀ c = length s - c .at
+
+entries-requires : tie.Need-entries-requires Inv-loop μ-loop
+entries-requires c κs = search needs
 
 loop-holds : tie.Need-loop-holds Inv-loop μ-loop
 loop-holds c = refl
 
-step-at-requires : tie.Need-step-at-requires Inv-loop μ-loop
-step-at-requires c κs = search needs
+past-junk-requires : tie.Need-past-junk-requires Inv-loop μ-loop
+past-junk-requires c κs = search needs
+
+step-by-requires : tie.Need-step-by-requires Inv-loop μ-loop
+step-by-requires c κs = c .before .before .before .entries .ensures
 
 passes-requires : tie.Need-passes-requires Inv-loop μ-loop
 passes-requires c κs = search needs
@@ -30,23 +37,34 @@ over-requires c κs = search needs
 
 loop-less : tie.Need-loop-less Inv-loop μ-loop
 loop-less c =
-    let k = c .before .before .before .before .loop .c in
-    let x = c .before .before .before .step-at in
-    let on = passed-on (k .growing) (x .result) (sym (c .before .before .passes .ensures) ∙ c .before .if1 .taken) in
-    omega (arith, comes-further (c .before .before .before .before .before .before .args .s .now) (c .before .before .before .before .before .before .good .1 .0 .0) k (x .ensures) (c .over .ensures) (k .growing) on)
+    let start = c .before .before .before .before .before .before .before .before .before in
+    let k = c .before .before .before .before .before in
+    let x = c .before .before .before .step-by in
+    let on = passed-on (k .past-junk .result .growing) (x .result) (sym (c .before .before .passes .ensures) ∙ c .before .if1 .taken) in
+    omega (
+      arith,
+      past-junk-further (start .args .s .now) (start .good .1 .0 .0) (k .before .loop .c) (k .past-junk .ensures),
+      comes-further (start .args .s .now) (start .good .1 .0 .0) (k .past-junk .result) (x .ensures) (c .over .ensures) (k .past-junk .result .growing) on,
+    )
 
 loop-again : tie.Need-loop-again Inv-loop μ-loop
 loop-again c =
-    let k = c .before .before .before .before .loop in
-    next-kept (c .before .before .before .before .before .before .args .s .now) (c .before .before .before .before .before .before .good .1 .0 .0) (k .c) (c .before .before .before .step-at .ensures) (c .over .ensures) (sym (c .before .before .passes .ensures) ∙ c .before .if1 .taken) ∙ k .inv
+    let start = c .before .before .before .before .before .before .before .before .before in
+    let k = c .before .before .before .before .before in
+    next-kept (start .args .s .now) (start .good .1 .0 .0) (k .past-junk .result) (c .before .before .before .step-by .ensures) (c .over .ensures) (sym (c .before .before .passes .ensures) ∙ c .before .if1 .taken)
+    ∙ past-junk-next (start .args .s .now) (start .good .1 .0 .0) (k .before .loop .c) (k .past-junk .ensures)
+    ∙ k .before .loop .inv
 
 ended-requires : tie.Need-ended-requires Inv-loop μ-loop
 ended-requires c κs = search needs
 
 returns : tie.Need-returns Inv-loop μ-loop
 returns c =
-    let k = c .before .before .before .before .loop in
-    next-given (c .before .before .before .before .before .before .args .s .now) (c .before .before .before .before .before .before .good .1 .0 .0) (k .c) (c .before .before .before .step-at .ensures) (sym (c .before .before .passes .ensures) ∙ c .before .if1 .left) (c .ended .ensures) ∙ k .inv
+    let start = c .before .before .before .before .before .before .before .before .before in
+    let k = c .before .before .before .before .before in
+    next-given (start .args .s .now) (start .good .1 .0 .0) (k .past-junk .result) (c .before .before .before .step-by .ensures) (sym (c .before .before .passes .ensures) ∙ c .before .if1 .left) (c .ended .ensures)
+    ∙ past-junk-next (start .args .s .now) (start .good .1 .0 .0) (k .before .loop .c) (k .past-junk .ensures)
+    ∙ k .before .loop .inv
 
 pub next-spec : {M : Type 1} → statement M
 next-spec =
@@ -54,8 +72,10 @@ next-spec =
     (tie.spec
     Inv-loop
     μ-loop
+    entries-requires
     loop-holds
-    step-at-requires
+    past-junk-requires
+    step-by-requires
     passes-requires
     over-requires
     loop-less

@@ -1,13 +1,14 @@
--- `frames::step::step_at` meets its contract: each return is one of the five lines.
+-- `frames::step::step_by` meets its contract: each return is one of the five lines.
 -- Assumes nothing.
 use mathlib.Core.Path.{sym, ap₂, _∙_}
 use Prim.Native.Nat.{ℕ, _+_}
 use native.Mathlib.Omega.{arith}
 use borrow.Author.Needs.{needs}
+use Rattle.wire.specs.Number.{Bytes}
 use Rattle.frames.specs.declared.step.Step.the-variants.{Found}
 use Rattle.frames.proofs.Steps.{size, finished, junk, headless, cut, bad, found, decides, summed}
-use Rattle.frames.proofs.step.step_at.Statement.{statement}
-use Rattle.frames.proofs.step.step_at.Tie as tie
+use Rattle.frames.proofs.step.step_by.Statement.{statement}
+use Rattle.frames.proofs.step.step_by.Tie as tie
 
 returns : tie.Need-returns
 returns c =
@@ -42,8 +43,8 @@ cast-n c = omega (arith, c .shared-slice-known3 .given (c .before .before .befor
 add-if4 : tie.Need-add-if4
 add-if4 c = omega (arith, c .shared-slice-known3 .given (c .before .before .before .before .before .before .args .at + 5))
 
-add-t13 : tie.Need-add-t13
-add-t13 c = omega (arith, c .before .shared-slice-known3 .given (c .before .before .before .before .before .before .before .args .at + 5))
+add-t14 : tie.Need-add-t14
+add-t14 c = omega (arith, c .before .shared-slice-known3 .given (c .before .before .before .before .before .before .before .args .at + 5))
 
 returns-4 : tie.Need-returns-4
 returns-4 c =
@@ -59,17 +60,17 @@ add-end c = search needs
 add-end-2 : tie.Need-add-end-2
 add-end-2 c = search needs
 
-sub-crc : tie.Need-sub-crc
-sub-crc c = search needs
+sub-crc-by : tie.Need-sub-crc-by
+sub-crc-by c = search needs
 
-part-crc-start : tie.Need-part-crc-start
-part-crc-start c = search needs
+part-crc-by-start : tie.Need-part-crc-by-start
+part-crc-by-start c = search needs
 
-part-crc-end : tie.Need-part-crc-end
-part-crc-end c = search needs
+part-crc-by-end : tie.Need-part-crc-by-end
+part-crc-by-end c = search needs
 
-crc-requires : tie.Need-crc-requires
-crc-requires c κs = search needs
+crc-by-requires : tie.Need-crc-by-requires
+crc-by-requires c κs = search needs
 
 read-u16-requires : tie.Need-read-u16-requires
 read-u16-requires c κs = search needs
@@ -77,7 +78,9 @@ read-u16-requires c κs = search needs
 returns-5 : tie.Need-returns-5
 returns-5 c =
     let a = c .before .before .before .before .before .before .before .before .before .before .before .args in
-    let same = summed (a .s .now) (a .at) (c .before .before .crc .ensures) in
+    let start = c .before .before .before .before .before .before .before .before .before .before .before in
+    let bytes : Bytes (a .s .now) = λ i. c .before .before .before .before .before .before .before .before .before .before .shared-slice-known .given i .fits in
+    let same = summed (a .s .now) (a .at) (a .table .now) (start .pre) bytes (c .before .before .crc-by .ensures) in
     decides (a .s .now) (a .at) (bad (c .before .before .before .before .before .before .before .if2 .left) (omega (arith, c .before .before .before .before .if4 .left)) (λ e. c .if5 .taken (same ∙ e ∙ sym (c .before .read-u16 .ensures))))
 
 read-u16-requires-2 : tie.Need-read-u16-requires-2
@@ -92,12 +95,14 @@ read-u16-requires-3 c κs = search needs
 returns-6 : tie.Need-returns-6
 returns-6 c =
     let a = c .before .before .before .before .before .before .before .before .before .before .before .before .before .args in
-    let same = summed (a .s .now) (a .at) (c .before .before .before .before .crc .ensures) in
+    let start = c .before .before .before .before .before .before .before .before .before .before .before .before .before in
+    let bytes : Bytes (a .s .now) = λ i. c .before .before .before .before .before .before .before .before .before .before .before .before .shared-slice-known .given i .fits in
+    let same = summed (a .s .now) (a .at) (a .table .now) (start .pre) bytes (c .before .before .before .before .crc-by .ensures) in
     ap₂ (λ (k n : ℕ). Found (record { at = a .at; kind = k; sender = n; length = size (a .s .now) (a .at) })) (c .before .read-u162 .ensures) (c .read-u163 .ensures)
     ∙ decides (a .s .now) (a .at) (found (c .before .before .before .before .before .before .before .before .before .if2 .left) (c .before .before .before .before .before .before .if4 .left) (sym same ∙ c .before .before .if5 .left ∙ c .before .before .before .read-u16 .ensures))
 
-pub step-at-spec : {M : Type 1} → statement M
-step-at-spec =
+pub step-by-spec : {M : Type 1} → statement M
+step-by-spec =
     tie.close
     (tie.spec
     returns
@@ -109,15 +114,15 @@ step-at-spec =
     shared-slice-read-length
     cast-n
     add-if4
-    add-t13
+    add-t14
     returns-4
     add-first
     add-end
     add-end-2
-    sub-crc
-    part-crc-start
-    part-crc-end
-    crc-requires
+    sub-crc-by
+    part-crc-by-start
+    part-crc-by-end
+    crc-by-requires
     read-u16-requires
     returns-5
     read-u16-requires-2
