@@ -1,15 +1,16 @@
--- The CRC stays within 16 bits, whatever the bytes; and what a loop over the bytes keeps.
+-- The CRC stays within 16 bits, whatever the bytes; and what the loop over the bytes keeps.
 -- Assumes nothing.
 use mathlib.Core.Path.{_≡_, refl, sym, ap, _∙_}
 use mathlib.Core.List.{List, [], _∷_}
-use Prim.Native.Nat.{ℕ, zero, suc, _+_, _*_, _%_, _≤_, _<_, zero-le}
+use Prim.Native.Nat.{ℕ, zero, suc, _+_, _*_, _/_, _%_, _≤_, _<_, zero-le}
 use native.Mathlib.Numerals.{add-one}
 use native.Mathlib.Omega.{arith}
-use lib.Bits.{xor-lt}
-use lib.ListN.{length, getD, drop, drop-of-length-le}
+use lib.Bits.{bitXor, xor-lt, xor-shr, xor-mod, xor-zero-r}
+use lib.ListN.{length, getD, drop, drop-of-length-le, List·getD-eq-default}
 use lib.Seq.{drop-cons}
 use Rattle.crc.specs.Crc.{bitStep, bitSteps, byteStep, crcFrom}
-use Rattle.crc.specs.Table.{byteBy, crcBy}
+use Rattle.crc.specs.Table.{crcBy}
+use Rattle.crc.proofs.Xor.{xor-turn}
 
 step-fits : (c : ℕ) → bitStep c < 65536
 unfolding bitStep
@@ -29,18 +30,48 @@ unfolding crcFrom
 crcFrom-fits c [] h = h
 crcFrom-fits c (b ∷ s) h = crcFrom-fits (byteStep c b) s (byteStep-fits c b)
 
--- a loop over s by a table, begun at a start value: c is the register once i bytes are taken
-module _ (t : List ℕ) (start : ℕ) (s : List ℕ) where
-  abbrev pub Taken : ℕ → ℕ → Type 0
-  Taken c i = (i ≤ length s) × (c < 65536) × (crcBy t c (drop i s) ≡ crcBy t start s)
+-- ---- the loop by a table: the register's halves are carried with the next two bytes added, which past the end are 0
 
-  pub taken-none : start < 65536 → Taken start 0
-  taken-none h = (zero-le, h, refl)
+-- c is the register once i bytes are taken
+pub record Carried (t s : List ℕ) (upper lower i : ℕ) : Type 0 where
+  pub c : ℕ
+  pub inside : i ≤ length s
+  pub rest : crcBy t c (drop i s) ≡ crcBy t 0 s
+  pub uppers : upper ≡ bitXor (c / 256) (getD s i 0)
+  pub lowers : lower ≡ bitXor (c % 256) (getD s (i + 1) 0)
 
-  pub taken-more : {c i r : ℕ} → Taken c i → i < length s → r < 65536 → r ≡ byteBy t c (getD s i 0) → Taken r (i + 1)
+-- the halves of the register after a byte, given its entry
+half-up : (c e : ℕ) → bitXor (c % 256 * 256) e / 256 ≡ bitXor (c % 256) (e / 256)
+half-up c e = let up : c % 256 * 256 / 256 ≡ c % 256 = omega arith in xor-shr (c % 256 * 256) e 8 ∙ ap (λ (x : ℕ). bitXor x (e / 256)) up
+
+half-low : (c e : ℕ) → bitXor (c % 256 * 256) e % 256 ≡ e % 256
+half-low c e = let none : c % 256 * 256 % 256 ≡ 0 = omega arith in xor-mod (c % 256 * 256) e 8 ∙ ap (λ (x : ℕ). bitXor x (e % 256)) none
+
+module _ (t s : List ℕ) where
+  pub carried-none : {u l : ℕ} → u ≡ getD s 0 0 → l ≡ getD s 1 0 → Carried t s u l 0
+  carried-none hu hl = record { c = 0; inside = zero-le; rest = refl; uppers = hu; lowers = hl }
+
+  pub carried-more : {u l i v m : ℕ} → Carried t s u l i → i < length s → v ≡ bitXor l (getD t u 0 / 256) → m ≡ bitXor (getD t u 0 % 256) (getD s (i + 1 + 1) 0)
+      → Carried t s v m (i + 1)
   unfolding crcBy
-  taken-more {c} {i} inv h fits e = (omega arith, fits, rw e (rw add-one (rw (drop-cons s i 0) at (inv .2))))
+  carried-more {u} {l} {i} h more hv hm =
+      let e = getD t u 0 in
+      let b = getD s (i + 1) 0 in
+      let next = bitXor (h .c % 256 * 256) e in
+      record {
+        c = next;
+        inside = omega (arith, more);
+        rest =
+            ap (λ (x : ℕ). crcBy t (bitXor (h .c % 256 * 256) (getD t x 0)) (drop (i + 1) s)) (h .uppers)
+            ∙ rw add-one (rw (drop-cons s i 0 more) at (h .rest));
+        uppers = hv ∙ ap (λ (x : ℕ). bitXor x (e / 256)) (h .lowers) ∙ xor-turn (h .c % 256) b (e / 256) ∙ ap (λ (x : ℕ). bitXor x b) (sym (half-up (h .c) e));
+        lowers = hm ∙ ap (λ (x : ℕ). bitXor x (getD s (i + 1 + 1) 0)) (sym (half-low (h .c) e));
+      }
 
-  pub taken-all : {c i : ℕ} → Taken c i → length s ≤ i → c ≡ crcBy t start s
+  -- past the last byte the halves are the register's own
+  pub carried-all : {u l i : ℕ} → Carried t s u l i → length s ≤ i → u * 256 + l ≡ crcBy t 0 s
   unfolding crcBy
-  taken-all {c} inv h = sym (ap (crcBy t c) (drop-of-length-le s h)) ∙ inv .2
+  carried-all {u} {l} {i} h all =
+      let up : u ≡ h .c / 256 = h .uppers ∙ ap (bitXor (h .c / 256)) (List·getD-eq-default s 0 all) ∙ xor-zero-r (h .c / 256) in
+      let low : l ≡ h .c % 256 = h .lowers ∙ ap (bitXor (h .c % 256)) (List·getD-eq-default s 0 (omega (arith, all))) ∙ xor-zero-r (h .c % 256) in
+      omega (arith, up, low) ∙ sym (ap (crcBy t (h .c)) (drop-of-length-le s all)) ∙ h .rest

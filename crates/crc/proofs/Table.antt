@@ -40,10 +40,6 @@ added c b =
     ∙ xor-block 8 (c / 256) b (c % 256) 0 (omega arith) (lit≤ tt)
     ∙ ap (λ (x : ℕ). bitXor (c / 256) b * 256 + x) (xor-zero-r (c % 256))
 
--- the register after a byte has 16 bits again
-pub moved-fits : (c : ℕ) {e r : ℕ} → e < 65536 → r ≡ bitXor (c % 256 * 256) e → r < 65536
-moved-fits c {e} he hr = rw hr (xor-lt 16 (c % 256 * 256) e (omega arith) he)
-
 module _ (t : List ℕ) (rule : Rule t) where
   -- a byte by the table is eight single-bit steps
   byte-by-table : (c b : ℕ) → c < 65536 → b < 256 → byteBy t c b ≡ byteStep c b

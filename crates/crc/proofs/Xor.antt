@@ -41,6 +41,10 @@ xor-assoc =
     bin-ind (λ (a : ℕ). (b c : ℕ) → bitXor (bitXor a b) c ≡ bitXor a (bitXor b c)) (λ b c. refl)
     (λ a ih b c. by-halves (simp half (ih (b / 2) (c / 2))) (simp lowest (bits-assoc (bit a) (bit b) (bit c))))
 
+-- three: the last two change places
+pub xor-turn : (a b c : ℕ) → bitXor (bitXor a b) c ≡ bitXor (bitXor a c) b
+xor-turn a b c = xor-assoc a b c ∙ ap (bitXor a) (xor-comm b c) ∙ sym (xor-assoc a c b)
+
 -- four regrouped: (a b) (c d) is (a c) (b d)
 pub xor-swap : (a b c d : ℕ) → bitXor (bitXor a b) (bitXor c d) ≡ bitXor (bitXor a c) (bitXor b d)
 xor-swap a b c d =

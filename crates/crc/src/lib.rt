@@ -2,8 +2,9 @@
 // The code takes a byte at a time from a constant table, specs/Table.antt; `entries` states the table's rule, proved over all of it.
 // A constant is built anew wherever it is named: who sums many frames makes the table once and lends it to `crc_by`.
 ghost use mathlib.Core.Path.{_≡_};
-ghost use Prim.Native.Nat.{_*_, _/_, _%_, _<_};
+ghost use Prim.Native.Nat.{_/_, _%_, _<_};
 ghost use lib.Bits.{bitXor};
+ghost use lib.ListN.{getD};
 ghost use Rattle.crc.specs.Crc.{crcFrom};
 ghost use Rattle.crc.specs.Table.{Rule, crcBy};
 
@@ -274,32 +275,49 @@ pub fn entries() -> [u16; 256]
     TABLE
 }
 
-// Which entry the next byte picks: the register's upper half with the byte added.
-fn place(c: usize, b: u8) -> usize
-    ensures { λ r. ⌜ r ≡ bitXor (c / 256) b ⌝ }
+// A byte of s; past the end 0.
+fn byte(s: &[u8], i: usize) -> usize
+    ensures { λ r. ⌜ (r ≡ getD (now (s .entry)) i 0) × (r < 256) ⌝ }
 {
-    (c / 256) ^ (b as usize)
+    if i < s.len() {
+        return s[i] as usize;
+    }
+    0
 }
 
-// The register after a byte, given its entry: the lower half moves up, and 16 bits are left.
-fn moved(c: usize, entry: u16) -> usize
-    ensures { λ r. ⌜ (r ≡ bitXor (c % 256 * 256) entry) × (r < 65536) ⌝ }
+// The register after a byte is the entry that the byte picked with the old lower half added to its upper one. So the place in the table that
+// the next byte picks is the entry's upper half, added to what waited: the old lower half and that byte.
+fn place(waiting: usize, entry: u16) -> usize
+    requires { ⌜ waiting < 256 ⌝ }
+    ensures { λ r. ⌜ (r ≡ bitXor waiting (entry / 256)) × (r < 256) ⌝ }
 {
-    (c % 256 * 256) ^ (entry as usize)
+    waiting ^ (entry as usize / 256)
+}
+
+// And the lower half waits for the byte after that.
+fn waits(entry: u16, b: usize) -> usize
+    requires { ⌜ b < 256 ⌝ }
+    ensures { λ r. ⌜ (r ≡ bitXor (entry % 256) b) × (r < 256) ⌝ }
+{
+    (entry as usize % 256) ^ b
 }
 
 // What a table makes of s, begun at 0. By `entries` it is the CRC.
 pub fn crc_by(table: &[u16; 256], s: &[u8]) -> u16
     ensures { λ r. ⌜ r ≡ crcBy (now (table .entry)) 0 (now (s .entry)) ⌝ }
 {
-    // the register, 16 bits: in a usize it takes fewer moves a byte than in a u16
-    let mut c: usize = 0;
+    // the register's halves with the next two bytes added, so that from one look-up to the next there is one addition; in a usize they take
+    // fewer moves than in a u8
+    let mut upper = byte(s, 0);
+    let mut lower = byte(s, 1);
     let mut i = 0;
     while i < s.len() {
-        c = moved(c, table[place(c, s[i])]);
+        let entry = table[upper];
+        upper = place(lower, entry);
         i += 1;
+        lower = waits(entry, byte(s, i + 1));
     }
-    c as u16
+    (upper * 256 + lower) as u16
 }
 
 // The CRC of s, begun at 0.
