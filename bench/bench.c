@@ -8,11 +8,13 @@
 #include <time.h>
 
 /* The twin has our names: it gets its own here. Being of this file, it may be compiled into the loops that call it. */
+#define sbp_counts twin_counts
 #define sbp_crc twin_crc
 #define sbp_answer twin_answer
 #define sbp_feed twin_feed
 #define sbp_list twin_list
 #include "../ctwin/fast.c"
+#undef sbp_counts
 #undef sbp_crc
 #undef sbp_answer
 #undef sbp_feed
@@ -92,7 +94,7 @@ static void our_totals(void) {
 #endif
 
 static void twins_reading(void) {
-    struct sbp_counts counts;
+    struct twin_counts counts;
     sbp_read_closed(capture, length, &counts);
     told[0] = counts.frame_bytes, told[1] = counts.junk, told[2] = counts.bad, told[3] = counts.short_;
 }

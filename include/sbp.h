@@ -27,6 +27,10 @@ uint8_t sbp_answer(uint16_t kind, const uint8_t *payload, size_t n);
 #define SBP_FOUND 53
 uint8_t sbp_next(const uint8_t *capture, size_t n, size_t at, bool growing, uint8_t *found, size_t room);
 
+/* The counts of a whole complete capture: 0, and counts[0 .. SBP_TOTALS] has the row of sbp_counts; 32: room is below SBP_TOTALS. */
+#define SBP_TOTALS 32
+uint8_t sbp_totals(const uint8_t *capture, size_t n, uint8_t *counts, size_t room);
+
 /* The listing of a capture of up to 65536 bytes, as sbplist prints it. 0, and its length in *size; or 11 (capture too long), 32 (no room).
  * 8 * n + 32 bytes have room for every listing. */
 uint8_t sbp_list(const uint8_t *capture, size_t n, uint8_t *text, size_t room, uint64_t *size);
@@ -50,6 +54,11 @@ struct sbp_found {
     uint8_t length;
 };
 
+/* The bytes in frames and those passed over, for each reason: together they are the capture's length. */
+struct sbp_counts {
+    uint64_t framed, junk, bad, short_;
+};
+
 struct sbp_report {
     uint16_t sender, wn;
     uint32_t tow;
@@ -71,6 +80,11 @@ static inline struct sbp_found sbp_found_of(const uint8_t row[SBP_FOUND]) {
         (uint16_t)sbp_number(row + 48, 2), (uint16_t)sbp_number(row + 50, 2), row[52],
     };
     return f;
+}
+
+static inline struct sbp_counts sbp_counts_of(const uint8_t row[SBP_TOTALS]) {
+    struct sbp_counts c = {sbp_number(row, 8), sbp_number(row + 8, 8), sbp_number(row + 16, 8), sbp_number(row + 24, 8)};
+    return c;
 }
 
 static inline struct sbp_report sbp_report_of(const uint8_t row[SBP_REPORT]) {

@@ -15,6 +15,7 @@ mod raw {
             found: *mut u8,
             room: usize,
         ) -> u8;
+        pub fn sbp_totals(capture: *const u8, n: usize, counts: *mut u8, room: usize) -> u8;
         pub fn sbp_list(
             capture: *const u8,
             n: usize,
@@ -108,6 +109,29 @@ pub fn next(capture: &[u8], at: usize, growing: bool) -> Next<'_> {
             bytes: place(2),
         },
         _ => Next::End,
+    }
+}
+
+/// The bytes of a complete capture that are in frames, and those passed over
+/// for each reason: together they are its length.
+#[derive(Clone, Copy, Debug, PartialEq, Eq)]
+pub struct Counts {
+    pub framed: u64,
+    pub junk: u64,
+    pub bad: u64,
+    pub short: u64,
+}
+
+pub fn totals(capture: &[u8]) -> Counts {
+    let mut row = [0; 32];
+    unsafe {
+        raw::sbp_totals(capture.as_ptr(), capture.len(), row.as_mut_ptr(), row.len());
+    }
+    Counts {
+        framed: number(&row, 0, 8),
+        junk: number(&row, 8, 8),
+        bad: number(&row, 16, 8),
+        short: number(&row, 24, 8),
     }
 }
 

@@ -69,6 +69,12 @@ static void next(void) {
     tell_hash(output, room);
 }
 
+static void totals(void) {
+    size_t room = filled(output, sizeof output), n = some(sizeof input);
+    tell(sbp_totals(input, n, output, room), 1);
+    tell_hash(output, room);
+}
+
 static void list(void) {
     uint64_t size = 0xEEEEEEEEEEEEEEEE;
     size_t room = filled(output, sizeof output), n = some(sizeof input);
@@ -103,6 +109,7 @@ int main(void) {
         case 'c': crc(); break;
         case 'a': answer(); break;
         case 'n': next(); break;
+        case 't': totals(); break;
         case 'l': list(); break;
         case 'm': collator(); break;
         case 'f': feed(); break;

@@ -8,14 +8,16 @@ use lib.ListN.{length}
 use borrow.Author.Tests.{le-leb, lt-leb}
 use Rattle.wire.specs.Field.{HeldRow, decode, rowStored}
 use Rattle.wire.specs.Message.{Answer}
-use Rattle.frames.specs.Reading.{steps, framesOf}
+use Rattle.frames.specs.Reading.{steps, framesOf, closedSteps, countsOf}
 use Rattle.frames.specs.Cursors.{nextOf, Told}
 use Rattle.frames.specs.Writer.{writtenAnswer}
+use Rattle.frames.specs.declared.cursor.Counts.{Counts}
 use Rattle.frames.specs.declared.cursor.Next as Next
 use Rattle.frames.specs.declared.write.Written.{Written}
 use Rattle.frames.proofs.Answers.{told}
 use Rattle.exports.specs.Rows.{atFront}
 use Rattle.exports.specs.Found.{foundFields, foundRow, startAt, foundIn, numberIn, nextAnswer, nextStored}
+use Rattle.exports.specs.Totals.{countsFields, countsRow, totalsAnswer, totalsStored}
 use Rattle.exports.specs.declared.reading.Found.{Found}
 use Rattle.exports.proofs.Parts.{stored-front, decode-stored}
 
@@ -50,6 +52,21 @@ next-back s at growing buf h held =
 -- from a position on it tells the first frame that is left of the reading there, and where the others are left; or that there is none
 pub next-left : (s : List ℕ) → length s < 2 ^ 64 → (at : ℕ) (growing : Bool) → at ≤ length s → Told growing s (framesOf (steps growing s at)) (nextOf s (startAt at growing))
 next-left s small at growing h = told s small growing (startAt at growing) refl h
+
+-- ---- the counts of a capture
+
+module _ (s buf : List ℕ) where
+  pub totals-32 : length buf < 32 → (32 ≡ totalsAnswer (length buf)) × (buf ≡ totalsStored s buf)
+  unfolding totalsAnswer totalsStored
+  totals-32 h = (rw (lt-leb 32 (length buf) h), rw (lt-leb 32 (length buf) h))
+
+  pub totals-put : {c : Counts} {t : List ℕ} → 32 ≤ length buf → c ≡ countsOf (closedSteps s) → t ≡ rowStored countsFields (countsRow c) buf 0
+      → (0 ≡ totalsAnswer (length buf)) × (t ≡ totalsStored s buf)
+  unfolding totalsAnswer totalsStored
+  totals-put {c} h p e = (
+    rw (le-leb 32 (length buf) h),
+    e ∙ stored-front countsFields (countsRow c) buf h ∙ ap (λ (c : Counts). atFront countsFields (countsRow c) buf) p ∙ rw (le-leb 32 (length buf) h),
+  )
 
 -- ---- the listing
 

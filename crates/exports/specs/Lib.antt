@@ -1,5 +1,6 @@
 pub mod Rows
 pub mod Found
+pub mod Totals
 pub mod Text
 pub mod State
 pub mod Feed

@@ -1,8 +1,9 @@
 // The library for firmware in C or Rust: `extern "C"` functions over numbers and lent slices, none with a requires.
 // A refusal is document 01's number and writes nothing. A collator lives in 105 lent bytes.
-// Read specs/Found.antt (the row of a frame), specs/Text.antt, specs/State.antt (what a collator's bytes stand for) and
-// specs/Feed.antt; proofs/Feeds.antt, Makes.antt and Lives.antt tie the bytes to the collator of `epochs`.
+// Read specs/Found.antt (the row of a frame), specs/Totals.antt, specs/Text.antt, specs/State.antt (what a collator's bytes stand for)
+// and specs/Feed.antt; proofs/Feeds.antt, Makes.antt and Lives.antt tie the bytes to the collator of `epochs`.
 mod answering;
+mod counting;
 mod feeding;
 mod making;
 mod placing;
@@ -11,6 +12,7 @@ mod texting;
 
 pub use answering::sbp_answer;
 pub use answering::sbp_crc;
+pub use counting::sbp_totals;
 pub use feeding::sbp_feed;
 pub use making::sbp_collator;
 pub use reading::sbp_next;

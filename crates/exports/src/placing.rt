@@ -1,7 +1,7 @@
 // A sender's place among the bytes of a collator.
 ghost use mathlib.Core.Path.{_≡_};
 ghost use Prim.Native.Nat.{_<_};
-ghost use Rattle.exports.specs.State.{placeOf, slotOf, slotIn, slotStored, placeIn, placeStored};
+ghost use Rattle.exports.specs.State.{placeOf, slotOf, slotAt, slotIn, slotStored, placeIn, placeStored};
 use epochs::Key;
 use epochs::Part;
 use epochs::Place;
@@ -63,12 +63,19 @@ fn slot_of(place: Place) -> Slot
     }
 }
 
-// The eleven bytes of place i.
+// Where the eleven bytes of place i begin. Its remainder by 8 is i, which tells the compiler that all of them lie within a state's 105.
+fn slot_at(i: usize) -> usize
+    requires { ⌜ i < 8 ⌝ }
+    ensures { λ r. ⌜ r ≡ slotAt i ⌝ }
+{
+    17 + i % 8 * 11
+}
+
 fn slot_in(s: &[u8], i: usize) -> Slot
     requires { ⌜ i < 8 ⌝ }
     ensures { λ r. ⌜ r ≡ slotIn (now (s .entry)) i ⌝ }
 {
-    let opened = 17 + i * 11;
+    let opened = slot_at(i);
     let tow = opened + 1;
     let wn = tow + 4;
     let n = wn + 2;
@@ -88,7 +95,7 @@ fn put_slot(s: &mut [u8], i: usize, slot: Slot)
     requires { ⌜ i < 8 ⌝ }
     ensures { λ _. ⌜ now (s .exit) ≡ slotStored (now (s .entry)) i slot ⌝ }
 {
-    let opened = 17 + i * 11;
+    let opened = slot_at(i);
     let tow = opened + 1;
     let wn = tow + 4;
     let n = wn + 2;

@@ -11,7 +11,7 @@ use std::process::{Child, ChildStdin, ChildStdout, Command, ExitCode, Stdio};
 
 use twin::crc::crc;
 use twin::epochs::{Collator, Outcome};
-use twin::frames::{step, Step};
+use twin::frames::{closed, step, Step};
 use twin::gen::{broken_range, capture, off_length, valid, Rng, TYPES};
 use twin::listing::listing;
 use twin::messages::{answer, OBS_TYPE};
@@ -20,6 +20,7 @@ use twin::numbers::BUFFER_TOO_SHORT;
 /// What a lent buffer holds before a call.
 const FILL: u8 = 0xEE;
 const FOUND: usize = 53;
+const TOTALS: usize = 32;
 const STATE: usize = 105;
 const REPORT: usize = 11;
 
@@ -200,6 +201,23 @@ fn ask_next(asked: &mut Asked, rng: &mut Rng, bytes: &[u8]) {
     asked.call("next", &with_bytes(request, bytes), &expected);
 }
 
+fn ask_totals(asked: &mut Asked, rng: &mut Rng, bytes: &[u8]) {
+    let room = room(rng, TOTALS);
+    let mut request = vec![b't'];
+    request.extend((room as u32).to_le_bytes());
+    let (number, buf) = if room < TOTALS {
+        (BUFFER_TOO_SHORT, lent(room, &[]))
+    } else {
+        let counts = closed(bytes).counts;
+        let row = [counts.frame_bytes, counts.junk, counts.bad, counts.short];
+        let row: Vec<u8> = row.iter().flat_map(|&n| (n as u64).to_le_bytes()).collect();
+        (0, lent(room, &row))
+    };
+    let mut expected = vec![number];
+    expected.extend(hash(&buf).to_le_bytes());
+    asked.call("totals", &with_bytes(request, bytes), &expected);
+}
+
 fn ask_list(asked: &mut Asked, rng: &mut Rng, bytes: &[u8]) {
     let text = listing(bytes);
     let room = room(rng, text.len());
@@ -365,8 +383,9 @@ fn main() -> ExitCode {
             ask_answer(&mut asked, &mut rng);
             ask_next(&mut asked, &mut rng, &bytes);
         }
+        ask_totals(&mut asked, &mut rng, &bytes);
         ask_list(&mut asked, &mut rng, &bytes);
-        calls += 33 + ask_collator(&mut asked, &mut rng);
+        calls += 34 + ask_collator(&mut asked, &mut rng);
     }
     drop(asked.to);
     let ended = asked.child.wait().expect("it ends").success();

@@ -1,29 +1,35 @@
 -- `exports::placing::put_slot` meets its contract: one store after the other.
-use Rattle.wire.proofs.Fields.{then}
+use mathlib.Core.Path.{ap, _∙_}
+use Prim.Native.Nat.{ℕ, _≤_}
+use native.Mathlib.Omega.{arith}
 use borrow.Author.Needs.{needs}
+use Rattle.wire.specs.Field.{rowStored}
+use Rattle.wire.proofs.Fields.{then}
+use Rattle.exports.specs.State.{slotFields, slotRow}
 use Rattle.exports.proofs.placing.put_slot.Statement.{statement}
 use Rattle.exports.proofs.placing.put_slot.Tie as tie
 
-mul-opened : tie.Need-mul-opened
-mul-opened c = search needs
+slot-at-requires : tie.Need-slot-at-requires
+slot-at-requires c κs = search needs
 
-add-opened : tie.Need-add-opened
-add-opened c = search needs
+-- the bytes of a place lie within a state's
+within : (c : tie.After-slot-at) → c .slot-at .result ≤ 94
+within c = omega (arith, c .before .before .pre, c .slot-at .ensures)
 
 add-tow : tie.Need-add-tow
-add-tow c = search needs
+add-tow c = omega (arith, within c)
 
 add-wn : tie.Need-add-wn
-add-wn c = search needs
+add-wn c = omega (arith, within c)
 
 add-n : tie.Need-add-n
-add-n c = search needs
+add-n c = omega (arith, within c)
 
 add-next : tie.Need-add-next
-add-next c = search needs
+add-next c = omega (arith, within c)
 
 add-total : tie.Need-add-total
-add-total c = search needs
+add-total c = omega (arith, within c)
 
 store-u8-requires : tie.Need-store-u8-requires
 store-u8-requires c κs = search needs
@@ -54,14 +60,16 @@ returns c =
     let k3 = k4 .before .before .before .before in
     let k2 = k3 .before .before .before .before in
     let k1 = k2 .before .before .before .before in
+    let at = k1 .before .before .slot-at in
+    let a = k1 .before .before .before .before .args in
     then _ _ _ (then _ _ _ (then _ _ _ (then _ _ _ (then _ _ _ (k1 .store-u8 .ensures) (k2 .store-u32 .ensures)) (k3 .store-u16 .ensures)) (k4 .store-u82 .ensures)) (k5 .store-u83 .ensures)) (k6 .store-u162 .ensures)
+    ∙ ap (λ (o : ℕ). rowStored slotFields (slotRow (a .slot)) (a .s .now) o) (at .ensures)
 
 pub put-slot-spec : {M : Type 1} → statement M
 put-slot-spec =
     tie.close
     (tie.spec
-    mul-opened
-    add-opened
+    slot-at-requires
     add-tow
     add-wn
     add-n

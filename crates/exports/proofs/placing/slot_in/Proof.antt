@@ -1,28 +1,35 @@
 -- `exports::placing::slot_in` meets its contract, field by field.
+use mathlib.Core.Path.{_≡_, ap, _∙_}
+use Prim.Native.Nat.{ℕ, _≤_}
+use native.Mathlib.Omega.{arith}
 use borrow.Author.Needs.{needs}
+use Rattle.wire.specs.Field.{decode}
+use Rattle.exports.specs.State.{slotFields, slotMake}
+use Rattle.exports.specs.declared.placing.Slot.{Slot}
 use Rattle.exports.proofs.placing.slot_in.Statement.{statement}
 use Rattle.exports.proofs.placing.slot_in.Tie as tie
 
-mul-opened : tie.Need-mul-opened
-mul-opened c = search needs
+slot-at-requires : tie.Need-slot-at-requires
+slot-at-requires c κs = search needs
 
-add-opened : tie.Need-add-opened
-add-opened c = search needs
+-- the bytes of a place lie within a state's
+within : (c : tie.After-slot-at) → c .slot-at .result ≤ 94
+within c = omega (arith, c .before .before .pre, c .slot-at .ensures)
 
 add-tow : tie.Need-add-tow
-add-tow c = search needs
+add-tow c = omega (arith, within c)
 
 add-wn : tie.Need-add-wn
-add-wn c = search needs
+add-wn c = omega (arith, within c)
 
 add-n : tie.Need-add-n
-add-n c = search needs
+add-n c = omega (arith, within c)
 
 add-next : tie.Need-add-next
-add-next c = search needs
+add-next c = omega (arith, within c)
 
 add-total : tie.Need-add-total
-add-total c = search needs
+add-total c = omega (arith, within c)
 
 read-u8-requires : tie.Need-read-u8-requires
 read-u8-requires c κs = search needs
@@ -43,14 +50,22 @@ read-u16-requires-2 : tie.Need-read-u16-requires-2
 read-u16-requires-2 c κs = search needs
 
 returns : tie.Need-returns
-returns c = λ i. record { opened = c .before .before .before .before .before .read-u8 .ensures i; tow = c .before .before .before .before .read-u32 .ensures i; wn = c .before .before .before .read-u16 .ensures i; n = c .before .before .read-u82 .ensures i; next = c .before .read-u83 .ensures i; total = c .read-u162 .ensures i }
+returns c =
+    let read1 = c .before .before .before .before .before .read-u8 in
+    let read2 = c .before .before .before .before .read-u32 in
+    let read3 = c .before .before .before .read-u16 in
+    let at = c .before .before .before .before .before .before .slot-at in
+    let s = c .before .before .before .before .before .before .before .before .args .s .now in
+    let slot : Slot = record { opened = read1 .result; tow = read2 .result; wn = read3 .result; n = c .before .before .read-u82 .result; next = c .before .read-u83 .result; total = c .read-u162 .result } in
+    let there : slot ≡ slotMake (decode slotFields s (at .result)) =
+        λ i. record { opened = read1 .ensures i; tow = read2 .ensures i; wn = read3 .ensures i; n = c .before .before .read-u82 .ensures i; next = c .before .read-u83 .ensures i; total = c .read-u162 .ensures i } in
+    there ∙ ap (λ (o : ℕ). slotMake (decode slotFields s o)) (at .ensures)
 
 pub slot-in-spec : {M : Type 1} → statement M
 slot-in-spec =
     tie.close
     (tie.spec
-    mul-opened
-    add-opened
+    slot-at-requires
     add-tow
     add-wn
     add-n
