@@ -1,6 +1,6 @@
 -- The CRC stays within 16 bits, whatever the bytes; and what the loop over the bytes keeps.
 -- Assumes nothing.
-use mathlib.Core.Path.{_≡_, refl, sym, ap, _∙_}
+use mathlib.Core.Path.{_≡_, refl, sym, ap, ap₂, _∙_}
 use mathlib.Core.List.{List, [], _∷_}
 use Prim.Native.Nat.{ℕ, zero, suc, _+_, _*_, _/_, _%_, _≤_, _<_, zero-le}
 use native.Mathlib.Numerals.{add-one}
@@ -39,6 +39,8 @@ pub record Carried (t s : List ℕ) (upper lower i : ℕ) : Type 0 where
   pub rest : crcBy t c (drop i s) ≡ crcBy t 0 s
   pub uppers : upper ≡ bitXor (c / 256) (getD s i 0)
   pub lowers : lower ≡ bitXor (c % 256) (getD s (i + 1) 0)
+  pub upper-fits : upper < 256
+  pub lower-fits : lower < 256
 
 -- the halves of the register after a byte, given its entry
 half-up : (c e : ℕ) → bitXor (c % 256 * 256) e / 256 ≡ bitXor (c % 256) (e / 256)
@@ -48,30 +50,36 @@ half-low : (c e : ℕ) → bitXor (c % 256 * 256) e % 256 ≡ e % 256
 half-low c e = let none : c % 256 * 256 % 256 ≡ 0 = omega arith in xor-mod (c % 256 * 256) e 8 ∙ ap (λ (x : ℕ). bitXor x (e % 256)) none
 
 module _ (t s : List ℕ) where
-  pub carried-none : {u l : ℕ} → u ≡ getD s 0 0 → l ≡ getD s 1 0 → Carried t s u l 0
-  carried-none hu hl = record { c = 0; inside = zero-le; rest = refl; uppers = hu; lowers = hl }
+  pub carried-none : {u l : ℕ} → (u ≡ getD s 0 0) × (u < 256) → (l ≡ getD s 1 0) × (l < 256) → Carried t s u l 0
+  carried-none hu hl = record { c = 0; inside = zero-le; rest = refl; uppers = hu .0; lowers = hl .0; upper-fits = hu .1; lower-fits = hl .1 }
 
-  pub carried-more : {u l i v m : ℕ} → Carried t s u l i → i < length s → v ≡ bitXor l (getD t u 0 / 256) → m ≡ bitXor (getD t u 0 % 256) (getD s (i + 1 + 1) 0)
+  pub carried-more : {u l i v m : ℕ} → Carried t s u l i → i < length s → (v ≡ bitXor l (getD t u 0 / 256)) × (v < 256) → (m ≡ bitXor (getD t u 0 % 256) (getD s (i + 2) 0)) × (m < 256)
       → Carried t s v m (i + 1)
   unfolding crcBy
   carried-more {u} {l} {i} h more hv hm =
       let e = getD t u 0 in
       let b = getD s (i + 1) 0 in
-      let next = bitXor (h .c % 256 * 256) e in
+      let later : i + 2 ≡ i + 1 + 1 = omega arith in
       record {
-        c = next;
+        c = bitXor (h .c % 256 * 256) e;
         inside = omega (arith, more);
         rest =
             ap (λ (x : ℕ). crcBy t (bitXor (h .c % 256 * 256) (getD t x 0)) (drop (i + 1) s)) (h .uppers)
             ∙ rw add-one (rw (drop-cons s i 0 more) at (h .rest));
-        uppers = hv ∙ ap (λ (x : ℕ). bitXor x (e / 256)) (h .lowers) ∙ xor-turn (h .c % 256) b (e / 256) ∙ ap (λ (x : ℕ). bitXor x b) (sym (half-up (h .c) e));
-        lowers = hm ∙ ap (λ (x : ℕ). bitXor x (getD s (i + 1 + 1) 0)) (sym (half-low (h .c) e));
+        uppers = hv .0 ∙ ap (λ (x : ℕ). bitXor x (e / 256)) (h .lowers) ∙ xor-turn (h .c % 256) b (e / 256) ∙ ap (λ (x : ℕ). bitXor x b) (sym (half-up (h .c) e));
+        lowers = hm .0 ∙ ap₂ (λ (x k : ℕ). bitXor x (getD s k 0)) (sym (half-low (h .c) e)) later;
+        upper-fits = hv .1;
+        lower-fits = hm .1;
       }
+
+  -- the bytes past the end are 0
+  pub none-later : (i : ℕ) → length s ≤ i → 0 ≡ getD s i 0
+  none-later i h = sym (List·getD-eq-default s 0 h)
 
   -- past the last byte the halves are the register's own
   pub carried-all : {u l i : ℕ} → Carried t s u l i → length s ≤ i → u * 256 + l ≡ crcBy t 0 s
   unfolding crcBy
   carried-all {u} {l} {i} h all =
-      let up : u ≡ h .c / 256 = h .uppers ∙ ap (bitXor (h .c / 256)) (List·getD-eq-default s 0 all) ∙ xor-zero-r (h .c / 256) in
-      let low : l ≡ h .c % 256 = h .lowers ∙ ap (bitXor (h .c % 256)) (List·getD-eq-default s 0 (omega (arith, all))) ∙ xor-zero-r (h .c % 256) in
+      let up : u ≡ h .c / 256 = h .uppers ∙ ap (bitXor (h .c / 256)) (sym (none-later i all)) ∙ xor-zero-r (h .c / 256) in
+      let low : l ≡ h .c % 256 = h .lowers ∙ ap (bitXor (h .c % 256)) (sym (none-later (i + 1) (omega (arith, all)))) ∙ xor-zero-r (h .c % 256) in
       omega (arith, up, low) ∙ sym (ap (crcBy t (h .c)) (drop-of-length-le s all)) ∙ h .rest

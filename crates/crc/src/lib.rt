@@ -311,11 +311,18 @@ pub fn crc_by(table: &[u16; 256], s: &[u8]) -> u16
     let mut upper = byte(s, 0);
     let mut lower = byte(s, 1);
     let mut i = 0;
+    // a byte is known to be there, but for the last two
+    while 2 < s.len() - i {
+        let entry = table[upper];
+        upper = place(lower, entry);
+        lower = waits(entry, s[i + 2] as usize);
+        i += 1;
+    }
     while i < s.len() {
         let entry = table[upper];
         upper = place(lower, entry);
+        lower = waits(entry, 0);
         i += 1;
-        lower = waits(entry, byte(s, i + 1));
     }
     (upper * 256 + lower) as u16
 }

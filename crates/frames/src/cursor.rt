@@ -170,12 +170,11 @@ impl Cursor {
         let table = crc::entries();
         let mut c = self;
         loop {
-            let here = c.past_junk(s);
-            let step = step_by(&table, s, here.at);
-            if passes(here.growing, step) {
-                c = here.over(step);
+            let step = step_by(&table, s, c.at);
+            if passes(c.growing, step) {
+                c = c.over(step).past_junk(s);
             } else {
-                return here.ended(step);
+                return c.ended(step);
             }
         }
     }
@@ -207,11 +206,14 @@ pub fn totals(s: &[u8]) -> Counts
     let table = crc::entries();
     let mut c = Cursor::closed();
     loop {
-        let here = c.past_junk(s);
-        let step = step_by(&table, s, here.at);
+        let step = step_by(&table, s, c.at);
         if finished(step) {
-            return here.counts();
+            return c.counts();
         }
-        c = here.over(step);
+        if passes(false, step) {
+            c = c.over(step).past_junk(s);
+        } else {
+            c = c.over(step);
+        }
     }
 }

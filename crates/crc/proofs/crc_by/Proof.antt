@@ -1,73 +1,118 @@
--- `crc::crc_by` meets its contract. The loop's invariant: what the table makes of the bytes left from the register is what it makes of all
--- from 0, and the halves carried have 8 bits. Assumes nothing.
+-- `crc::crc_by` meets its contract. Both loops keep that what the table makes of the bytes left from the register is what it makes of all from
+-- 0; the second has no byte left to add. Assumes nothing.
 use mathlib.Core.Path.{ap, _∙_}
-use Prim.Native.Nat.{_-_, _%_, _<_}
+use Prim.Native.Nat.{_+_, _-_, _%_, _≤_}
 use native.Mathlib.Omega.{arith}
 use borrow.Author.Needs.{needs}
 use lib.Bits.{bitXor}
+use lib.Dec.{lit<}
 use lib.ListN.{length, getD}
-use Rattle.crc.proofs.Fold.{Carried, carried-none, carried-more, carried-all}
+use Rattle.crc.proofs.Fold.{Carried, carried-none, carried-more, carried-all, none-later}
 use Rattle.crc.proofs.crc_by.Statement.{statement}
 use Rattle.crc.proofs.crc_by.Tie as tie
 
 abbrev Inv-loop : tie.InvT-loop
-Inv-loop table s upper₀ lower₀ i₀ upper lower i = Carried table s upper lower i × (upper < 256) × (lower < 256)
+Inv-loop table s upper₀ lower₀ i₀ upper lower i = Carried table s upper lower i
 
 abbrev μ-loop : tie.MeasureT-loop
 μ-loop table s upper₀ lower₀ i₀ upper lower i = length s - i
 
-byte-requires : tie.Need-byte-requires Inv-loop μ-loop
+abbrev Inv-loop2 : tie.InvT-loop2
+Inv-loop2 table s upper₀ lower₀ i₀ upper lower i = (length s ≤ i + 2) × Carried table s upper lower i
+
+abbrev μ-loop2 : tie.MeasureT-loop2
+μ-loop2 table s upper₀ lower₀ i₀ upper lower i = length s - i
+
+byte-requires : tie.Need-byte-requires Inv-loop μ-loop Inv-loop2 μ-loop2
 byte-requires c κs = search needs
 
-byte-requires-2 : tie.Need-byte-requires-2 Inv-loop μ-loop
+byte-requires-2 : tie.Need-byte-requires-2 Inv-loop μ-loop Inv-loop2 μ-loop2
 byte-requires-2 c κs = search needs
 
-loop-holds : tie.Need-loop-holds Inv-loop μ-loop
+loop-holds : tie.Need-loop-holds Inv-loop μ-loop Inv-loop2 μ-loop2
 loop-holds c =
     let a = c .before .before .before .args in
-    (carried-none (a .table .now) (a .s .now) (c .before .byte .ensures .0) (c .byte2 .ensures .0), c .before .byte .ensures .1, c .byte2 .ensures .1)
+    carried-none (a .table .now) (a .s .now) (c .before .byte .ensures) (c .byte2 .ensures)
 
-mul-entry : tie.Need-mul-entry Inv-loop μ-loop
-mul-entry c = omega (arith, c .before .loop .inv .1)
+sub-loop : tie.Need-sub-loop Inv-loop μ-loop Inv-loop2 μ-loop2
+sub-loop c = c .loop .inv .inside
 
-element-copy-out-entry : tie.Need-element-copy-out-entry Inv-loop μ-loop
-element-copy-out-entry c = c .before .loop .inv .1
+mul-entry : tie.Need-mul-entry Inv-loop μ-loop Inv-loop2 μ-loop2
+mul-entry c = omega (arith, c .before .loop .inv .upper-fits)
 
-place-requires : tie.Need-place-requires Inv-loop μ-loop
-place-requires c κs = c .before .before .loop .inv .2
+element-copy-out-entry : tie.Need-element-copy-out-entry Inv-loop μ-loop Inv-loop2 μ-loop2
+element-copy-out-entry c = c .before .loop .inv .upper-fits
 
-add-i : tie.Need-add-i Inv-loop μ-loop
-add-i c = omega (arith, c .before .before .loop-test .taken)
+place-requires : tie.Need-place-requires Inv-loop μ-loop Inv-loop2 μ-loop2
+place-requires c κs = c .before .before .loop .inv .lower-fits
 
-add-byte : tie.Need-add-byte Inv-loop μ-loop
-add-byte c = search needs
+add-waits : tie.Need-add-waits Inv-loop μ-loop Inv-loop2 μ-loop2
+add-waits c = search needs
 
-byte-requires-3 : tie.Need-byte-requires-3 Inv-loop μ-loop
-byte-requires-3 c κs = search needs
+shared-slice-read-waits : tie.Need-shared-slice-read-waits Inv-loop μ-loop Inv-loop2 μ-loop2
+shared-slice-read-waits c = omega (arith, c .before .before .before .loop-test .taken)
 
-waits-requires : tie.Need-waits-requires Inv-loop μ-loop
-waits-requires c κs = c .byte3 .ensures .1
+cast-waits : tie.Need-cast-waits Inv-loop μ-loop Inv-loop2 μ-loop2
+cast-waits c = omega (arith, c .shared-slice-known2 .given (c .before .before .before .before .loop .i + 2) .fits)
 
-loop-less : tie.Need-loop-less Inv-loop μ-loop
+waits-requires : tie.Need-waits-requires Inv-loop μ-loop Inv-loop2 μ-loop2
+waits-requires c κs = c .shared-slice-known2 .given (c .before .before .before .before .loop .i + 2) .fits
+
+add-i : tie.Need-add-i Inv-loop μ-loop Inv-loop2 μ-loop2
+add-i c = search needs
+
+loop-less : tie.Need-loop-less Inv-loop μ-loop Inv-loop2 μ-loop2
 loop-less c = omega (arith, c .before .before .before .before .loop-test .taken)
 
-loop-again : tie.Need-loop-again Inv-loop μ-loop
+loop-again : tie.Need-loop-again Inv-loop μ-loop Inv-loop2 μ-loop2
 loop-again c =
     let a = c .before .before .before .before .before .before .before .before .before .args in
     let at = c .before .before .before .before .before .loop in
-    (carried-more (a .table .now) (a .s .now) (at .inv .0) (c .before .before .before .before .loop-test .taken) (c .before .before .place .ensures .0) (c .waits .ensures .0 ∙ ap (bitXor (getD (a .table .now) (at .upper) 0 % 256)) (c .before .byte3 .ensures .0)), c .before .before .place .ensures .1, c .waits .ensures .1)
+    carried-more (a .table .now) (a .s .now) (at .inv) (omega (arith, c .before .before .before .before .loop-test .taken)) (c .before .before .place .ensures) (c .waits .ensures)
 
-mul-result : tie.Need-mul-result Inv-loop μ-loop
-mul-result c = omega (arith, c .before .loop .inv)
+loop2-holds : tie.Need-loop2-holds Inv-loop μ-loop Inv-loop2 μ-loop2
+loop2-holds c = (omega (arith, c .loop-test .left), c .before .loop .inv)
 
-add-result : tie.Need-add-result Inv-loop μ-loop
-add-result c = omega (arith, c .before .loop .inv)
+mul-entry-2 : tie.Need-mul-entry-2 Inv-loop μ-loop Inv-loop2 μ-loop2
+mul-entry-2 c = omega (arith, c .before .loop2 .inv .1 .upper-fits)
 
-cast-result : tie.Need-cast-result Inv-loop μ-loop
-cast-result c = omega (arith, c .before .loop .inv)
+element-copy-out-entry-2 : tie.Need-element-copy-out-entry-2 Inv-loop μ-loop Inv-loop2 μ-loop2
+element-copy-out-entry-2 c = c .before .loop2 .inv .1 .upper-fits
 
-returns : tie.Need-returns Inv-loop μ-loop
-returns c = let a = c .before .before .before .before .before .args in carried-all (a .table .now) (a .s .now) (c .before .loop .inv .0) (c .loop-test .left)
+place-requires-2 : tie.Need-place-requires-2 Inv-loop μ-loop Inv-loop2 μ-loop2
+place-requires-2 c κs = c .before .before .loop2 .inv .1 .lower-fits
+
+waits-requires-2 : tie.Need-waits-requires-2 Inv-loop μ-loop Inv-loop2 μ-loop2
+waits-requires-2 c κs = lit< tt
+
+add-i-2 : tie.Need-add-i-2 Inv-loop μ-loop Inv-loop2 μ-loop2
+add-i-2 c = search needs
+
+loop2-less : tie.Need-loop2-less Inv-loop μ-loop Inv-loop2 μ-loop2
+loop2-less c = omega (arith, c .before .before .before .loop2-test .taken)
+
+loop2-again : tie.Need-loop2-again Inv-loop μ-loop Inv-loop2 μ-loop2
+loop2-again c =
+    let a = c .before .before .before .before .before .before .before .before .before .before .args in
+    let at = c .before .before .before .before .loop2 in
+    let none = none-later (a .table .now) (a .s .now) (at .i + 2) (at .inv .0) in
+    (
+      omega (arith, at .inv .0),
+      carried-more (a .table .now) (a .s .now) (at .inv .1) (c .before .before .before .loop2-test .taken) (c .before .place2 .ensures)
+          (c .waits2 .ensures .0 ∙ ap (bitXor (getD (a .table .now) (at .upper) 0 % 256)) none, c .waits2 .ensures .1),
+    )
+
+mul-result : tie.Need-mul-result Inv-loop μ-loop Inv-loop2 μ-loop2
+mul-result c = omega (arith, c .before .loop2 .inv .1 .upper-fits, c .before .loop2 .inv .1 .lower-fits)
+
+add-result : tie.Need-add-result Inv-loop μ-loop Inv-loop2 μ-loop2
+add-result c = omega (arith, c .before .loop2 .inv .1 .upper-fits, c .before .loop2 .inv .1 .lower-fits)
+
+cast-result : tie.Need-cast-result Inv-loop μ-loop Inv-loop2 μ-loop2
+cast-result c = omega (arith, c .before .loop2 .inv .1 .upper-fits, c .before .loop2 .inv .1 .lower-fits)
+
+returns : tie.Need-returns Inv-loop μ-loop Inv-loop2 μ-loop2
+returns c = let a = c .before .before .before .before .before .before .before .args in carried-all (a .table .now) (a .s .now) (c .before .loop2 .inv .1) (c .loop2-test .left)
 
 pub crc-by-spec : {M : Type 1} → statement M
 crc-by-spec =
@@ -75,18 +120,30 @@ crc-by-spec =
     (tie.spec
     Inv-loop
     μ-loop
+    Inv-loop2
+    μ-loop2
     byte-requires
     byte-requires-2
     loop-holds
+    sub-loop
     mul-entry
     element-copy-out-entry
     place-requires
-    add-i
-    add-byte
-    byte-requires-3
+    add-waits
+    shared-slice-read-waits
+    cast-waits
     waits-requires
+    add-i
     loop-less
     loop-again
+    loop2-holds
+    mul-entry-2
+    element-copy-out-entry-2
+    place-requires-2
+    waits-requires-2
+    add-i-2
+    loop2-less
+    loop2-again
     mul-result
     add-result
     cast-result

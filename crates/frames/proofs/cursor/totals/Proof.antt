@@ -29,11 +29,8 @@ loop-holds c =
     let start = c .before .before .before in
     subst⁻¹ (Honest false (start .args .s .now)) (c .closed .ensures) (honest-begun (start .args .s .now) (start .good .0 .0) false)
 
-past-junk-requires : tie.Need-past-junk-requires Inv-loop μ-loop
-past-junk-requires c κs = search needs
-
 step-by-requires : tie.Need-step-by-requires Inv-loop μ-loop
-step-by-requires c κs = c .before .before .before .before .entries .ensures
+step-by-requires c κs = c .before .before .before .entries .ensures
 
 finished-requires : tie.Need-finished-requires Inv-loop μ-loop
 finished-requires c κs = search needs
@@ -43,30 +40,52 @@ counts-requires c κs = search needs
 
 returns : tie.Need-returns Inv-loop μ-loop
 returns c =
-    let start = c .before .before .before .before .before .before .before .before .before .before in
-    let k = c .before .before .before .before .before in
-    let honest = past-junk-honest (start .args .s .now) (start .good .0 .0) (k .before .loop .c) (k .past-junk .ensures) false (k .before .loop .inv) in
-    honest-given (start .args .s .now) (start .good .0 .0) false (k .past-junk .result) honest (c .before .before .before .step-by .ensures) (c .counts .ensures) (sym (c .before .before .finished .ensures) ∙ c .before .if1 .taken)
+    let start = c .before .before .before .before .before .before .before .before .before in
+    let k = c .before .before .before .before .before .loop in
+    honest-given (start .args .s .now) (start .good .0 .0) false (k .c) (k .inv) (c .before .before .before .step-by .ensures) (c .counts .ensures) (sym (c .before .before .finished .ensures) ∙ c .before .if1 .taken)
+
+passes-requires : tie.Need-passes-requires Inv-loop μ-loop
+passes-requires c κs = search needs
 
 over-requires : tie.Need-over-requires Inv-loop μ-loop
 over-requires c κs = search needs
 
+past-junk-requires : tie.Need-past-junk-requires Inv-loop μ-loop
+past-junk-requires c κs = search needs
+
 loop-less : tie.Need-loop-less Inv-loop μ-loop
 loop-less c =
-    let start = c .before .before .before .before .before .before .before .before .before .before in
-    let k = c .before .before .before .before .before in
+    let start = c .before .before .before .before .before .before .before .before .before .before .before .before in
+    let x = c .before .before .before .before .before .before in
     omega (
       arith,
-      past-junk-further (start .args .s .now) (start .good .0 .0) (k .before .loop .c) (k .past-junk .ensures),
-      comes-further (start .args .s .now) (start .good .0 .0) (k .past-junk .result) (c .before .before .before .step-by .ensures) (c .over .ensures) false (sym (c .before .before .finished .ensures) ∙ c .before .if1 .left),
+      comes-further (start .args .s .now) (start .good .0 .0) (x .before .before .loop .c) (x .step-by .ensures) (c .before .over .ensures) false (sym (c .before .before .before .before .before .finished .ensures) ∙ c .before .before .before .before .if1 .left),
+      past-junk-further (start .args .s .now) (start .good .0 .0) (c .before .over .result) (c .past-junk .ensures),
     )
 
 loop-again : tie.Need-loop-again Inv-loop μ-loop
 loop-again c =
-    let start = c .before .before .before .before .before .before .before .before .before .before in
-    let k = c .before .before .before .before .before in
-    let honest = past-junk-honest (start .args .s .now) (start .good .0 .0) (k .before .loop .c) (k .past-junk .ensures) false (k .before .loop .inv) in
-    honest-past (start .args .s .now) (start .good .0 .0) false (k .past-junk .result) honest (c .before .before .before .step-by .ensures) (c .over .ensures) (sym (c .before .before .finished .ensures) ∙ c .before .if1 .left)
+    let start = c .before .before .before .before .before .before .before .before .before .before .before .before in
+    let x = c .before .before .before .before .before .before in
+    let k = x .before .before .loop in
+    past-junk-honest (start .args .s .now) (start .good .0 .0) (c .before .over .result) (c .past-junk .ensures) false
+    (honest-past (start .args .s .now) (start .good .0 .0) false (k .c) (k .inv) (x .step-by .ensures) (c .before .over .ensures) (sym (c .before .before .before .before .before .finished .ensures) ∙ c .before .before .before .before .if1 .left))
+
+over-requires-2 : tie.Need-over-requires-2 Inv-loop μ-loop
+over-requires-2 c κs = search needs
+
+loop-less-2 : tie.Need-loop-less-2 Inv-loop μ-loop
+loop-less-2 c =
+    let start = c .before .before .before .before .before .before .before .before .before .before .before in
+    let x = c .before .before .before .before .before in
+    omega (arith, comes-further (start .args .s .now) (start .good .0 .0) (x .before .before .loop .c) (x .step-by .ensures) (c .over2 .ensures) false (sym (c .before .before .before .before .finished .ensures) ∙ c .before .before .before .if1 .left))
+
+loop-again-2 : tie.Need-loop-again-2 Inv-loop μ-loop
+loop-again-2 c =
+    let start = c .before .before .before .before .before .before .before .before .before .before .before in
+    let x = c .before .before .before .before .before in
+    let k = x .before .before .loop in
+    honest-past (start .args .s .now) (start .good .0 .0) false (k .c) (k .inv) (x .step-by .ensures) (c .over2 .ensures) (sym (c .before .before .before .before .finished .ensures) ∙ c .before .before .before .if1 .left)
 
 pub totals-spec : {M : Type 1} → statement M
 totals-spec =
@@ -77,11 +96,15 @@ totals-spec =
     entries-requires
     closed-requires
     loop-holds
-    past-junk-requires
     step-by-requires
     finished-requires
     counts-requires
     returns
+    passes-requires
     over-requires
+    past-junk-requires
     loop-less
-    loop-again)
+    loop-again
+    over-requires-2
+    loop-less-2
+    loop-again-2)

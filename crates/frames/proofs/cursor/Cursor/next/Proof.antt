@@ -23,11 +23,8 @@ entries-requires c κs = search needs
 loop-holds : tie.Need-loop-holds Inv-loop μ-loop
 loop-holds c = refl
 
-past-junk-requires : tie.Need-past-junk-requires Inv-loop μ-loop
-past-junk-requires c κs = search needs
-
 step-by-requires : tie.Need-step-by-requires Inv-loop μ-loop
-step-by-requires c κs = c .before .before .before .entries .ensures
+step-by-requires c κs = c .before .before .entries .ensures
 
 passes-requires : tie.Need-passes-requires Inv-loop μ-loop
 passes-requires c κs = search needs
@@ -35,36 +32,37 @@ passes-requires c κs = search needs
 over-requires : tie.Need-over-requires Inv-loop μ-loop
 over-requires c κs = search needs
 
+past-junk-requires : tie.Need-past-junk-requires Inv-loop μ-loop
+past-junk-requires c κs = search needs
+
 loop-less : tie.Need-loop-less Inv-loop μ-loop
 loop-less c =
     let start = c .before .before .before .before .before .before .before .before .before in
-    let k = c .before .before .before .before .before in
-    let x = c .before .before .before .step-by in
-    let on = passed-on (k .past-junk .result .growing) (x .result) (sym (c .before .before .passes .ensures) ∙ c .before .if1 .taken) in
+    let k = c .before .before .before .before .before .before .loop .c in
+    let x = c .before .before .before .before .step-by in
+    let on = passed-on (k .growing) (x .result) (sym (c .before .before .before .passes .ensures) ∙ c .before .before .if1 .taken) in
     omega (
       arith,
-      past-junk-further (start .args .s .now) (start .good .1 .0 .0) (k .before .loop .c) (k .past-junk .ensures),
-      comes-further (start .args .s .now) (start .good .1 .0 .0) (k .past-junk .result) (x .ensures) (c .over .ensures) (k .past-junk .result .growing) on,
+      comes-further (start .args .s .now) (start .good .1 .0 .0) k (x .ensures) (c .before .over .ensures) (k .growing) on,
+      past-junk-further (start .args .s .now) (start .good .1 .0 .0) (c .before .over .result) (c .past-junk .ensures),
     )
 
 loop-again : tie.Need-loop-again Inv-loop μ-loop
 loop-again c =
     let start = c .before .before .before .before .before .before .before .before .before in
-    let k = c .before .before .before .before .before in
-    next-kept (start .args .s .now) (start .good .1 .0 .0) (k .past-junk .result) (c .before .before .before .step-by .ensures) (c .over .ensures) (sym (c .before .before .passes .ensures) ∙ c .before .if1 .taken)
-    ∙ past-junk-next (start .args .s .now) (start .good .1 .0 .0) (k .before .loop .c) (k .past-junk .ensures)
-    ∙ k .before .loop .inv
+    let k = c .before .before .before .before .before .before .loop in
+    past-junk-next (start .args .s .now) (start .good .1 .0 .0) (c .before .over .result) (c .past-junk .ensures)
+    ∙ next-kept (start .args .s .now) (start .good .1 .0 .0) (k .c) (c .before .before .before .before .step-by .ensures) (c .before .over .ensures) (sym (c .before .before .before .passes .ensures) ∙ c .before .before .if1 .taken)
+    ∙ k .inv
 
 ended-requires : tie.Need-ended-requires Inv-loop μ-loop
 ended-requires c κs = search needs
 
 returns : tie.Need-returns Inv-loop μ-loop
 returns c =
-    let start = c .before .before .before .before .before .before .before .before .before in
-    let k = c .before .before .before .before .before in
-    next-given (start .args .s .now) (start .good .1 .0 .0) (k .past-junk .result) (c .before .before .before .step-by .ensures) (sym (c .before .before .passes .ensures) ∙ c .before .if1 .left) (c .ended .ensures)
-    ∙ past-junk-next (start .args .s .now) (start .good .1 .0 .0) (k .before .loop .c) (k .past-junk .ensures)
-    ∙ k .before .loop .inv
+    let start = c .before .before .before .before .before .before .before .before in
+    let k = c .before .before .before .before .before .loop in
+    next-given (start .args .s .now) (start .good .1 .0 .0) (k .c) (c .before .before .before .step-by .ensures) (sym (c .before .before .passes .ensures) ∙ c .before .if1 .left) (c .ended .ensures) ∙ k .inv
 
 pub next-spec : {M : Type 1} → statement M
 next-spec =
@@ -74,10 +72,10 @@ next-spec =
     μ-loop
     entries-requires
     loop-holds
-    past-junk-requires
     step-by-requires
     passes-requires
     over-requires
+    past-junk-requires
     loop-less
     loop-again
     ended-requires
