@@ -21,7 +21,7 @@ pub fn nobody() -> Collator
 }
 
 // A sender that has no seat yet gets the next one, while there is room.
-fn joined(mut collator: Collator, sender: u16) -> Collator
+fn joined(collator: Collator, sender: u16) -> Collator
     ensures { λ r. ⌜ r ≡ joinedTo collator sender ⌝ }
 {
     let roster = collator.roster;
@@ -32,9 +32,10 @@ fn joined(mut collator: Collator, sender: u16) -> Collator
     if 8 <= count {
         return collator;
     }
-    collator.roster[count] = sender;
-    collator.count = count + 1;
-    collator
+    let mut more = collator;
+    more.roster[count] = sender;
+    more.count = count + 1;
+    more
 }
 
 // The sender of an OBS frame joins.

@@ -15,22 +15,22 @@ enum-told-2 : tie.Need-enum-told-2
 enum-told-2 c = search needs
 
 returns : tie.Need-returns
-returns c = let a = c .before .before .before .before .args in joins-listed (a .t1) (a .sender) (sym (c .before .before .seat-of .ensures) ∙ c .enum-told2 .given .1)
+returns c = let a = c .before .before .before .before .args in joins-listed (a .collator) (a .sender) (sym (c .before .before .seat-of .ensures) ∙ c .enum-told2 .given .1)
 
 returns-2 : tie.Need-returns-2
-returns-2 c = let a = c .before .before .before .before .before .args in joins-full (a .t1) (a .sender) (sym (c .before .before .before .seat-of .ensures) ∙ c .before .enum-told .given .1) (c .if1 .taken)
+returns-2 c = let a = c .before .before .before .before .before .args in joins-full (a .collator) (a .sender) (sym (c .before .before .before .seat-of .ensures) ∙ c .before .enum-told .given .1) (c .if1 .taken)
 
-mul-collator : tie.Need-mul-collator
-mul-collator c = search needs
+mul-more : tie.Need-mul-more
+mul-more c = search needs
 
-element-write-collator : tie.Need-element-write-collator
-element-write-collator c = search needs
+element-write-more : tie.Need-element-write-more
+element-write-more c = search needs
 
-add-collator : tie.Need-add-collator
-add-collator c = search needs
+add-more : tie.Need-add-more
+add-more c = search needs
 
 returns-3 : tie.Need-returns-3
-returns-3 c = let a = c .before .before .before .before .before .args in joins-last (a .t1) (a .sender) (sym (c .before .before .before .seat-of .ensures) ∙ c .before .enum-told .given .1) (c .if1 .left)
+returns-3 c = let a = c .before .before .before .before .before .args in joins-last (a .collator) (a .sender) (sym (c .before .before .before .seat-of .ensures) ∙ c .before .enum-told .given .1) (c .if1 .left)
 
 pub joined-spec : {M : Type 1} → statement M
 joined-spec =
@@ -41,7 +41,7 @@ joined-spec =
     enum-told-2
     returns
     returns-2
-    mul-collator
-    element-write-collator
-    add-collator
+    mul-more
+    element-write-more
+    add-more
     returns-3)
