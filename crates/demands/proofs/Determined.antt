@@ -3,8 +3,8 @@
 -- lent buffer, part or reader it is `now .. ≡ d`. Which function has which:
 --   plain: every function of wire, crc, epochs and exports; step_at, payload, closed, opened, next, counts, totals, sender_number, seal and place of
 --     frames; the fix modes, flags and ranges of navigation; is_obs_length, put and carrier_phase; the flags of system, and log_text; answer of
---     payloads; place_after and place of obs_reader; put_line; started of listing; each buffer of a writer, of put_line and of list; the reader
---     that next of obs_reader leaves
+--     payloads; place_after and place of obs_reader; put_line; each buffer of a writer, of put_line and of list; the reader that next of
+--     obs_reader leaves
 --   written: plan, write_frame, every write_ function, and list
 --   reading: read of payloads, and its reader of each type
 --   one-observation: read_observation, and what next of obs_reader answers

@@ -5,63 +5,40 @@ use mathlib.Core.List.{List, [], _∷_, _++_, append-assoc, append-nil}
 use mathlib.Core.Logic.{_↔_, _⊎_, inl, inr}
 use Prim.Native.Nat.{ℕ, zero, suc, _≤_, _<_}
 use native.Mathlib.Omega.{arith}
-use lib.Dec.{eqb, leb}
+use lib.Dec.{eqb}
 use lib.ListN.{length, take, length-take}
 use lib.Seq.{take-all, take-at}
-use borrow.Author.Tests.{ne-eqb, eqb-true, eqb-false, leb-true, leb-false, lt-ltb, le-ltb}
+use borrow.Author.Tests.{ne-eqb, eqb-true, eqb-false}
 use Rattle.frames.specs.Reading.{closedSteps, framesOf}
 use Rattle.frames.specs.declared.step.Frame.{Frame}
 use Rattle.epochs.specs.Packet.{obsKind}
-use Rattle.epochs.specs.Collator.{names, repeats, made}
+use Rattle.epochs.specs.Collator.{names, repeats, fresh, made}
 use Rattle.epochs.specs.declared.collating.Made.{Made}
-use Rattle.epochs.proofs.Making.{made-whole}
-use Rattle.listing.specs.Roster.{joined, enlisted, enlistedAll, rosterIn}
+use Rattle.epochs.proofs.Making.{made-whole, accepted}
+use Rattle.listing.specs.Roster.{joined, enlistedAll, rosterIn}
 use Rattle.listing.specs.Words.{obsSenders, obsSendersIn, different}
-use Rattle.listing.proofs.Rosters.{held-joined, roster-few}
-
--- ---- the three ways to join a roster
-
-module _ (roster : List ℕ) (x : ℕ) where
-  stays-named : names roster x ≡ true → joined roster x ≡ roster
-  unfolding joined
-  stays-named n = rw n
-
-  stays-full : names roster x ≡ false → 8 ≤ length roster → joined roster x ≡ roster
-  unfolding joined
-  stays-full n h = rw (n, le-ltb (length roster) 8 h)
-
-  comes-last : names roster x ≡ false → length roster < 8 → joined roster x ≡ roster ++ x ∷ []
-  unfolding joined
-  comes-last n h = rw (n, lt-ltb (length roster) 8 h)
+use Rattle.listing.proofs.Rosters.{Few, by-joining, few-joined, roster-keeps, roster-few}
 
 -- ---- the first eight different senders
 
-module _ (roster : List ℕ) (few : length roster ≤ 8) (x : ℕ) (xs : List ℕ) where
-  join-then : take 8 (joined roster x ++ different (joined roster x) xs) ≡ take 8 (roster ++ different roster (x ∷ xs))
-  unfolding different
-  join-then = by (names roster x) (leb 8 (length roster)) refl refl
-    where
-      on : {r : List ℕ} → joined roster x ≡ r → take 8 (joined roster x ++ different (joined roster x) xs) ≡ take 8 (r ++ different r xs)
-      on e = ap (λ (r : List ℕ). take 8 (r ++ different r xs)) e
+join-then : (roster : List ℕ) → Few roster → (x : ℕ) (xs : List ℕ)
+    → take 8 (joined roster x ++ different (joined roster x) xs) ≡ take 8 (roster ++ different roster (x ∷ xs))
+unfolding different
+join-then roster few x xs =
+    by-joining roster x (λ (r : List ℕ). take 8 (r ++ different r xs) ≡ take 8 (roster ++ different roster (x ∷ xs))) (λ n. rw n)
+    (λ n h.
+    let eight : length roster ≡ 8 = omega arith in
+    take-at roster (different roster xs) 8 eight ∙ sym (take-at roster (different roster (x ∷ xs)) 8 eight))
+    (λ n h. rw n (ap (take 8) (append-assoc roster (x ∷ []) (different (roster ++ x ∷ []) xs))))
 
-      by : (named most : Bool) → names roster x ≡ named → leb 8 (length roster) ≡ most
-          → take 8 (joined roster x ++ different (joined roster x) xs) ≡ take 8 (roster ++ cond named (different roster xs) (x ∷ different (roster ++ x ∷ []) xs))
-      by true most n e = on (stays-named roster x n)
-      by false true n e =
-          let all = leb-true 8 (length roster) e in
-          let eight : length roster ≡ 8 = omega arith in
-          on (stays-full roster x n all) ∙ take-at roster (different roster xs) 8 eight ∙ sym (take-at roster (x ∷ different (roster ++ x ∷ []) xs) 8 eight)
-      by false false n e =
-          on (comes-last roster x n (leb-false 8 (length roster) e)) ∙ ap (take 8) (append-assoc roster (x ∷ []) (different (roster ++ x ∷ []) xs))
-
-first-eight : (fs : List Frame) (roster : List ℕ) → length roster ≤ 8 → enlistedAll roster fs ≡ take 8 (roster ++ different roster (obsSenders fs))
+pub first-eight : (fs : List Frame) (roster : List ℕ) → Few roster → enlistedAll roster fs ≡ take 8 (roster ++ different roster (obsSenders fs))
 unfolding enlistedAll obsSenders different
 first-eight [] roster few = sym (ap (take 8) (append-nil roster) ∙ take-all 8 roster few)
 first-eight (f ∷ fs) roster few = by (eqb (f .kind) obsKind) (λ r few. first-eight fs r few)
   where
-    by : (t : Bool) → ((r : List ℕ) → length r ≤ 8 → enlistedAll r fs ≡ take 8 (r ++ different r (obsSenders fs)))
+    by : (t : Bool) → ((r : List ℕ) → Few r → enlistedAll r fs ≡ take 8 (r ++ different r (obsSenders fs)))
         → enlistedAll (cond t (joined roster (f .sender)) roster) fs ≡ take 8 (roster ++ different roster (cond t (f .sender ∷ obsSenders fs) (obsSenders fs)))
-    by true rest = rest (joined roster (f .sender)) (held-joined roster few (f .sender) .1) ∙ join-then roster few (f .sender) (obsSenders fs)
+    by true rest = rest (joined roster (f .sender)) (few-joined roster (f .sender) few) ∙ join-then roster few (f .sender) (obsSenders fs)
     by false rest = rest roster few
 
 pub roster-first : (s : List ℕ) → rosterIn s ≡ take 8 (different [] (obsSendersIn s))
@@ -70,7 +47,7 @@ roster-first s = first-eight (framesOf (closedSteps s)) [] (omega arith)
 
 -- ---- so it names senders of OBS frames, and all of them where it has room
 
-later : {b : Bool} (t : Bool) → b ≡ true → cond t true b ≡ true
+pub later : {b : Bool} (t : Bool) → b ≡ true → cond t true b ≡ true
 later true e = refl
 later false e = e
 
@@ -139,25 +116,11 @@ once-more (y ∷ xs) x once n =
     rw (unnamed-more xs x y (first .0) (ne-eqb x y (λ e. eqb-false y x (apart .0) (sym e)))) (once-more xs x (first .1) (apart .1))
 
 once-joined : (roster : List ℕ) (x : ℕ) → repeats roster ≡ false → repeats (joined roster x) ≡ false
-once-joined roster x once = by (names roster x) (leb 8 (length roster)) refl refl
-  where
-    by : (named most : Bool) → names roster x ≡ named → leb 8 (length roster) ≡ most → repeats (joined roster x) ≡ false
-    by true most n e = ap repeats (stays-named roster x n) ∙ once
-    by false true n e = ap repeats (stays-full roster x n (leb-true 8 (length roster) e)) ∙ once
-    by false false n e = ap repeats (comes-last roster x n (leb-false 8 (length roster) e)) ∙ once-more roster x once n
-
-once-enlisted : (fs : List Frame) (roster : List ℕ) → repeats roster ≡ false → repeats (enlistedAll roster fs) ≡ false
-unfolding enlistedAll
-once-enlisted [] roster once = once
-once-enlisted (f ∷ fs) roster once = once-enlisted fs (enlisted roster f) (by (eqb (f .kind) obsKind))
-  where
-    by : (t : Bool) → repeats (cond t (joined roster (f .sender)) roster) ≡ false
-    by true = once-joined roster (f .sender) once
-    by false = once
+once-joined roster x once = by-joining roster x (λ (r : List ℕ). repeats r ≡ false) (λ n. once) (λ n h. once) (λ n h. once-more roster x once n)
 
 pub roster-once : (s : List ℕ) → repeats (rosterIn s) ≡ false
-unfolding rosterIn repeats
-roster-once s = once-enlisted (framesOf (closedSteps s)) [] refl
+unfolding repeats
+roster-once s = roster-keeps (λ (r : List ℕ). repeats r ≡ false) once-joined s refl
 
 pub roster-accepted : (s : List ℕ) → (rosterIn s ≡ []) ⊎ (made (rosterIn s) .number ≡ 0)
 roster-accepted s = by (rosterIn s) refl
@@ -165,6 +128,19 @@ roster-accepted s = by (rosterIn s) refl
     by : (r : List ℕ) → rosterIn s ≡ r → (rosterIn s ≡ []) ⊎ (made (rosterIn s) .number ≡ 0)
     by [] e = inl e
     by (x ∷ xs) e = inr (ap (λ (m : Made). m .number) (sym (made-whole (rosterIn s) (omega (arith, ap length e)) (roster-few s) (roster-once s) refl)))
+
+-- an empty roster makes a collator that lists nobody
+pub lists-nobody : made [] .collator ≡ fresh []
+unfolding made
+lists-nobody = refl
+
+-- so the collator of a listing is the fresh one of its roster
+pub made-fresh : (s : List ℕ) → made (rosterIn s) .collator ≡ fresh (rosterIn s)
+made-fresh s = by (roster-accepted s)
+  where
+    by : (rosterIn s ≡ []) ⊎ (made (rosterIn s) .number ≡ 0) → made (rosterIn s) .collator ≡ fresh (rosterIn s)
+    by (inl e) = ap (λ (r : List ℕ). made r .collator) e ∙ lists-nobody ∙ ap fresh (sym e)
+    by (inr ok) = ap (λ (m : Made). m .collator) (accepted (rosterIn s) ok .whole)
 
 -- empty exactly where no frame is OBS
 pub roster-empty : (s : List ℕ) → (rosterIn s ≡ []) ↔ (obsSendersIn s ≡ [])

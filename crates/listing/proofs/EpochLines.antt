@@ -22,7 +22,7 @@ use Rattle.epochs.proofs.Collations.{epoch-told}
 use Rattle.listing.specs.Roster.{rosterIn}
 use Rattle.listing.specs.Listing.{frameLine, totalsLine, told, framesText, textOf}
 use Rattle.listing.specs.Words.{obsSendersIn, Lines, none, ending, passing}
-use Rattle.listing.proofs.Accepted.{roster-accepted, roster-empty}
+use Rattle.listing.proofs.Accepted.{roster-accepted, lists-nobody, roster-empty}
 
 -- ---- a collator that lists nobody
 
@@ -36,11 +36,6 @@ pub nobody-moves : (xs : List Item) → after (fresh []) xs ≡ fresh []
 unfolding after
 nobody-moves [] = refl
 nobody-moves (x ∷ xs) = ap (λ (f : Fed). after (f .collator) xs) (nobody-fed x .1) ∙ nobody-moves xs
-
--- an empty roster makes it
-pub lists-nobody : made [] .collator ≡ fresh []
-unfolding made
-lists-nobody = refl
 
 -- ---- after any frames, feeding one more tells of an epoch exactly when that frame ends it
 

@@ -10,6 +10,7 @@ use lib.Seq.{sets, sets-eq, length-sets}
 use borrow.Author.Tests.{le-leb, lt-leb, leb-true}
 use Rattle.wire.specs.Message.{Answer, given, refused}
 use Rattle.frames.specs.Step.{payloadIn}
+use Rattle.frames.specs.Reading.{closedSteps, framesOf}
 use Rattle.frames.specs.Cursors.{nextOf, countsIn}
 use Rattle.frames.specs.Cursors as cursors
 use Rattle.frames.specs.declared.step.Frame.{Frame}
@@ -18,36 +19,37 @@ use Rattle.frames.specs.declared.cursor.Cursor.{Cursor}
 use Rattle.frames.specs.declared.cursor.Next as Next
 use Rattle.frames.proofs.Walks.{Walking, left, walking-begun, walking-on, walking-end, end-counts}
 use Rattle.payloads.specs.Table.{answerFor}
-use Rattle.epochs.specs.Collator.{made}
+use Rattle.epochs.specs.Collator.{fresh}
 use Rattle.epochs.specs.Epoch.{fedItem, itemIn}
 use Rattle.epochs.specs.declared.collating.Collator.{Collator}
 use Rattle.epochs.specs.declared.collating.Fed.{Fed}
 use Rattle.epochs.specs.declared.collating.Happened.{Happened}
 use Rattle.text.specs.Line.{line, laid}
 use Rattle.text.proofs.Pending.{Pending, pending-begun, pending-laid, pending-done, pending-last}
-use Rattle.listing.specs.Roster.{rosterIn}
-use Rattle.listing.specs.Listing.{frameLine, totalsLine, told, framesText, textFrom, textOf, listAnswer, listedAs, listed}
+use Rattle.listing.specs.Roster.{enlistedTo}
+use Rattle.listing.specs.Listing.{frameLine, totalsLine, told, textOf, listAnswer, listedAs, listed}
+use Rattle.listing.proofs.Growing.{grownText, text-grown}
 
 -- ---- line by line
 
 reassoc : (a b c d : List ℕ) → ((a ++ b) ++ c) ++ d ≡ a ++ (b ++ (c ++ d))
 reassoc a b c d = append-assoc (a ++ b) c d ∙ append-assoc a b (c ++ d)
 
-module _ (s : List ℕ) (start : Collator) (buf : List ℕ) where
+module _ (s buf : List ℕ) where
   -- the buffer has room for the whole text
   abbrev pub Room : Type 0
-  Room = length (textFrom s start) ≤ length buf
-
-  -- the lines of the frames left, and the totals, are left to be put
-  pub record Putting (c : Collator) (now : List ℕ) (at : ℕ) (fs : List Frame) : Type 0 where
-    pub pending : Pending Room (sets buf 0 (textFrom s start)) (length (textFrom s start)) now at (framesText s c fs ++ totalsLine s)
+  Room = length (textOf s) ≤ length buf
 
   -- what is left of the text, at a place of the buffer
-  abbrev Left : List ℕ → ℕ → List ℕ → Type 0
-  Left now at rest = Pending Room (sets buf 0 (textFrom s start)) (length (textFrom s start)) now at rest
+  abbrev pub Left : List ℕ → ℕ → List ℕ → Type 0
+  Left now at rest = Pending Room (sets buf 0 (textOf s)) (length (textOf s)) now at rest
 
-  room : Room → length (textFrom s start) ≤ length (sets buf 0 (textFrom s start))
-  room h = omega (arith, h, length-sets buf 0 (textFrom s start))
+  -- the lines of the frames left, whose senders are enlisted as they come, and the totals are left to be put
+  pub record Putting (c : Collator) (now : List ℕ) (at : ℕ) (fs : List Frame) : Type 0 where
+    pub pending : Left now at (grownText s c fs ++ totalsLine s)
+
+  room : Room → length (textOf s) ≤ length (sets buf 0 (textOf s))
+  room h = omega (arith, h, length-sets buf 0 (textOf s))
 
   abbrev shown : Frame → ℕ → List ℕ
   shown f answer = line 0x46 (f .at ∷ f .kind ∷ f .sender ∷ f .length ∷ answer ∷ [])
@@ -55,38 +57,39 @@ module _ (s : List ℕ) (start : Collator) (buf : List ℕ) where
   abbrev summed : Counts → List ℕ
   summed k = line 0x54 (length s ∷ k .framed ∷ k .junk ∷ k .bad ∷ k .short ∷ [])
 
-  module _ (small : length s < 2 ^ 64) (short : length (textFrom s start) < 2 ^ 64) where
-    pub putting-begun : {c : Cursor} → c ≡ cursors.begun false → Walking s (Putting start buf 0) c
-    putting-begun b =
-        let zero-more : 0 + length (textFrom s start) ≡ length (textFrom s start) = omega arith in
-        walking-begun s small (Putting start buf 0)
-        (record { pending = subst (λ (end : ℕ). Pending Room (sets buf 0 (textFrom s start)) end buf 0 (textFrom s start)) zero-more (pending-begun Room buf 0 (textFrom s start)) }) b
+  module _ (small : length s < 2 ^ 64) (short : length (textOf s) < 2 ^ 64) where
+    pub putting-begun : {c : Collator} {cur : Cursor} → c ≡ fresh [] → cur ≡ cursors.begun false → Walking s (Putting c buf 0) cur
+    putting-begun {c} e b =
+        let zero-more : 0 + length (textOf s) ≡ length (textOf s) = omega arith in
+        let all = subst (λ (end : ℕ). Pending Room (sets buf 0 (textOf s)) end buf 0 (textOf s)) zero-more (pending-begun Room buf 0 (textOf s)) in
+        let same = ap (λ (c : Collator). grownText s c (framesOf (closedSteps s))) e ∙ text-grown s in
+        walking-begun s small (Putting c buf 0) (record { pending = subst (λ (t : List ℕ). Left buf 0 (t ++ totalsLine s)) (sym same) all }) b
 
     -- a frame's line, then the line of the epoch that it ends
-    pub putting-on : {c : Collator} {now : List ℕ} {at : ℕ} {cur d : Cursor} {f : Frame} {answer : ℕ} {fed : Fed} {mid after : List ℕ} {between to : ℕ}
+    pub putting-on : {c seated : Collator} {now : List ℕ} {at : ℕ} {cur d : Cursor} {f : Frame} {answer : ℕ} {fed : Fed} {mid after : List ℕ} {between to : ℕ}
         → Walking s (Putting c now at) cur → nextOf s cur ≡ Next.the-variants.Frame f d → answer ≡ answerFor (f .kind) (payloadIn s f)
         → between ≡ (at + length (line 0x46 (f .at ∷ f .kind ∷ f .sender ∷ f .length ∷ answer ∷ []))) % 2 ^ 64
-        → mid ≡ laid now at (line 0x46 (f .at ∷ f .kind ∷ f .sender ∷ f .length ∷ answer ∷ [])) → fed ≡ fedItem c (itemIn s f)
+        → mid ≡ laid now at (line 0x46 (f .at ∷ f .kind ∷ f .sender ∷ f .length ∷ answer ∷ [])) → seated ≡ enlistedTo c f → fed ≡ fedItem seated (itemIn s f)
         → to ≡ (between + length (told (fed .happened))) % 2 ^ 64 → after ≡ laid mid between (told (fed .happened)) → Walking s (Putting (fed .collator) after to) d
-    unfolding framesText
-    putting-on {c} {now} {at} {d = d} {f} {answer} {fed} {mid} {after} {between} {to} w e a q1 e1 k q2 e2 =
+    unfolding grownText
+    putting-on {c} {now = now} {at} {d = d} {f} {answer} {fed} {mid} {after} {between} {to} w e a q1 e1 j k q2 e2 =
         walking-on s small w e
         (λ p.
         let rest = totalsLine s in
-        let h = fedItem c (itemIn s f) in
-        let parts = subst (Left now at) (reassoc (frameLine s f) (told (h .happened)) (framesText s (h .collator) (left s d)) rest) (p .pending) in
-        let fed-parts = subst (λ (x : Fed). Left now at (frameLine s f ++ (told (x .happened) ++ (framesText s (x .collator) (left s d) ++ rest)))) (sym k) parts in
-        let all-parts = subst (λ (n : ℕ). Left now at (shown f n ++ (told (fed .happened) ++ (framesText s (fed .collator) (left s d) ++ rest)))) (sym a) fed-parts in
-        let first = pending-laid (shown f answer) (told (fed .happened) ++ (framesText s (fed .collator) (left s d) ++ rest)) all-parts short room e1 q1 in
-        record { pending = pending-laid (told (fed .happened)) (framesText s (fed .collator) (left s d) ++ rest) first short room e2 q2 })
+        let h = fedItem (enlistedTo c f) (itemIn s f) in
+        let parts = subst (Left now at) (reassoc (frameLine s f) (told (h .happened)) (grownText s (h .collator) (left s d)) rest) (p .pending) in
+        let fed-parts = subst (λ (x : Fed). Left now at (frameLine s f ++ (told (x .happened) ++ (grownText s (x .collator) (left s d) ++ rest)))) (sym (k ∙ ap (λ (c : Collator). fedItem c (itemIn s f)) j)) parts in
+        let all-parts = subst (λ (n : ℕ). Left now at (shown f n ++ (told (fed .happened) ++ (grownText s (fed .collator) (left s d) ++ rest)))) (sym a) fed-parts in
+        let first = pending-laid (shown f answer) (told (fed .happened) ++ (grownText s (fed .collator) (left s d) ++ rest)) all-parts short room e1 q1 in
+        record { pending = pending-laid (told (fed .happened)) (grownText s (fed .collator) (left s d) ++ rest) first short room e2 q2 })
 
     -- the totals
     pub putting-end : {c : Collator} {now : List ℕ} {at : ℕ} {cur d : Cursor} {k : Counts} {after : List ℕ} {to : ℕ}
         → Walking s (Putting c now at) cur → nextOf s cur ≡ Next.the-variants.End d → k ≡ countsIn d
         → to ≡ (at + length (line 0x54 (length s ∷ k .framed ∷ k .junk ∷ k .bad ∷ k .short ∷ []))) % 2 ^ 64
         → after ≡ laid now at (line 0x54 (length s ∷ k .framed ∷ k .junk ∷ k .bad ∷ k .short ∷ []))
-        → (to ≡ length (textFrom s start)) × (Room → after ≡ sets buf 0 (textFrom s start))
-    unfolding framesText
+        → (to ≡ length (textOf s)) × (Room → after ≡ sets buf 0 (textOf s))
+    unfolding grownText
     putting-end {now = now} {at} {k = k} w e q place stored =
         let counts = q ∙ end-counts s small (w .honest) e in
         let all = subst (λ (x : Counts). Left now at (summed x)) (sym counts) (walking-end s small w e .pending) in
@@ -133,30 +136,19 @@ module _ (s buf : List ℕ) where
         answered : refused 32 ≡ listAnswer s (length buf)
         answered = rw (le-leb (length s) 65536 short, e)
 
-    pub all-listed : leb (length (textOf s)) (length buf) ≡ true → {after : List ℕ} → after ≡ sets buf 0 (textOf s) → Listed (given (length (textOf s))) after
+    pub all-listed : {n : ℕ} {after : List ℕ} → leb (length (textOf s)) (length buf) ≡ true → n ≡ length (textOf s) → (Room s buf → after ≡ sets buf 0 (textOf s))
+        → Listed (given n) after
     unfolding listAnswer
-    all-listed e {after} q = (answered, q ∙ stored ∙ ap (λ (a : Answer ℕ). listedAs a s buf) answered)
+    all-listed {after = after} e size put =
+        subst (λ (k : ℕ). Listed (given k) after) (sym size) (answered, put fits ∙ stored ∙ ap (λ (a : Answer ℕ). listedAs a s buf) answered)
       where
+        fits : Room s buf
+        fits = leb-true (length (textOf s)) (length buf) e
+
         answered : given (length (textOf s)) ≡ listAnswer s (length buf)
         answered = rw (le-leb (length s) 65536 short, e)
 
         stored : sets buf 0 (textOf s) ≡ textOf s ++ drop (length (textOf s)) buf
         stored =
             let zero-more : 0 + length (textOf s) ≡ length (textOf s) = omega arith in
-            sets-eq (textOf s) buf 0 (omega (arith, leb-true (length (textOf s)) (length buf) e)) ∙ ap (λ (n : ℕ). textOf s ++ drop n buf) zero-more
-
-    -- the same of the collator that was started
-    module _ {start : Collator} (begun : start ≡ made (rosterIn s) .collator) where
-      same : textFrom s start ≡ textOf s
-      same = ap (textFrom s) begun
-
-      pub started-no-room : {t : Bool} → t ≡ leb (length (textFrom s start)) (length buf) → t ≡ false → Listed (refused 32) buf
-      started-no-room e q = no-room (ap (λ (text : List ℕ). leb (length text) (length buf)) (sym same) ∙ sym e ∙ q)
-
-      pub started-listed : {t : Bool} {n : ℕ} {after : List ℕ} → t ≡ leb (length (textFrom s start)) (length buf) → t ≡ true → n ≡ length (textFrom s start)
-          → (length (textFrom s start) ≤ length buf → after ≡ sets buf 0 (textFrom s start)) → Listed (given n) after
-      started-listed {n = n} {after} e q size stored =
-          let fits = sym e ∙ q in
-          let put = stored (leb-true (length (textFrom s start)) (length buf) fits) ∙ ap (sets buf 0) same in
-          let whole = all-listed (ap (λ (text : List ℕ). leb (length text) (length buf)) (sym same) ∙ fits) put in
-          subst (λ (k : ℕ). Listed (given k) after) (sym (size ∙ ap length same)) whole
+            sets-eq (textOf s) buf 0 (omega (arith, fits)) ∙ ap (λ (n : ℕ). textOf s ++ drop n buf) zero-more

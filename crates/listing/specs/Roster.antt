@@ -4,14 +4,14 @@ use Prim.Native.Nat.{ℕ, _+_}
 use mathlib.Core.Bool.{cond}
 use mathlib.Core.List.{List, [], _∷_, _++_}
 use lib.Dec.{eqb, leb, ltb}
-use lib.ListN.{length, set, take, replicate}
+use lib.ListN.{length, set}
 use Rattle.frames.specs.Reading.{closedSteps, framesOf}
 use Rattle.frames.specs.declared.step.Frame.{Frame}
 use Rattle.epochs.specs.Packet.{obsKind, seatOf}
-use Rattle.epochs.specs.Collator.{names}
+use Rattle.epochs.specs.Collator.{names, rosterOf}
 use Rattle.epochs.specs.declared.judging.Seat.{Seat}
 use Rattle.epochs.specs.declared.judging.Seat.the-variants.{At, Nowhere}
-use Rattle.listing.specs.declared.rostering.Roster.{Roster}
+use Rattle.epochs.specs.declared.collating.Collator.{Collator}
 
 -- a sender that is not listed yet comes last, while there is room
 unfoldable pub joined : List ℕ → ℕ → List ℕ
@@ -30,17 +30,14 @@ unfoldable pub rosterIn : List ℕ → List ℕ
 unfolding enlistedAll
 rosterIn s = enlistedAll [] (framesOf (closedSteps s))
 
--- ---- the same in eight places, of which the first are taken
+-- ---- the same of a collator's seats, of which the first are taken
 
-abbrev pub held : List ℕ → Roster
-held roster = record { senders = take 8 (roster ++ replicate 8 0); count = length roster }
+abbrev pub seatedIn : Seat → Collator → ℕ → Collator
+seatedIn (At i) c sender = c
+seatedIn Nowhere c sender = cond (leb 8 (c .count)) c (record { places = c .places; roster = set (c .roster) (c .count) sender; count = c .count + 1 })
 
-abbrev pub seatedIn : Seat → Roster → ℕ → Roster
-seatedIn (At i) r sender = r
-seatedIn Nowhere r sender = cond (leb 8 (r .count)) r (record { senders = set (r .senders) (r .count) sender; count = r .count + 1 })
+abbrev pub joinedTo : Collator → ℕ → Collator
+joinedTo c sender = seatedIn (seatOf (rosterOf c) sender 0) c sender
 
-abbrev pub joinedTo : Roster → ℕ → Roster
-joinedTo r sender = seatedIn (seatOf (take (r .count) (r .senders)) sender 0) r sender
-
-abbrev pub enlistedTo : Roster → Frame → Roster
-enlistedTo r f = cond (eqb (f .kind) obsKind) (joinedTo r (f .sender)) r
+abbrev pub enlistedTo : Collator → Frame → Collator
+enlistedTo c f = cond (eqb (f .kind) obsKind) (joinedTo c (f .sender)) c

@@ -7,9 +7,9 @@ ghost use lib.ListN.{length};
 ghost use lib.Seq.{sets};
 ghost use Rattle.frames.specs.Writer.{writtenAnswer};
 ghost use Rattle.text.specs.Line.{line, laid};
-ghost use Rattle.listing.specs.Listing.{told, textFrom, listAnswer, listed};
-use crate::rostering::started;
-use epochs::Collator;
+ghost use Rattle.listing.specs.Listing.{told, textOf, listAnswer, listed};
+use crate::rostering::enlisted;
+use crate::rostering::nobody;
 use epochs::Happened;
 use frames::Counts;
 use frames::Cursor;
@@ -80,14 +80,14 @@ fn put_totals(buf: &mut [u8], at: usize, n: usize, c: Counts) -> usize
     )
 }
 
-// The text of a capture whose frames are fed to a collator, in a buffer that may be too short for it; and its length.
-fn put_text(s: &[u8], start: Collator, buf: &mut [u8]) -> usize
-    requires { ⌜ length (textFrom (now s) start) < 2 ^ 64 ⌝ }
-    ensures { λ r. ⌜ r ≡ length (textFrom (now (s .entry)) start) ⌝ }
-    ensures { λ _. ⌜ (length (textFrom (now (s .entry)) start) ≤ length (now (buf .entry)) → now (buf .exit) ≡ sets (now (buf .entry)) 0 (textFrom (now (s .entry)) start)) ⌝ }
+// The text of a capture, in a buffer that may be too short for it; and its length. A sender has its seat before its frame is fed.
+fn put_text(s: &[u8], buf: &mut [u8]) -> usize
+    requires { ⌜ length (textOf (now s)) < 2 ^ 64 ⌝ }
+    ensures { λ r. ⌜ r ≡ length (textOf (now (s .entry))) ⌝ }
+    ensures { λ _. ⌜ (length (textOf (now (s .entry))) ≤ length (now (buf .entry)) → now (buf .exit) ≡ sets (now (buf .entry)) 0 (textOf (now (s .entry)))) ⌝ }
 {
     let mut at = 0;
-    let mut collator = start;
+    let mut collator = nobody();
     let mut cursor = Cursor::closed();
     loop {
         let next = cursor.next(s);
@@ -95,7 +95,8 @@ fn put_text(s: &[u8], start: Collator, buf: &mut [u8]) -> usize
             Next::Frame(frame, rest) => {
                 let payload = frames::payload(s, frame);
                 at = put_frame(buf, at, frame, payloads::answer(frame.kind, payload));
-                let fed = collator.feed(frame.kind, frame.sender, payload);
+                let seated = enlisted(collator, frame);
+                let fed = seated.feed(frame.kind, frame.sender, payload);
                 let happened = fed.happened;
                 at = put_told(buf, at, happened);
                 collator = fed.collator;
@@ -112,15 +113,15 @@ fn put_text(s: &[u8], start: Collator, buf: &mut [u8]) -> usize
 }
 
 // Whether the text has room. A buffer of eight bytes for each of the capture's and 32 more has it always.
-fn fits(s: &[u8], start: Collator, room: usize) -> bool
+fn fits(s: &[u8], room: usize) -> bool
     requires { ⌜ length (now s) ≤ 65536 ⌝ }
-    ensures { λ r. ⌜ r ≡ leb (length (textFrom (now (s .entry)) start)) room ⌝ }
+    ensures { λ r. ⌜ r ≡ leb (length (textOf (now (s .entry)))) room ⌝ }
 {
     if s.len() * 8 + 32 <= room {
         return true;
     }
     let mut nowhere = [0u8; 1];
-    put_text(s, start, &mut nowhere) <= room
+    put_text(s, &mut nowhere) <= room
 }
 
 // The listing of a capture: 11 for one over 65536 bytes, then 32.
@@ -131,9 +132,8 @@ pub fn list(s: &[u8], buf: &mut [u8]) -> Written
     if 65536 < s.len() {
         return Written::Refused(11);
     }
-    let start = started(s);
-    if fits(s, start, buf.len()) {
-        return Written::Bytes(put_text(s, start, buf));
+    if fits(s, buf.len()) {
+        return Written::Bytes(put_text(s, buf));
     }
     Written::Refused(32)
 }

@@ -1,81 +1,49 @@
-// Whose epochs a listing shows: the first eight different senders of OBS frames.
+// Whose epochs a listing shows: the first eight different senders of OBS frames. A collator takes them on as their frames come.
 ghost use mathlib.Core.Path.{_≡_};
-ghost use Rattle.epochs.specs.Collator.{made};
-ghost use Rattle.listing.specs.Roster.{rosterIn, held, joinedTo, enlistedTo};
+ghost use mathlib.Core.List.{[]};
+ghost use Rattle.epochs.specs.Collator.{fresh};
+ghost use Rattle.listing.specs.Roster.{joinedTo, enlistedTo};
 use epochs::Collator;
+use epochs::Place;
+use epochs::Run;
 use epochs::Seat;
-use frames::Cursor;
 use frames::Frame;
-use frames::Next;
 
-// Eight places for senders, of which the first count are taken.
-pub struct Roster {
-    pub senders: [u16; 8],
-    pub count: usize,
+// A collator that lists nobody yet.
+pub fn nobody() -> Collator
+    ensures { λ r. ⌜ r ≡ fresh [] ⌝ }
+{
+    Collator {
+        places: [Place { run: Run::Idle }; 8],
+        roster: [0u16; 8],
+        count: 0,
+    }
 }
 
-// A sender that is not listed yet comes last, while there is room.
-fn joined(roster: Roster, sender: u16) -> Roster
-    ensures { λ r. ⌜ r ≡ joinedTo roster sender ⌝ }
+// A sender that has no seat yet gets the next one, while there is room.
+fn joined(collator: Collator, sender: u16) -> Collator
+    ensures { λ r. ⌜ r ≡ joinedTo collator sender ⌝ }
 {
-    let senders = roster.senders;
-    let count = roster.count;
-    let Seat::Nowhere = epochs::seat_of(senders, count, sender) else {
-        return roster;
+    let roster = collator.roster;
+    let count = collator.count;
+    let Seat::Nowhere = epochs::seat_of(roster, count, sender) else {
+        return collator;
     };
     if 8 <= count {
-        return roster;
+        return collator;
     }
-    let mut more = senders;
-    more[count] = sender;
-    Roster {
-        senders: more,
-        count: count + 1,
-    }
+    let mut more = collator;
+    more.roster[count] = sender;
+    more.count = count + 1;
+    more
 }
 
-fn enlisted(roster: Roster, frame: Frame) -> Roster
-    ensures { λ r. ⌜ r ≡ enlistedTo roster frame ⌝ }
+// The sender of an OBS frame joins.
+pub fn enlisted(collator: Collator, frame: Frame) -> Collator
+    ensures { λ r. ⌜ r ≡ enlistedTo collator frame ⌝ }
 {
     if frame.kind == 0x0049 {
-        return joined(roster, frame.sender);
+        return joined(collator, frame.sender);
     }
-    roster
-}
-
-// The roster of a capture, read closed.
-fn roster_in(s: &[u8]) -> Roster
-    ensures { λ r. ⌜ r ≡ held (rosterIn (now (s .entry))) ⌝ }
-{
-    let mut roster = Roster {
-        senders: [0u16; 8],
-        count: 0,
-    };
-    let mut cursor = Cursor::closed();
-    loop {
-        let next = cursor.next(s);
-        match next {
-            Next::Frame(frame, rest) => {
-                roster = enlisted(roster, frame);
-                cursor = rest;
-            }
-            Next::End(_) => {
-                return roster;
-            }
-            Next::Needs(_, _) => {
-                return roster;
-            }
-        }
-    }
-}
-
-// A fresh collator of that roster; where it is empty, one that lists nobody.
-pub fn started(s: &[u8]) -> Collator
-    ensures { λ r. ⌜ r ≡ made (rosterIn (now (s .entry))) .collator ⌝ }
-{
-    let roster = roster_in(s);
-    let senders = roster.senders;
-    let count = roster.count;
-    let made = Collator::made(&senders[0..count]);
-    made.collator
+    collator
 }

@@ -1,6 +1,9 @@
 -- `listing::listing::list` meets its contract.
+use mathlib.Core.Path.{sym, _∙_}
 use native.Mathlib.Omega.{arith}
-use Rattle.listing.proofs.Texts.{too-long, started-no-room, started-listed}
+use Rattle.epochs.specs.Collator.{made}
+use Rattle.listing.specs.Roster.{rosterIn}
+use Rattle.listing.proofs.Texts.{too-long, no-room, all-listed}
 use Rattle.listing.proofs.Sizes.{text-size}
 use borrow.Author.Needs.{needs}
 use Rattle.listing.proofs.listing.list.Statement.{statement}
@@ -9,40 +12,30 @@ use Rattle.listing.proofs.listing.list.Tie as tie
 returns : tie.Need-returns
 returns c = let a = c .before .before .before .args in too-long (a .s .now) (a .buf .now) (c .if1 .taken)
 
-started-requires : tie.Need-started-requires
-started-requires c κs = search needs
-
 fits-requires : tie.Need-fits-requires
 fits-requires c κs = search needs
 
 put-text-requires : tie.Need-put-text-requires
 put-text-requires c κs =
-    let a = c .before .before .before .before .before .before .before in
-    let short = c .before .before .before .before .if1 .left in
-    omega (arith, text-size (a .args .s .now) (λ i. c .before .before .before .before .before .before .shared-slice-known .given i .fits) short (c .before .before .before .started .result), short)
+    let s = c .before .before .before .before .before .before .args .s .now in
+    let short = c .before .before .before .if1 .left in
+    omega (arith, text-size s (λ i. c .before .before .before .before .before .shared-slice-known .given i .fits) short (made (rosterIn s) .collator), short)
 
 same-length : tie.Need-same-length
 same-length c = search needs
 
 returns-2 : tie.Need-returns-2
 returns-2 c =
-    let a = c .before .before .before .before .before .before .before .before .before .before .args in
+    let a = c .before .before .before .before .before .before .before .before .before .args in
     let at = c .before .before .before .before in
-    started-listed (a .s .now) (a .buf .now) (at .before .before .before .if1 .left) (at .before .before .started .ensures) (at .before .fits2 .ensures) (at .if2 .taken) (c .before .before .put-text .ensures .0) (c .before .before .put-text .ensures .1)
+    all-listed (a .s .now) (a .buf .now) (at .before .before .if1 .left) (sym (at .before .fits2 .ensures) ∙ at .if2 .taken) (c .before .before .put-text .ensures .0) (c .before .before .put-text .ensures .1)
 
 returns-3 : tie.Need-returns-3
 returns-3 c =
-    let a = c .before .before .before .before .before .before .args in
-    started-no-room (a .s .now) (a .buf .now) (c .before .before .before .if1 .left) (c .before .before .started .ensures) (c .before .fits2 .ensures) (c .if2 .left)
+    let a = c .before .before .before .before .before .args in
+    no-room (a .s .now) (a .buf .now) (c .before .before .if1 .left) (sym (c .before .fits2 .ensures) ∙ c .if2 .left)
 
 pub list-spec : {M : Type 1} → statement M
 list-spec =
     tie.close
-    (tie.spec
-    returns
-    started-requires
-    fits-requires
-    put-text-requires
-    same-length
-    returns-2
-    returns-3)
+    (tie.spec returns fits-requires put-text-requires same-length returns-2 returns-3)

@@ -7,24 +7,27 @@ use lib.Seq.{length-sets}
 use Rattle.frames.proofs.Walks.{Walking, left, left-fewer, never-needs}
 use Rattle.payloads.specs.Table.{answerFor}
 use Rattle.epochs.specs.Collator.{fed}
-use Rattle.listing.specs.Listing.{textFrom}
+use Rattle.listing.specs.Listing.{textOf}
 use Rattle.listing.proofs.Texts.{Putting, putting-begun, putting-on, putting-end}
 use Rattle.listing.proofs.listing.put_text.Statement.{statement}
 use Rattle.listing.proofs.listing.put_text.Tie as tie
 
 abbrev Inv-loop : tie.InvT-loop
-Inv-loop s buf₀ at₀ collator₀ cursor₀ buf at collator cursor = Walking s (Putting s collator₀ buf₀ collator buf at) cursor
+Inv-loop s buf₀ at₀ collator₀ cursor₀ buf at collator cursor = Walking s (Putting s buf₀ collator buf at) cursor
 
 abbrev μ-loop : tie.MeasureT-loop
 μ-loop s buf₀ at₀ collator₀ cursor₀ buf at collator cursor = length (left s cursor)
+
+nobody-requires : tie.Need-nobody-requires Inv-loop μ-loop
+nobody-requires c κs = search needs
 
 closed-requires : tie.Need-closed-requires Inv-loop μ-loop
 closed-requires c κs = search needs
 
 loop-holds : tie.Need-loop-holds Inv-loop μ-loop
 loop-holds c =
-    let a = c .before .before .before in
-    putting-begun (a .args .s .now) (a .args .start) (a .args .buf .now) (a .good .0 .0) (a .pre) (c .closed .ensures)
+    let a = c .before .before .before .before in
+    putting-begun (a .args .s .now) (a .args .buf .now) (a .good .0 .0) (a .pre) (c .before .nobody .ensures) (c .closed .ensures)
 
 next-requires : tie.Need-next-requires Inv-loop μ-loop
 next-requires c κs = search needs
@@ -41,6 +44,9 @@ answer-requires c κs = search needs
 put-frame-requires : tie.Need-put-frame-requires Inv-loop μ-loop
 put-frame-requires c κs = search needs
 
+enlisted-requires : tie.Need-enlisted-requires Inv-loop μ-loop
+enlisted-requires c κs = search needs
+
 feed-requires : tie.Need-feed-requires Inv-loop μ-loop
 feed-requires c κs = search needs
 
@@ -49,21 +55,22 @@ put-told-requires c κs = search needs
 
 loop-less : tie.Need-loop-less Inv-loop μ-loop
 loop-less c =
-    let at = c .before .before .before .before .before .before .before .before .before .before .before .before .before .before .before in
-    let a = at .before .before .before .before .before in
-    left-fewer (a .args .s .now) (a .good .0 .0) (at .before .loop .inv .honest) (sym (at .next .ensures) ∙ c .before .before .before .before .before .before .before .before .before .before .before .before .before .next2 .given .1)
+    let at = c .before .before .before .before .before .before .before .before .before .before .before .before .before .before .before .before in
+    let a = at .before .before .before .before .before .before in
+    left-fewer (a .args .s .now) (a .good .0 .0) (at .before .loop .inv .honest) (sym (at .next .ensures) ∙ c .before .before .before .before .before .before .before .before .before .before .before .before .before .before .next2 .given .1)
 
 loop-again : tie.Need-loop-again Inv-loop μ-loop
 loop-again c =
-    let at = c .before .before .before .before .before .before .before .before .before .before .before .before .before .before .before in
-    let a = at .before .before .before .before .before in
-    let frame = c .before .before .before .before .before .before .before .before .before .before .before .before .before .next2 .given in
-    let payload = c .before .before .before .before .before .before .before .before .before .before .before .payload .ensures in
-    let answer = c .before .before .before .before .before .before .before .before .before .answer .ensures ∙ ap (answerFor (frame .0 .0 .kind)) payload in
-    let fed-on = c .before .before .before .before .before .feed .ensures ∙ ap (fed (at .before .loop .collator) (frame .0 .0 .kind) (frame .0 .0 .sender)) payload in
-    let put = c .before .before .before .before .before .before .before .before .put-frame .ensures in
+    let at = c .before .before .before .before .before .before .before .before .before .before .before .before .before .before .before .before in
+    let a = at .before .before .before .before .before .before in
+    let frame = c .before .before .before .before .before .before .before .before .before .before .before .before .before .before .next2 .given in
+    let payload = c .before .before .before .before .before .before .before .before .before .before .before .before .payload .ensures in
+    let answer = c .before .before .before .before .before .before .before .before .before .before .answer .ensures ∙ ap (answerFor (frame .0 .0 .kind)) payload in
+    let seated = c .before .before .before .before .before .before .enlisted in
+    let fed-on = c .before .before .before .before .before .feed .ensures ∙ ap (fed (seated .result) (frame .0 .0 .kind) (frame .0 .0 .sender)) payload in
+    let put = c .before .before .before .before .before .before .before .before .before .put-frame .ensures in
     let said = c .before .before .before .put-told .ensures in
-    putting-on (a .args .s .now) (a .args .start) (a .args .buf .now) (a .good .0 .0) (a .pre) (at .before .loop .inv) (sym (at .next .ensures) ∙ frame .1) answer (put .0) (put .1) fed-on (said .0) (said .1)
+    putting-on (a .args .s .now) (a .args .buf .now) (a .good .0 .0) (a .pre) (at .before .loop .inv) (sym (at .next .ensures) ∙ frame .1) answer (put .0) (put .1) (seated .ensures) fed-on (said .0) (said .1)
 
 enum-known-next-2 : tie.Need-enum-known-next-2 Inv-loop μ-loop
 enum-known-next-2 c = search needs
@@ -75,24 +82,28 @@ put-totals-requires : tie.Need-put-totals-requires Inv-loop μ-loop
 put-totals-requires c κs = search needs
 
 same-length : tie.Need-same-length Inv-loop μ-loop
-same-length c = omega (arith, c .before .before .put-totals .kept, c .before .before .before .before .before .before .before .before .before .loop .inv .rest .pending .size, length-sets (c .before .before .before .before .before .before .before .before .before .before .before .before .before .args .buf .now) 0 (textFrom (c .before .before .before .before .before .before .before .before .before .before .before .before .before .args .s .now) (c .before .before .before .before .before .before .before .before .before .before .before .before .before .args .start)))
+same-length c =
+    let a = c .before .before .before .before .before .before .before .before .before .before .before .before .before .before .args in
+    omega (arith, c .before .before .put-totals .kept, c .before .before .before .before .before .before .before .before .before .loop .inv .rest .pending .size, length-sets (a .buf .now) 0 (textOf (a .s .now)))
 
 returns : tie.Need-returns Inv-loop μ-loop
 returns c =
     let at = c .before .before .before .before .before .before .before .before in
-    let a = at .before .before .before .before .before in
-    putting-end (a .args .s .now) (a .args .start) (a .args .buf .now) (a .good .0 .0) (a .pre) (at .before .loop .inv) (sym (at .next .ensures) ∙ c .before .before .before .before .before .before .next3 .given .1) (c .before .before .before .counts .ensures) (c .before .before .put-totals .ensures .0) (c .before .before .put-totals .ensures .1)
+    let a = at .before .before .before .before .before .before in
+    putting-end (a .args .s .now) (a .args .buf .now) (a .good .0 .0) (a .pre) (at .before .loop .inv) (sym (at .next .ensures) ∙ c .before .before .before .before .before .before .next3 .given .1) (c .before .before .before .counts .ensures) (c .before .before .put-totals .ensures .0) (c .before .before .put-totals .ensures .1)
 
 enum-told : tie.Need-enum-told Inv-loop μ-loop
 enum-told c = search needs
 
 same-length-2 : tie.Need-same-length-2 Inv-loop μ-loop
-same-length-2 c = omega (arith, c .before .before .before .loop .inv .rest .pending .size, length-sets (c .before .before .before .before .before .before .before .args .buf .now) 0 (textFrom (c .before .before .before .before .before .before .before .args .s .now) (c .before .before .before .before .before .before .before .args .start)))
+same-length-2 c =
+    let a = c .before .before .before .before .before .before .before .before .args in
+    omega (arith, c .before .before .before .loop .inv .rest .pending .size, length-sets (a .buf .now) 0 (textOf (a .s .now)))
 
 returns-2 : tie.Need-returns-2 Inv-loop μ-loop
 returns-2 c =
     let at = c .before .before in
-    let a = at .before .before .before .before .before in
+    let a = at .before .before .before .before .before .before in
     absurd (never-needs (a .args .s .now) (a .good .0 .0) (at .before .loop .inv .honest) (sym (at .next .ensures) ∙ c .enum-told .given .1))
 
 pub put-text-spec : {M : Type 1} → statement M
@@ -101,6 +112,7 @@ put-text-spec =
     (tie.spec
     Inv-loop
     μ-loop
+    nobody-requires
     closed-requires
     loop-holds
     next-requires
@@ -108,6 +120,7 @@ put-text-spec =
     payload-requires
     answer-requires
     put-frame-requires
+    enlisted-requires
     feed-requires
     put-told-requires
     loop-less

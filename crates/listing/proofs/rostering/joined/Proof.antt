@@ -1,5 +1,6 @@
 -- `listing::rostering::joined` meets its contract.
-use Rattle.listing.proofs.Rosters.{joined-listed, joined-full, joined-last}
+use mathlib.Core.Path.{sym, _∙_}
+use Rattle.listing.proofs.Seats.{joins-listed, joins-full, joins-last}
 use borrow.Author.Needs.{needs}
 use Rattle.listing.proofs.rostering.joined.Statement.{statement}
 use Rattle.listing.proofs.rostering.joined.Tie as tie
@@ -14,22 +15,22 @@ enum-told-2 : tie.Need-enum-told-2
 enum-told-2 c = search needs
 
 returns : tie.Need-returns
-returns c = let a = c .before .before .before .before .args in joined-listed (a .roster) (a .sender) (c .before .before .seat-of .ensures) (c .enum-told2 .given .1)
+returns c = let a = c .before .before .before .before .args in joins-listed (a .collator) (a .sender) (sym (c .before .before .seat-of .ensures) ∙ c .enum-told2 .given .1)
 
 returns-2 : tie.Need-returns-2
-returns-2 c = let a = c .before .before .before .before .before .args in joined-full (a .roster) (a .sender) (c .before .before .before .seat-of .ensures) (c .before .enum-told .given .1) (c .if1 .taken)
+returns-2 c = let a = c .before .before .before .before .before .args in joins-full (a .collator) (a .sender) (sym (c .before .before .before .seat-of .ensures) ∙ c .before .enum-told .given .1) (c .if1 .taken)
 
 mul-more : tie.Need-mul-more
 mul-more c = search needs
 
-array-write-more : tie.Need-array-write-more
-array-write-more c = search needs
+element-write-more : tie.Need-element-write-more
+element-write-more c = search needs
 
-add-t8 : tie.Need-add-t8
-add-t8 c = search needs
+add-more : tie.Need-add-more
+add-more c = search needs
 
 returns-3 : tie.Need-returns-3
-returns-3 c = let a = c .before .before .before .before .before .args in joined-last (a .roster) (a .sender) (c .before .before .before .seat-of .ensures) (c .before .enum-told .given .1) (c .if1 .left)
+returns-3 c = let a = c .before .before .before .before .before .args in joins-last (a .collator) (a .sender) (sym (c .before .before .before .seat-of .ensures) ∙ c .before .enum-told .given .1) (c .if1 .left)
 
 pub joined-spec : {M : Type 1} → statement M
 joined-spec =
@@ -41,6 +42,6 @@ joined-spec =
     returns
     returns-2
     mul-more
-    array-write-more
-    add-t8
+    element-write-more
+    add-more
     returns-3)
