@@ -7,14 +7,10 @@
 #include <string.h>
 #include <time.h>
 
-/* The twin has our names: it gets its own here. Being of this file, it may be compiled into the loops that call it. */
-#define sbp_counts twin_counts
-#define sbp_crc twin_crc
-#define sbp_answer twin_answer
-#define sbp_feed twin_feed
-#define sbp_list twin_list
-#include "../ctwin/fast.c"
+/* Every side is a library: what it exports is called and not compiled into the loops here. */
+#include "twin.h"
 #undef sbp_counts
+#undef sbp_collator
 #undef sbp_crc
 #undef sbp_answer
 #undef sbp_feed
@@ -27,7 +23,9 @@ uint16_t rust_crc(const uint8_t *bytes, size_t n);
 uint16_t rust_crc_sliced(const uint8_t *bytes, size_t n);
 void rust_closed(const uint8_t *capture, size_t n, uint64_t counts[4]);
 void rust_closed_sliced(const uint8_t *capture, size_t n, uint64_t counts[4]);
-void rust_feed(const uint8_t *capture, size_t n, uint64_t sums[4]);
+struct rust_collator *rust_collator(const uint16_t *roster, size_t n);
+void rust_collator_free(struct rust_collator *collator);
+uint8_t rust_feed(struct rust_collator *collator, uint16_t type, uint16_t sender, const uint8_t *payload, size_t n, struct sbp_report *report);
 const uint8_t *rust_list(const uint8_t *capture, size_t n, uint64_t *size);
 
 enum { OURS, C, RUST, SLICED, SIDES, ROUNDS_MAX = 99, ROOM = 8 * SBP_INPUT_MAX + 32 };
@@ -82,7 +80,6 @@ static void our_reading(void) {
     } while (answer == 0);
 }
 
-#ifdef SBP_TOTALS
 /* The same numbers in one call. */
 static void our_totals(void) {
     uint8_t counts[SBP_TOTALS];
@@ -91,7 +88,6 @@ static void our_totals(void) {
         told[i] = sbp_number(counts + 8 * i, 8);
     }
 }
-#endif
 
 static void twins_reading(void) {
     struct twin_counts counts;
@@ -123,7 +119,7 @@ static void our_feeding(void) {
 
 static void twins_feeding(void) {
     const uint16_t roster[] = {1228, 0};
-    struct sbp_collator collator;
+    struct twin_collator collator;
     struct sbp_epoch e;
     sbp_collator_make(&collator, roster, 2);
     for (size_t at = 0; at < length; at += capture[at + 5] + 8u) {
@@ -138,7 +134,22 @@ static void twins_feeding(void) {
     }
 }
 
-static void rusts_feeding(void) { rust_feed(capture, length, told); }
+static void rusts_feeding(void) {
+    const uint16_t roster[] = {1228, 0};
+    struct rust_collator *collator = rust_collator(roster, 2);
+    struct sbp_report e;
+    for (size_t at = 0; at < length; at += capture[at + 5] + 8u) {
+        const uint8_t *f = capture + at;
+        uint8_t answer = rust_feed(collator, (uint16_t)(f[1] | f[2] << 8), (uint16_t)(f[3] | f[4] << 8), f + 6, f[5], &e);
+        told[1] += answer;
+        if (answer == 1) {
+            told[0]++;
+            told[2] += (uint64_t)e.sender + e.wn + e.tow;
+            told[3] += (uint64_t)e.n + e.observations;
+        }
+    }
+    rust_collator_free(collator);
+}
 
 static void our_listing(void) {
     sbp_list(capture, length, our_text, sizeof our_text, told);
@@ -244,11 +255,7 @@ static void preambles(size_t most) {
 
 static void readings(const char *by_frame, const char *in_one, int rounds) {
     timed(by_frame, rounds, 1, (const side[SIDES]){our_reading, twins_reading, rusts_reading, sliced_reading});
-#ifdef SBP_TOTALS
     timed(in_one, rounds, 1, (const side[SIDES]){our_totals, twins_reading, rusts_reading, sliced_reading});
-#else
-    (void)in_one;
-#endif
 }
 
 int main(int argc, char **argv) {

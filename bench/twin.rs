@@ -51,34 +51,63 @@ fn told(read: Counts) -> [u64; 4] {
     [read.frame_bytes, read.junk, read.bad, read.short].map(|count| count as u64)
 }
 
-/// Feeds the frames of a clean capture to a roster of 1228 and 0, and tells
-/// the sums that bench.c names.
+/// As bench.c knows an epoch.
+#[repr(C)]
+pub struct Report {
+    sender: u16,
+    wn: u16,
+    tow: u32,
+    n: u8,
+    observations: u16,
+}
+
+/// A collator, for `rust_collator_free` to end.
 ///
 /// # Safety
-/// The caller keeps: `n` bytes are at `capture` for the length of the call,
-/// and `sums` is aligned and nobody else's.
+/// The caller keeps: `n` senders are at `roster` for the length of the call.
 #[no_mangle]
-pub unsafe extern "C" fn rust_feed(capture: *const u8, n: usize, sums: *mut [u64; 4]) {
-    let capture = unsafe { lent(capture, n) };
-    let mut collator = Collator::new(&[1228, 0]).expect("two senders");
-    let mut told = [0; 4];
-    let mut rest = capture;
-    while let Some((&[_, t0, t1, s0, s1, length], after)) = rest.split_first_chunk::<6>() {
-        let (payload, after) = after.split_at(length.into());
-        let msg_type = u16::from_le_bytes([t0, t1]);
-        match collator.feed(msg_type, u16::from_le_bytes([s0, s1]), payload) {
-            Ok(None) => {}
-            Ok(Some(e)) => {
-                told[0] += 1;
-                told[1] += 1;
-                told[2] += u64::from(e.sender) + u64::from(e.wn) + u64::from(e.tow);
-                told[3] += u64::from(e.n) + u64::from(e.observations);
-            }
-            Err(no) => told[1] += u64::from(no),
+pub unsafe extern "C" fn rust_collator(roster: *const u16, n: usize) -> *mut Collator {
+    let roster = unsafe { slice::from_raw_parts(roster, n) };
+    Box::into_raw(Box::new(Collator::new(roster).expect("a roster")))
+}
+
+/// # Safety
+/// The caller keeps: `collator` is from `rust_collator`, and not used again.
+#[no_mangle]
+pub unsafe extern "C" fn rust_collator_free(collator: *mut Collator) {
+    drop(unsafe { Box::from_raw(collator) });
+}
+
+/// 0 taken, 1 an epoch, or the refusal.
+///
+/// # Safety
+/// The caller keeps: `collator` is from `rust_collator`, `n` bytes are at
+/// `payload` for the length of the call, and `report` is aligned and nobody
+/// else's.
+#[no_mangle]
+pub unsafe extern "C" fn rust_feed(
+    collator: *mut Collator,
+    msg_type: u16,
+    sender: u16,
+    payload: *const u8,
+    n: usize,
+    report: *mut Report,
+) -> u8 {
+    match unsafe { (*collator).feed(msg_type, sender, lent(payload, n)) } {
+        Ok(None) => 0,
+        Ok(Some(e)) => {
+            let told = Report {
+                sender: e.sender,
+                wn: e.wn,
+                tow: e.tow,
+                n: e.n,
+                observations: e.observations.into(),
+            };
+            unsafe { *report = told }
+            1
         }
-        rest = &after[2..];
+        Err(no) => no,
     }
-    unsafe { *sums = told }
 }
 
 /// The listing, and its length in `size`; it stands until the next call.
