@@ -1,5 +1,6 @@
 // What a frame is to a collator: a packet for one of its places, or a refusal. The roster and the frame decide, and no state.
 ghost use mathlib.Core.Path.{_≡_};
+ghost use Prim.Native.Nat.{min};
 ghost use lib.ListN.{take};
 ghost use Rattle.epochs.specs.Packet.{sameKey, seatOf, judged};
 use observation::ObsRead;
@@ -42,15 +43,23 @@ pub fn same_key(a: Key, b: Key) -> bool
     a.n == b.n
 }
 
+// How many seats are taken. A loop to here is not written out eight times, and so whoever judges a frame is compiled into its callers.
+fn taken(count: usize) -> usize
+    ensures { λ r. ⌜ r ≡ min count 8 ⌝ }
+{
+    if count < 8 {
+        return count;
+    }
+    8
+}
+
 // The first place that lists a sender, among the first count of the roster.
 pub fn seat_of(roster: [u16; 8], count: usize, sender: u16) -> Seat
     ensures { λ r. ⌜ r ≡ seatOf (take count roster) sender 0 ⌝ }
 {
+    let end = taken(count);
     let mut i = 0;
-    while i < 8 {
-        if count <= i {
-            return Seat::Nowhere;
-        }
+    while i < end {
         if roster[i] == sender {
             return Seat::At(i);
         }
