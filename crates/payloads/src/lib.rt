@@ -1,5 +1,6 @@
 // What a type number means: one reading of any type and payload, and its answer 0, 21, 22 or 23.
-// Read specs/Table.antt first: it is document 01's table.
+// Read specs/Table.antt first: it is document 01's table, a line for each message with its type, length and ranges.
+// proofs/Answers.antt shows that the table and the messages' own descriptions agree.
 ghost use mathlib.Core.Path.{_≡_};
 ghost use Rattle.payloads.specs.Table.{readFor, answerFor, readingAnswer, numberOf};
 

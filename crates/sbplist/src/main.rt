@@ -1,5 +1,6 @@
 // Lists the frames and epochs of a capture on standard input: what `listing` makes of it, in one write.
 // A capture over 65536 bytes prints `R 11` alone; a read that fails says why on standard error and prints nothing.
+// Read `output` in listing's specs/Listing.antt first: what is put into the buffer before that one write is proved to be it.
 ghost use Prim.Native.Nat.{_≤_};
 ghost use mathlib.Core.Path.{_≡_};
 ghost use lib.ListN.{length, take};

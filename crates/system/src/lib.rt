@@ -1,4 +1,6 @@
 // The logging, settings and system messages of 003, sections 6.1, 6.4 and 6.5: records, readers and writers.
+// Read specs/Log.antt first, whose text takes what is left of the payload, then the other descriptions, a line of document 01 each;
+// specs/Empty.antt has the two messages without a payload, specs/HeartbeatFlags.antt the bits that 003 names.
 mod empty;
 mod flags;
 mod heartbeat;

@@ -1,5 +1,6 @@
 // Lines of text in a lent buffer: a letter and five numbers in decimal.
-// Read specs/Decimal.antt (a number) and specs/Line.antt (a line) first.
+// Read specs/Decimal.antt (a number) and specs/Line.antt (a line, and a buffer with one in it) first.
+// A line that has no room changes nothing, and still says where it would end.
 ghost use mathlib.Core.Path.{_≡_};
 ghost use Prim.Native.Nat.{_+_, _%_, _^_, _-_, _≤_};
 ghost use mathlib.Core.List.{_∷_, _++_, []};

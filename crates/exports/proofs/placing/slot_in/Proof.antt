@@ -58,7 +58,7 @@ returns c =
     let s = c .before .before .before .before .before .before .before .before .args .s .now in
     let slot : Slot = record { opened = read1 .result; tow = read2 .result; wn = read3 .result; n = c .before .before .read-u82 .result; next = c .before .read-u83 .result; total = c .read-u162 .result } in
     let there : slot ≡ slotMake (decode slotFields s (at .result)) =
-        λ i. record { opened = read1 .ensures i; tow = read2 .ensures i; wn = read3 .ensures i; n = c .before .before .read-u82 .ensures i; next = c .before .read-u83 .ensures i; total = c .read-u162 .ensures i } in
+    λ i. record { opened = read1 .ensures i; tow = read2 .ensures i; wn = read3 .ensures i; n = c .before .before .read-u82 .ensures i; next = c .before .read-u83 .ensures i; total = c .read-u162 .ensures i } in
     there ∙ ap (λ (o : ℕ). slotMake (decode slotFields s o)) (at .ensures)
 
 pub slot-in-spec : {M : Type 1} → statement M
