@@ -24,6 +24,17 @@ const TOTALS: usize = 32;
 const STATE: usize = 105;
 const REPORT: usize = 11;
 
+/// Every answer of every function, all of which are to come.
+const WANTED: [(&str, &[u8]); 7] = [
+    ("crc", &[0]),
+    ("answer", &[0, 21, 22, 23]),
+    ("next", &[0, 1, 2, 32]),
+    ("totals", &[0, 32]),
+    ("list", &[0, 11, 32]),
+    ("collator", &[0, 32, 41, 42]),
+    ("feed", &[0, 1, 22, 32, 43, 44, 45, 46]),
+];
+
 fn hash(bytes: &[u8]) -> u64 {
     let start = 0xcbf2_9ce4_8422_2325_u64;
     bytes.iter().fold(start, |h, &b| {
@@ -392,7 +403,16 @@ fn main() -> ExitCode {
     for (name, times) in &asked.counts {
         println!("{name}: {times}");
     }
-    let failed = asked.failed + u64::from(!ended);
+    let mut missing = 0;
+    for (name, numbers) in WANTED {
+        for number in numbers {
+            if !asked.counts.contains_key(&format!("{name} {number}")) {
+                println!("not reached: {name} {number}");
+                missing += 1;
+            }
+        }
+    }
+    let failed = asked.failed + missing + u64::from(!ended);
     println!("{} passed, {failed} failed", calls - asked.failed);
     ExitCode::from(u8::from(failed > 0))
 }
