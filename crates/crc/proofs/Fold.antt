@@ -49,6 +49,10 @@ half-up c e = let up : c % 256 * 256 / 256 ≡ c % 256 = omega arith in xor-shr 
 half-low : (c e : ℕ) → bitXor (c % 256 * 256) e % 256 ≡ e % 256
 half-low c e = let none : c % 256 * 256 % 256 ≡ 0 = omega arith in xor-mod (c % 256 * 256) e 8 ∙ ap (λ (x : ℕ). bitXor x (e % 256)) none
 
+-- the bytes past the end are 0
+pub none-later : (s : List ℕ) (i : ℕ) → length s ≤ i → 0 ≡ getD s i 0
+none-later s i h = sym (List·getD-eq-default s 0 h)
+
 module _ (t s : List ℕ) where
   pub carried-none : {u l : ℕ} → (u ≡ getD s 0 0) × (u < 256) → (l ≡ getD s 1 0) × (l < 256) → Carried t s u l 0
   carried-none hu hl = record { c = 0; inside = zero-le; rest = refl; uppers = hu .0; lowers = hl .0; upper-fits = hu .1; lower-fits = hl .1 }
@@ -72,14 +76,10 @@ module _ (t s : List ℕ) where
         lower-fits = hm .1;
       }
 
-  -- the bytes past the end are 0
-  pub none-later : (i : ℕ) → length s ≤ i → 0 ≡ getD s i 0
-  none-later i h = sym (List·getD-eq-default s 0 h)
-
   -- past the last byte the halves are the register's own
   pub carried-all : {u l i : ℕ} → Carried t s u l i → length s ≤ i → u * 256 + l ≡ crcBy t 0 s
   unfolding crcBy
   carried-all {u} {l} {i} h all =
-      let up : u ≡ h .c / 256 = h .uppers ∙ ap (bitXor (h .c / 256)) (sym (none-later i all)) ∙ xor-zero-r (h .c / 256) in
-      let low : l ≡ h .c % 256 = h .lowers ∙ ap (bitXor (h .c % 256)) (sym (none-later (i + 1) (omega (arith, all)))) ∙ xor-zero-r (h .c % 256) in
+      let up : u ≡ h .c / 256 = h .uppers ∙ ap (bitXor (h .c / 256)) (sym (none-later s i all)) ∙ xor-zero-r (h .c / 256) in
+      let low : l ≡ h .c % 256 = h .lowers ∙ ap (bitXor (h .c % 256)) (sym (none-later s (i + 1) (omega (arith, all)))) ∙ xor-zero-r (h .c % 256) in
       omega (arith, up, low) ∙ sym (ap (crcBy t (h .c)) (drop-of-length-le s all)) ∙ h .rest

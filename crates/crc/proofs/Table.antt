@@ -1,4 +1,4 @@
--- A table's rule at each entry, from one test of the whole table; and a byte's step by a table whose rule is eight steps.
+-- A table's rule at each entry, from one test of the whole table; and by a table of that rule the CRC.
 -- Assumes nothing.
 use mathlib.Core.Path.{_≡_, refl, sym, ap, ap₂, _∙_}
 use mathlib.Core.List.{List, [], _∷_}
@@ -29,10 +29,6 @@ listed-at f (suc n) (suc k) h = listed-at (λ j. f (suc j)) n k (le-of-suc-le-su
 pub by-test : (f : ℕ → ℕ) (n : ℕ) {xs : List ℕ} → xs ≡ listed f n → (k : ℕ) → k < n → getD xs k 0 ≡ f k
 by-test f n test k h = ap (λ (l : List ℕ). getD l k 0) test ∙ listed-at f n k h
 
--- the entry that a byte picks is one of the table's
-pub place-fits : {c b p : ℕ} → c < 65536 → b < 256 → p ≡ bitXor (c / 256) b → p < 256
-place-fits {c} {b} hc hb hp = rw hp (xor-lt 8 (c / 256) b (omega arith) hb)
-
 -- a byte is added to the upper half, and the lower stays
 added : (c b : ℕ) → bitXor c (b * 256) ≡ bitXor (c / 256) b * 256 + c % 256
 added c b =
@@ -41,11 +37,11 @@ added c b =
     ∙ ap (λ (x : ℕ). bitXor (c / 256) b * 256 + x) (xor-zero-r (c % 256))
 
 module _ (t : List ℕ) (rule : Rule t) where
-  -- a byte by the table is eight single-bit steps
+  -- a byte by the table is eight single-bit steps: the entry that it picks is one of the table's
   byte-by-table : (c b : ℕ) → c < 65536 → b < 256 → byteBy t c b ≡ byteStep c b
   unfolding byteStep
   byte-by-table c b hc hb =
-      ap (bitXor (c % 256 * 256)) (rule (bitXor (c / 256) b) (place-fits hc hb refl))
+      ap (bitXor (c % 256 * 256)) (rule (bitXor (c / 256) b) (xor-lt 8 (c / 256) b (omega arith) hb))
       ∙ sym (split 8 8 (bitXor (c / 256) b) (c % 256) (omega arith) (lit≤ tt))
       ∙ ap (bitSteps 8) (sym (added c b))
 

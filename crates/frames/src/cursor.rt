@@ -163,7 +163,7 @@ impl Cursor {
         }
     }
 
-    // The next frame of the reading, or its end.
+    // The next frame of the reading, or its end. Junk is looked for where no frame was, so that from frame to frame there is no such look.
     pub fn next(self, s: &[u8]) -> Next
         ensures { λ r. ⌜ r ≡ nextOf (now (s .entry)) self ⌝ }
     {

@@ -95,7 +95,7 @@ loop2-again : tie.Need-loop2-again Inv-loop μ-loop Inv-loop2 μ-loop2
 loop2-again c =
     let a = c .before .before .before .before .before .before .before .before .before .before .args in
     let at = c .before .before .before .before .loop2 in
-    let none = none-later (a .table .now) (a .s .now) (at .i + 2) (at .inv .0) in (
+    let none = none-later (a .s .now) (at .i + 2) (at .inv .0) in (
       omega (arith, at .inv .0),
       carried-more (a .table .now) (a .s .now) (at .inv .1) (c .before .before .before .loop2-test .taken) (c .before .place2 .ensures)
           (c .waits2 .ensures .0 ∙ ap (bitXor (getD (a .table .now) (at .upper) 0 % 256)) none, c .waits2 .ensures .1),
