@@ -1,4 +1,4 @@
--- A table's rule at each entry, from one test of the whole table; and by a table of that rule the CRC.
+-- A table's rule at each entry, and by a table of that rule the CRC.
 -- Assumes nothing.
 use mathlib.Core.Path.{_≡_, refl, sym, ap, ap₂, _∙_}
 use mathlib.Core.List.{List, [], _∷_}
@@ -10,14 +10,9 @@ use lib.Dec.{lit≤}
 use lib.ListN.{getD}
 use lib.Pow as Pow
 use Rattle.crc.specs.Crc.{bitSteps, byteStep, crcFrom}
-use Rattle.crc.specs.Table.{Rule, byteBy, crcBy}
+use Rattle.crc.specs.Table.{listed, Rule, byteBy, crcBy}
 use Rattle.crc.proofs.Split.{split}
 use Rattle.crc.proofs.Fold.{byteStep-fits}
-
--- f at 0, 1, .., n of them
-unfoldable pub listed : (ℕ → ℕ) → ℕ → List ℕ
-listed f zero = []
-listed f (suc n) = f zero ∷ listed (λ k. f (suc k)) n
 
 listed-at : (f : ℕ → ℕ) (n k : ℕ) → k < n → getD (listed f n) k 0 ≡ f k
 unfolding listed
@@ -25,9 +20,9 @@ listed-at f zero k h = absurd (not-suc-le-zero h)
 listed-at f (suc n) zero h = refl
 listed-at f (suc n) (suc k) h = listed-at (λ j. f (suc j)) n k (le-of-suc-le-suc h)
 
--- the test is that two lists of numbers are one, which antt computes
-pub by-test : (f : ℕ → ℕ) (n : ℕ) {xs : List ℕ} → xs ≡ listed f n → (k : ℕ) → k < n → getD xs k 0 ≡ f k
-by-test f n test k h = ap (λ (l : List ℕ). getD l k 0) test ∙ listed-at f n k h
+-- the rule at an entry
+rule-at : (t : List ℕ) → Rule t → (k : ℕ) → k < 256 → getD t k 0 ≡ bitSteps 8 (k * 256)
+rule-at t rule k h = ap (λ (l : List ℕ). getD l k 0) rule ∙ listed-at (λ (k : ℕ). bitSteps 8 (k * 256)) 256 k h
 
 -- a byte is added to the upper half, and the lower stays
 added : (c b : ℕ) → bitXor c (b * 256) ≡ bitXor (c / 256) b * 256 + c % 256
@@ -41,7 +36,7 @@ module _ (t : List ℕ) (rule : Rule t) where
   byte-by-table : (c b : ℕ) → c < 65536 → b < 256 → byteBy t c b ≡ byteStep c b
   unfolding byteStep
   byte-by-table c b hc hb =
-      ap (bitXor (c % 256 * 256)) (rule (bitXor (c / 256) b) (xor-lt 8 (c / 256) b (omega arith) hb))
+      ap (bitXor (c % 256 * 256)) (rule-at t rule (bitXor (c / 256) b) (xor-lt 8 (c / 256) b (omega arith) hb))
       ∙ sym (split 8 8 (bitXor (c / 256) b) (c % 256) (omega arith) (lit≤ tt))
       ∙ ap (bitSteps 8) (sym (added c b))
 

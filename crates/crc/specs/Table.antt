@@ -1,15 +1,20 @@
 -- The same a byte at a time from a table of 256 numbers, whose rule is eight single-bit steps for each entry.
 -- Assumes nothing.
 use mathlib.Core.Path.{_≡_}
-use Prim.Native.Nat.{ℕ, _*_, _/_, _%_, _<_}
+use Prim.Native.Nat.{ℕ, zero, suc, _*_, _/_, _%_}
 use mathlib.Core.List.{List, [], _∷_}
 use lib.Bits.{bitXor}
 use lib.ListN.{getD}
 use Rattle.crc.specs.Crc.{bitSteps}
 
+-- f at 0, 1, .., n of them
+unfoldable pub listed : (ℕ → ℕ) → ℕ → List ℕ
+listed f zero = []
+listed f (suc n) = f zero ∷ listed (λ k. f (suc k)) n
+
 -- entry i is what eight steps make of the register i * 256
 abbrev pub Rule : List ℕ → Type 0
-Rule t = (i : ℕ) → i < 256 → getD t i 0 ≡ bitSteps 8 (i * 256)
+Rule t = t ≡ listed (λ i. bitSteps 8 (i * 256)) 256
 
 -- a byte: the register's upper half with the byte added picks the entry, and the lower half moves up
 abbrev pub byteBy : List ℕ → ℕ → ℕ → ℕ
