@@ -5,3 +5,4 @@ pub mod States
 pub mod Feeds
 pub mod Makes
 pub mod Lives
+pub mod Refusals

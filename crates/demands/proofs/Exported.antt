@@ -1,0 +1,71 @@
+-- The demands of the functions that C and Rust link, which live on lent bytes: a refusal writes nothing and moves no state, the frames are those
+-- of the reading, an epoch is reported exactly where document 01 says, and senders don't mix. The statement first, then its proof, all of it
+-- citations. Assumes nothing.
+use mathlib.Core.Path.{_≡_, sym, _∙_}
+use mathlib.Core.Bool.{Bool}
+use mathlib.Core.List.{List}
+use mathlib.Core.Logic.{_↔_}
+use Prim.Native.Nat.{ℕ, _^_, _≤_, _<_}
+use lib.ListN.{length, getD}
+use Rattle.wire.specs.Number.{Bytes}
+use Rattle.wire.specs.Message.{refused}
+use Rattle.frames.specs.Reading.{steps, framesOf}
+use Rattle.frames.specs.Cursors.{nextOf, Told}
+use Rattle.payloads.specs.Table.{numberOf}
+use Rattle.epochs.specs.Collator.{made}
+use Rattle.epochs.specs.Epoch.{Item, SameFrames, EndsEpoch}
+use Rattle.epochs.specs.declared.collating.Report.{Report}
+use Rattle.epochs.proofs.Collations.{same-state}
+use Rattle.listing.specs.Listing.{listAnswer, listed}
+use Rattle.exports.specs.Found.{startAt, nextAnswer, nextStored}
+use Rattle.exports.specs.Totals.{totalsAnswer, totalsStored}
+use Rattle.exports.specs.Text.{sizeAfter}
+use Rattle.exports.specs.State.{stateIn}
+use Rattle.exports.specs.Feed.{madeAnswer, madeStored, fedIn, afterIn}
+use Rattle.exports.proofs.Answered.{next-left}
+use Rattle.exports.proofs.Lives.{AllBytes, stands, one-epoch}
+use Rattle.exports.proofs.Refusals.{next-keeps, totals-keeps, list-keeps, collator-keeps, feed-keeps}
+
+-- demand 1: "and a refusal writes nothing and moves no state"
+pub record Kept : Type 0 where
+  pub next : (s : List ℕ) (at : ℕ) (growing : Bool) (buf : List ℕ) → nextAnswer s at growing (length buf) ≡ 32 → nextStored s at growing buf ≡ buf
+  pub totals : (s buf : List ℕ) → totalsAnswer (length buf) ≡ 32 → totalsStored s buf ≡ buf
+  pub list : (s buf : List ℕ) (before n : ℕ) → listAnswer s (length buf) ≡ refused n
+      → (numberOf (listAnswer s (length buf)) ≡ n) × (listed s buf ≡ buf) × (sizeAfter (listAnswer s (length buf)) before ≡ before)
+  pub collator : (roster s : List ℕ) → (madeAnswer roster (length s) ≡ 0 → ⊥) → madeStored roster s ≡ s
+  -- 0 and 1 are the answers of a frame that was taken
+  pub feed : (s : List ℕ) (kind sender : ℕ) (payload report : List ℕ) → 2 ≤ fedIn s kind sender payload report .answer
+      → (fedIn s kind sender payload report .state ≡ s) × (fedIn s kind sender payload report .report ≡ report)
+
+-- bytes that `sbp_collator` filled for a roster, and frames of bytes fed to them by `sbp_feed`
+pub record Filled (roster s report : List ℕ) (xs : List Item) : Type 0 where
+  pub taken : made roster .number ≡ 0
+  pub senders : (i : ℕ) → getD roster i 0 < 65536
+  pub long : 105 ≤ length s
+  pub room : 11 ≤ length report
+  pub bytes : AllBytes xs
+
+pub record Exported : Type 0 where
+  pub kept : Kept
+  -- demand 2: from a position on `sbp_next` tells the first frame left of the reading there, and where the others are left, or that there is none
+  pub frames-left : (s : List ℕ) → length s < 2 ^ 64 → (at : ℕ) (growing : Bool) → at ≤ length s
+      → Told growing s (framesOf (steps growing s at)) (nextOf s (startAt at growing))
+  -- `sbp_feed` answers 1 exactly where the frame ends an epoch
+  pub epochs-told : (roster s report : List ℕ) (xs : List Item) → Filled roster s report xs → (x : Item) → Bytes (x .payload) → (lent : List ℕ) → 11 ≤ length lent
+      → (fedIn (afterIn (madeStored roster s) report xs) (x .kind) (x .sender) (x .payload) lent .answer ≡ 1) ↔ ((e : Report) × EndsEpoch roster xs x e)
+  -- demand 3: the same frames of every listed sender leave bytes that stand for the same state
+  pub unmixed : (roster s t report other : List ℕ) (xs ys : List Item) → Filled roster s report xs → Filled roster t other ys → SameFrames roster xs ys
+      → stateIn (afterIn (madeStored roster s) report xs) ≡ stateIn (afterIn (madeStored roster t) other ys)
+
+-- ---- the proof
+
+pub exported : Exported
+exported = record {
+  kept = record { next = next-keeps; totals = totals-keeps; list = list-keeps; collator = collator-keeps; feed = feed-keeps };
+  frames-left = next-left;
+  epochs-told = λ roster s report xs f x byte lent enough. one-epoch roster (f .taken) (f .senders) s report (f .long) (f .room) xs (f .bytes) x byte lent enough;
+  unmixed = λ roster s t report other xs ys f g same.
+      stands roster (f .taken) (f .senders) s report (f .long) (f .room) xs (f .bytes)
+      ∙ same-state roster (f .taken) xs ys same
+      ∙ sym (stands roster (g .taken) (g .senders) t other (g .long) (g .room) ys (g .bytes));
+}

@@ -1,0 +1,81 @@
+-- A refusal writes nothing and moves no state: of every exported function that is lent something to write. Assumes nothing.
+use mathlib.Core.Path.{_≡_, refl, sym, ap, _∙_}
+use mathlib.Core.Bool.{Bool, true, false, _&&_, cond}
+use mathlib.Core.List.{List}
+use Prim.Native.Nat.{ℕ, _≤_}
+use native.Mathlib.Omega.{arith}
+use lib.Dec.{eqb, leb}
+use lib.ListN.{length}
+use Rattle.wire.specs.Field.{size}
+use Rattle.wire.specs.Message.{Answer, given, refused}
+use Rattle.frames.specs.Cursors.{nextOf}
+use Rattle.frames.specs.declared.cursor.Next as Next
+use Rattle.payloads.specs.Table.{numberOf}
+use Rattle.epochs.specs.Packet.{judged}
+use Rattle.epochs.specs.Collator.{stepped, told, rosterOf, made}
+use Rattle.epochs.specs.declared.judging.Packet.{Packet}
+use Rattle.epochs.specs.declared.judging.Judged.{Judged}
+use Rattle.epochs.specs.declared.judging.Judged.the-variants as J
+use Rattle.epochs.specs.declared.placing.Ended.{Ended}
+use Rattle.epochs.specs.declared.placing.Ended.the-variants.{Not, Whole}
+use Rattle.listing.specs.Listing.{listAnswer, listedAs, listed}
+use Rattle.exports.specs.Found.{foundFields, startAt, numberIn, nextAnswer, nextStored}
+use Rattle.exports.specs.Totals.{countsFields, totalsAnswer, totalsStored}
+use Rattle.exports.specs.Text.{sizeAfter}
+use Rattle.exports.specs.State.{placeIn, stateIn, collatorStored}
+use Rattle.exports.specs.Feed.{stateSize, reportFields, happenedNumber, madeAnswer, madeStored, FedIn, actedIn, fedIn}
+
+-- a number that no answer but a refusal has
+small : (x : Next.Next) → 32 ≡ numberIn x → ⊥
+small (Next.the-variants.Frame f c) e = absurd (omega (arith, e))
+small (Next.the-variants.End c) e = absurd (omega (arith, e))
+small (Next.the-variants.Needs n c) e = absurd (omega (arith, e))
+
+pub next-keeps : (s : List ℕ) (at : ℕ) (growing : Bool) (buf : List ℕ) → nextAnswer s at growing (length buf) ≡ 32 → nextStored s at growing buf ≡ buf
+unfolding nextAnswer nextStored
+next-keeps s at growing buf = by (leb (size foundFields) (length buf)) _
+  where
+    by : (t : Bool) (stored : List ℕ) → cond t (numberIn (nextOf s (startAt at growing))) 32 ≡ 32 → cond t stored buf ≡ buf
+    by true stored e = absurd (small (nextOf s (startAt at growing)) (sym e))
+    by false stored e = refl
+
+pub totals-keeps : (s buf : List ℕ) → totalsAnswer (length buf) ≡ 32 → totalsStored s buf ≡ buf
+unfolding totalsAnswer totalsStored
+totals-keeps s buf = by (leb (size countsFields) (length buf)) _
+  where
+    by : (t : Bool) (stored : List ℕ) → _≡_ {A = ℕ} (cond t 0 32) 32 → cond t stored buf ≡ buf
+    by true stored e = absurd (omega (arith, e))
+    by false stored e = refl
+
+-- the text, and the length that is told
+pub list-keeps : (s buf : List ℕ) (before n : ℕ) → listAnswer s (length buf) ≡ refused n
+    → (numberOf (listAnswer s (length buf)) ≡ n) × (listed s buf ≡ buf) × (sizeAfter (listAnswer s (length buf)) before ≡ before)
+list-keeps s buf before n e = (ap numberOf e, ap (λ (a : Answer ℕ). listedAs a s buf) e, ap (λ (a : Answer ℕ). sizeAfter a before) e)
+
+pub collator-keeps : (roster s : List ℕ) → (madeAnswer roster (length s) ≡ 0 → ⊥) → madeStored roster s ≡ s
+unfolding madeAnswer madeStored
+collator-keeps roster s = by (eqb (made roster .number) 0) (leb stateSize (length s)) _ _
+  where
+    by : (t u : Bool) (n : ℕ) (stored : List ℕ) → (cond t (cond u 0 32) n ≡ 0 → ⊥) → cond (t && u) stored s ≡ s
+    by true true n stored refuses = absurd (refuses refl)
+    by true false n stored refuses = refl
+    by false u n stored refuses = refl
+
+-- 0 and 1 are the answers of a frame that was taken
+pub feed-keeps : (s : List ℕ) (kind sender : ℕ) (payload report : List ℕ) → 2 ≤ fedIn s kind sender payload report .answer
+    → (fedIn s kind sender payload report .state ≡ s) × (fedIn s kind sender payload report .report ≡ report)
+unfolding fedIn
+feed-keeps s kind sender payload report = by (leb stateSize (length s) && leb (size reportFields) (length report)) (judged (rosterOf (stateIn s)) kind sender payload)
+  where
+    Kept : FedIn → Type 0
+    Kept out = (out .state ≡ s) × (out .report ≡ report)
+
+    low : (p : Packet) (ended : Ended) → 2 ≤ happenedNumber (told sender p ended) → ⊥
+    low p Not h = absurd (omega (arith, h))
+    low p (Whole total) h = absurd (omega (arith, h))
+
+    by : (t : Bool) (j : Judged) → 2 ≤ cond t (actedIn s report sender j) (record { state = s; report = report; answer = 32 }) .answer
+        → Kept (cond t (actedIn s report sender j) (record { state = s; report = report; answer = 32 }))
+    by false j h = (refl, refl)
+    by true (J.Refused n) h = (refl, refl)
+    by true (J.For i p) h = absurd (low p (stepped (placeIn s i) p .ended) h)
