@@ -1,5 +1,5 @@
 -- A refusal writes nothing and moves no state: of every exported function that is lent something to write. Assumes nothing.
-use mathlib.Core.Path.{_≡_, refl, sym, ap, _∙_}
+use mathlib.Core.Path.{_≡_, refl, sym, ap}
 use mathlib.Core.Bool.{Bool, true, false, _&&_, cond}
 use mathlib.Core.List.{List}
 use Prim.Native.Nat.{ℕ, _≤_}
@@ -7,7 +7,7 @@ use native.Mathlib.Omega.{arith}
 use lib.Dec.{eqb, leb}
 use lib.ListN.{length}
 use Rattle.wire.specs.Field.{size}
-use Rattle.wire.specs.Message.{Answer, given, refused}
+use Rattle.wire.specs.Message.{Answer, refused}
 use Rattle.frames.specs.Cursors.{nextOf}
 use Rattle.frames.specs.declared.cursor.Next as Next
 use Rattle.payloads.specs.Table.{numberOf}
@@ -22,7 +22,7 @@ use Rattle.listing.specs.Listing.{listAnswer, listedAs, listed}
 use Rattle.exports.specs.Found.{foundFields, startAt, numberIn, nextAnswer, nextStored}
 use Rattle.exports.specs.Totals.{countsFields, totalsAnswer, totalsStored}
 use Rattle.exports.specs.Text.{sizeAfter}
-use Rattle.exports.specs.State.{placeIn, stateIn, collatorStored}
+use Rattle.exports.specs.State.{placeIn, stateIn}
 use Rattle.exports.specs.Feed.{stateSize, reportFields, happenedNumber, madeAnswer, madeStored, FedIn, actedIn, fedIn}
 
 -- a number that no answer but a refusal has

@@ -2,7 +2,7 @@
 // Read specs/Table.antt first: it is document 01's table, a line for each message with its type, length and ranges.
 // proofs/Answers.antt shows that the table and the messages' own descriptions agree.
 ghost use mathlib.Core.Path.{_≡_};
-ghost use Rattle.payloads.specs.Table.{readFor, answerFor, readingAnswer, numberOf};
+ghost use Rattle.payloads.specs.Table.{readFor, answerFor, readingAnswer};
 
 mod each;
 
