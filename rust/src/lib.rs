@@ -2,8 +2,9 @@
 //! wrapper of the proved library. A refusal is one of document 01's numbers.
 
 mod raw {
-    // As in include/sbp.h. A slice crosses as a pointer and a length; Rust's own
-    // slices keep what the header asks of the caller.
+    // As in include/sbp.h, which says at each what the caller keeps. A slice
+    // crosses as a pointer and a length: Rust's own slices keep that these agree,
+    // and its borrows that what is written overlaps nothing.
     extern "C" {
         pub fn sbp_crc(bytes: *const u8, n: usize) -> u16;
         pub fn sbp_answer(kind: u16, payload: *const u8, n: usize) -> u8;
