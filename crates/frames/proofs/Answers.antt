@@ -9,7 +9,7 @@ use lib.ListN.{length}
 use borrow.Author.Tests.{not-false}
 use Rattle.frames.specs.Step.{ends}
 use Rattle.frames.specs.Reading.{stops, steps, framesIn, framesOf, countsOf}
-use Rattle.frames.specs.Cursors.{countsIn, over, passes, ended, nextOf, after, Honest, Told, Led, start, more}
+use Rattle.frames.specs.Cursors.{countsIn, over, passes, ended, nextOf, after, Told, Led, start, more}
 use Rattle.frames.specs.declared.step.Step.{Step}
 use Rattle.frames.specs.declared.step.Step.the-variants.{Finished, Junk, Short, Bad, Found}
 use Rattle.frames.specs.declared.step.Frame.{Frame}
@@ -17,7 +17,7 @@ use Rattle.frames.specs.declared.cursor.Cursor.{Cursor}
 use Rattle.frames.specs.declared.cursor.Next as Next
 use Rattle.frames.proofs.Steps.{at-end, past-end}
 use Rattle.frames.proofs.Readings.{steps-stop, steps-go}
-use Rattle.frames.proofs.Cursors.{here, passed-on, over-ends, over-further, by-next, honest-begun, honest-over, honest-counts}
+use Rattle.frames.proofs.Cursors.{here, Honest, passed-on, over-ends, over-further, by-next, honest-begun, honest-over, honest-counts}
 
 passed-no-frame : (growing : Bool) (x : Step) (fs : List Frame) → passes growing x ≡ true → framesIn x fs ≡ fs
 passed-no-frame growing Finished fs e = refl
@@ -30,7 +30,7 @@ module _ (s : List ℕ) (small : length s < 2 ^ 64) (growing : Bool) where
   -- ---- the counts
 
   -- every answer's cursor is honest again
-  pub honest-next : (c : Cursor) → Honest growing s c → Honest growing s (after (nextOf s c))
+  honest-next : (c : Cursor) → Honest growing s c → Honest growing s (after (nextOf s c))
   honest-next = by-next s small (λ (c : Cursor) (n : Next.Next). Honest growing s c → Honest growing s (after n)) pass end
     where
       pass : (c : Cursor) (n : Next.Next) → passes (c .growing) (here s c) ≡ true → (Honest growing s (over c (here s c)) → Honest growing s (after n)) → Honest growing s c → Honest growing s (after n)
@@ -90,14 +90,14 @@ module _ (s : List ℕ) (small : length s < 2 ^ 64) (growing : Bool) where
 
   -- ---- both, of what next answered
 
-  said : {c : Cursor} {n : Next.Next} → Honest growing s c → nextOf s c ≡ n → Told growing s (remaining c) n × Honest growing s (after n)
+  pub said : {c : Cursor} {n : Next.Next} → Honest growing s c → nextOf s c ≡ n → Told growing s (remaining c) n × Honest growing s (after n)
   said {c} h e = (subst (Told growing s (remaining c)) e (told c (h .mode) (h .inside)), subst (λ (n : Next.Next). Honest growing s (after n)) e (honest-next c h))
 
   -- when no frame is left the counts are those of the whole reading
   pub honest-end : {c d : Cursor} → Honest growing s c → nextOf s c ≡ Next.the-variants.End d → countsIn d ≡ countsOf (steps growing s 0)
   honest-end {d = d} h e = let all = said h e in honest-counts s small growing d (all .1) (past-end s (d .at) growing (omega (arith, all .0 .1)))
 
-  pub honest-needs : {c d : Cursor} {n : ℕ} → Honest growing s c → nextOf s c ≡ Next.the-variants.Needs n d → countsIn d ≡ countsOf (steps growing s 0)
+  honest-needs : {c d : Cursor} {n : ℕ} → Honest growing s c → nextOf s c ≡ Next.the-variants.Needs n d → countsIn d ≡ countsOf (steps growing s 0)
   honest-needs {d = d} h e = let all = said h e in honest-counts s small growing d (all .1) (ap (stops growing) (all .0 .1) ∙ all .0 .2)
 
   -- ---- calls of next from the start on

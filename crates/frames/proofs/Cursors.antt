@@ -9,7 +9,7 @@ use native.Mathlib.Omega.{arith}
 use lib.ListN.{length}
 use Rattle.frames.specs.Step.{stepAt, passed, ends}
 use Rattle.frames.specs.Reading.{Placed, stops, steps, counted, countsOf, sumOf, added}
-use Rattle.frames.specs.Cursors.{begun, countsIn, plus, over, passes, ended, answer, nextOf, Honest}
+use Rattle.frames.specs.Cursors.{begun, countsIn, plus, over, passes, ended, answer, nextOf}
 use Rattle.frames.specs.declared.step.Step.{Step}
 use Rattle.frames.specs.declared.step.Step.the-variants.{Finished, Junk, Short, Bad, Found}
 use Rattle.frames.specs.declared.cursor.Counts.{Counts}
@@ -21,6 +21,13 @@ use Rattle.frames.proofs.Tiling.{counted-sum, added-sum}
 -- the step where a cursor stands
 abbrev pub here : List ℕ → Cursor → Step
 here s c = stepAt s (c .at)
+
+-- it stands in the capture, its counts are those of the bytes behind it, and with those of the steps left they make the reading's
+pub record Honest (growing : Bool) (s : List ℕ) (c : Cursor) : Type 0 where
+  pub mode : c .growing ≡ growing
+  pub inside : c .at ≤ length s
+  pub every : sumOf (countsIn c) ≡ c .at
+  pub whole : added (countsIn c) (countsOf (steps growing s (c .at))) ≡ countsOf (steps growing s 0)
 
 -- ---- past a step
 
@@ -92,7 +99,7 @@ module _ (s : List ℕ) (small : length s < 2 ^ 64) where
       ∙ sym (next-is (over c (here s c)))
 
   -- at any other the reading to the next frame ends
-  pub next-ended : (c : Cursor) → passes (c .growing) (here s c) ≡ false → nextOf s c ≡ ended c (here s c)
+  next-ended : (c : Cursor) → passes (c .growing) (here s c) ≡ false → nextOf s c ≡ ended c (here s c)
   unfolding answer
   next-ended c e = next-is c ∙ by (stops (c .growing) (here s c)) refl
     where
@@ -167,7 +174,7 @@ module _ (s : List ℕ) (small : length s < 2 ^ 64) where
     -- the same by calls
     module _ (c : Cursor) (h : Honest growing s c) {x : Step} (step : x ≡ here s c) where
       pub honest-past : {d : Cursor} → d ≡ over c x → stops growing x ≡ false → Honest growing s d
-      honest-past past e = subst⁻¹ (Honest growing s) (past ∙ ap (over c) step) (honest-over c h (ap (stops growing) (sym step) ∙ e))
+      honest-past past e = subst⁻¹ (Honest growing s) (past-here c step past) (honest-over c h (ap (stops growing) (sym step) ∙ e))
 
       pub honest-given : {k : Counts} → k ≡ countsIn c → stops growing x ≡ true → k ≡ countsOf (steps growing s 0)
       honest-given given e = given ∙ honest-counts c h (ap (stops growing) (sym step) ∙ e)

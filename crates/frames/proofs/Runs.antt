@@ -10,13 +10,13 @@ use lib.ListN.{length, getD, drop, length-drop}
 use lib.Seq.{drop-drop, getD-drop}
 use borrow.Author.Tests.{ne-eqb, eqb-true, eqb-false, le-leb, lt-leb, leb-true, leb-false}
 use Rattle.frames.specs.Reading.{stops}
-use Rattle.frames.specs.Cursors.{plus, over, passes, nextOf, Honest}
+use Rattle.frames.specs.Cursors.{plus, over, passes, nextOf}
 use Rattle.frames.specs.Junk.{junkRun, overJunk, pastJunk}
 use Rattle.frames.specs.declared.step.Step.{Step}
 use Rattle.frames.specs.declared.step.Step.the-variants.{Junk}
 use Rattle.frames.specs.declared.cursor.Cursor.{Cursor}
 use Rattle.frames.proofs.Steps.{junk, decides}
-use Rattle.frames.proofs.Cursors.{here, next-over, honest-over}
+use Rattle.frames.proofs.Cursors.{here, Honest, next-over, honest-over}
 
 -- ---- how long a run is
 
@@ -37,7 +37,7 @@ run-none : junkRun [] ≡ 0
 unfolding junkRun
 run-none = refl
 
-pub run-length : (t : List ℕ) → junkRun t ≤ length t
+run-length : (t : List ℕ) → junkRun t ≤ length t
 run-length [] = omega (arith, run-none)
 run-length (b ∷ t) = by (front b t) (run-length t)
   where
@@ -46,7 +46,7 @@ run-length (b ∷ t) = by (front b t) (run-length t)
     by (pass n r) rest = omega (arith, r)
 
 -- it goes on over a byte that is not 0x55
-pub run-more : (k : ℕ) (t : List ℕ) → k ≤ junkRun t → k < length t → (getD t k 0 ≡ 0x55 → ⊥) → suc k ≤ junkRun t
+run-more : (k : ℕ) (t : List ℕ) → k ≤ junkRun t → k < length t → (getD t k 0 ≡ 0x55 → ⊥) → suc k ≤ junkRun t
 run-more k [] h l n = absurd (omega arith)
 run-more zero (b ∷ t) h l n = by (front b t)
   where
@@ -60,7 +60,7 @@ run-more (suc k) (b ∷ t) h l n = by (front b t) (λ g. run-more k t g (omega a
     by (pass _ r) rest = omega (arith, r, rest (omega (arith, r)))
 
 -- and ends at one that is
-pub run-stop : (k : ℕ) (t : List ℕ) → k < length t → getD t k 0 ≡ 0x55 → junkRun t ≤ k
+run-stop : (k : ℕ) (t : List ℕ) → k < length t → getD t k 0 ≡ 0x55 → junkRun t ≤ k
 run-stop k [] l e = absurd (omega arith)
 run-stop zero (b ∷ t) l e = by (front b t)
   where
@@ -74,7 +74,7 @@ run-stop (suc k) (b ∷ t) l e = by (front b t) (run-stop k t (omega arith) e)
     by (pass n r) rest = omega (arith, r)
 
 -- what is left of it after a part
-pub run-split : (k : ℕ) (t : List ℕ) → k ≤ junkRun t → junkRun t ≡ k + junkRun (drop k t)
+run-split : (k : ℕ) (t : List ℕ) → k ≤ junkRun t → junkRun t ≡ k + junkRun (drop k t)
 run-split zero t h = omega arith
 run-split (suc k) [] h = absurd (omega (arith, run-none))
 run-split (suc k) (b ∷ t) h = by (front b t) (run-split k t)
