@@ -63,27 +63,23 @@ module _ {R : Type 0} (m : Message R) (sender : ℕ) (r : R) (buf : List ℕ) wh
   frame-written e = rw e
 
   module _ {n : ℕ} (k : m .kind < 65536) (s : sender < 65536) (g : writeAnswer m r (length buf) ≡ given n) where
-    bytes : List ℕ
+    abbrev bytes : List ℕ
     bytes = encode (m .fields) (m .row r)
 
     few : length bytes ≤ 255
-    unfolding bytes
     few = rw length-encode (fits (size (m .fields)) (length buf) (written-when g .1) .0)
 
     room : length bytes + 8 ≤ length buf
-    unfolding bytes
     room = rw length-encode (fits (size (m .fields)) (length buf) (written-when g .1) .1)
 
     -- a frame written is found where it was written
     found-through : stepAt (writtenAs m sender r buf) 0 ≡ Found (frameWritten m sender)
-    unfolding bytes
     found-through =
         ap (λ (t : List ℕ). stepAt t 0) (frame-written (written-when g .0))
         ∙ framed-reads-back (m .kind) sender bytes buf k s few room
         ∙ ap (λ (l : ℕ). Found (record { at = 0; kind = m .kind; sender = sender; length = l })) (length-encode (m .fields) (m .row r))
 
     payload-through : payloadIn (writtenAs m sender r buf) (frameWritten m sender) ≡ bytes
-    unfolding bytes
     payload-through =
         ap₂ (λ (t : List ℕ) (l : ℕ). payloadIn t (record { at = 0; kind = m .kind; sender = sender; length = l }))
         (frame-written (written-when g .0)) (sym (length-encode (m .fields) (m .row r)))
@@ -92,7 +88,6 @@ module _ {R : Type 0} (m : Message R) (sender : ℕ) (r : R) (buf : List ℕ) wh
     -- and its payload gives the record back bit for bit
     reads-through : HeldRow (m .fields) (m .row r)
         → (q : R) × (readAs m (payloadIn (writtenAs m sender r buf) (frameWritten m sender)) ≡ given q) × (rowBits (m .fields) (m .row q) ≡ rowBits (m .fields) (m .row r))
-    unfolding bytes
     reads-through h =
         let back = reads-back m r bytes h (payload-given m r (written-when g .0)) in
         (back .0, ap (readAs m) payload-through ∙ back .1, back .2)
@@ -100,7 +95,6 @@ module _ {R : Type 0} (m : Message R) (sender : ℕ) (r : R) (buf : List ℕ) wh
     -- the very record, where it is such as reading makes
     reads-through-same : HeldRow (m .fields) (m .row r) → SettledRow (m .fields) (m .row r)
         → readAs m (payloadIn (writtenAs m sender r buf) (frameWritten m sender)) ≡ given r
-    unfolding bytes
     reads-through-same h e = ap (readAs m) payload-through ∙ reads-same m r bytes h (payload-given m r (written-when g .0)) e
 
 -- an accepted payload written again gives a frame of the same bytes
