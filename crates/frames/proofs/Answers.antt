@@ -9,7 +9,7 @@ use lib.ListN.{length}
 use borrow.Author.Tests.{not-false}
 use Rattle.frames.specs.Step.{ends}
 use Rattle.frames.specs.Reading.{stops, steps, framesIn, framesOf, countsOf}
-use Rattle.frames.specs.Cursors.{countsIn, over, passes, ended, nextOf, after, Told, Led, start, more}
+use Rattle.frames.specs.Cursors.{countsIn, over, passes, ended, nextOf, after, remaining, Told, Led, start, more}
 use Rattle.frames.specs.declared.step.Step.{Step}
 use Rattle.frames.specs.declared.step.Step.the-variants.{Finished, Junk, Short, Bad, Found}
 use Rattle.frames.specs.declared.step.Frame.{Frame}
@@ -43,12 +43,8 @@ module _ (s : List ℕ) (small : length s < 2 ^ 64) (growing : Bool) where
 
   -- ---- the answers of a cursor
 
-  -- the frames that are left
-  abbrev remaining : Cursor → List Frame
-  remaining c = framesOf (steps growing s (c .at))
-
-  -- a step that is passed over leaves them as they are
-  remaining-over : (c : Cursor) → passes growing (here s c) ≡ true → remaining c ≡ remaining (over c (here s c))
+  -- a step that is passed over leaves the frames that are left as they are
+  remaining-over : (c : Cursor) → passes growing (here s c) ≡ true → remaining growing s c ≡ remaining growing s (over c (here s c))
   unfolding framesOf
   remaining-over c e =
       let goes = passed-on growing (here s c) e in
@@ -56,13 +52,13 @@ module _ (s : List ℕ) (small : length s < 2 ^ 64) (growing : Bool) where
       ∙ passed-no-frame growing (here s c) (framesOf (steps growing s (ends s (c .at)))) e
       ∙ ap (λ (p : ℕ). framesOf (steps growing s p)) (sym (over-ends s small growing c goes))
 
-  told-by : {c : Cursor} {n : Next.Next} → Answered growing s c n → c .at ≤ length s → Told growing s (remaining c) n
+  told-by : {c : Cursor} {n : Next.Next} → Answered growing s c n → c .at ≤ length s → Told growing s (remaining growing s c) n
   unfolding framesOf
   told-by (pass {c = c} {n = n} e rest) h =
       subst⁻¹ (λ (fs : List Frame). Told growing s fs n) (remaining-over c e) (told-by rest (over-further s small growing c (passed-on growing (here s c) e) .1))
   told-by (end {c = c} e) h = at (here s c) refl e
     where
-      at : (x : Step) → here s c ≡ x → passes growing x ≡ false → Told growing s (remaining c) (ended c x)
+      at : (x : Step) → here s c ≡ x → passes growing x ≡ false → Told growing s (remaining growing s c) (ended c x)
       at Finished q e = (ap framesOf (steps-stop growing s (c .at) (ap (stops growing) q)), omega (arith, at-end s (c .at) (ap (stops false) q)))
       at Junk q e = absurd (true≢false e)
       at (Short n) q e =
@@ -74,13 +70,13 @@ module _ (s : List ℕ) (small : length s < 2 ^ 64) (growing : Bool) where
           ap framesOf (steps-go growing s (c .at) goes)
           ∙ ap₂ (λ (x : Step) (p : ℕ). framesIn x (framesOf (steps growing s p))) q (sym (over-ends s small growing c goes) ∙ ap (λ (x : Step). over c x .at) q)
 
-  pub told : (c : Cursor) → c .growing ≡ growing → c .at ≤ length s → Told growing s (framesOf (steps growing s (c .at))) (nextOf s c)
+  pub told : (c : Cursor) → c .growing ≡ growing → c .at ≤ length s → Told growing s (remaining growing s c) (nextOf s c)
   told c m h = told-by (answered s small growing c m) h
 
   -- ---- both, of what next answered
 
-  pub said : {c : Cursor} {n : Next.Next} → Honest growing s c → nextOf s c ≡ n → Told growing s (remaining c) n × Honest growing s (after n)
-  said {c} h e = (subst (Told growing s (remaining c)) e (told c (h .mode) (h .inside)), subst (λ (n : Next.Next). Honest growing s (after n)) e (honest-after (answered s small growing c (h .mode)) h))
+  pub said : {c : Cursor} {n : Next.Next} → Honest growing s c → nextOf s c ≡ n → Told growing s (remaining growing s c) n × Honest growing s (after n)
+  said {c} h e = (subst (Told growing s (remaining growing s c)) e (told c (h .mode) (h .inside)), subst (λ (n : Next.Next). Honest growing s (after n)) e (honest-after (answered s small growing c (h .mode)) h))
 
   -- when no frame is left the counts are those of the whole reading
   pub honest-end : {c d : Cursor} → Honest growing s c → nextOf s c ≡ Next.the-variants.End d → countsIn d ≡ countsOf (steps growing s 0)
@@ -92,15 +88,15 @@ module _ (s : List ℕ) (small : length s < 2 ^ 64) (growing : Bool) where
   -- ---- calls of next from the start on
 
   -- the frames handed out and those left are the frames of the whole reading
-  pub led : {fs : List Frame} {c : Cursor} → Led growing s fs c → Honest growing s c × (fs ++ framesOf (steps growing s (c .at)) ≡ framesOf (steps growing s 0))
+  pub led : {fs : List Frame} {c : Cursor} → Led growing s fs c → Honest growing s c × (fs ++ remaining growing s c ≡ framesOf (steps growing s 0))
   led start = (honest-begun s small growing, refl)
   led (more {fs = fs} {d = d} {f = f} l e) =
       let before = led l in
       let now = said (before .0) e in
-      (now .1, append-assoc fs (f ∷ []) (remaining d) ∙ ap (λ (gs : List Frame). fs ++ gs) (sym (now .0)) ∙ before .1)
+      (now .1, append-assoc fs (f ∷ []) (remaining growing s d) ∙ ap (λ (gs : List Frame). fs ++ gs) (sym (now .0)) ∙ before .1)
 
   -- when none is left, all were handed out
-  all-handed : {fs : List Frame} {c : Cursor} → Led growing s fs c → remaining c ≡ [] → fs ≡ framesOf (steps growing s 0)
+  all-handed : {fs : List Frame} {c : Cursor} → Led growing s fs c → remaining growing s c ≡ [] → fs ≡ framesOf (steps growing s 0)
   all-handed {fs} l none = sym (append-nil fs) ∙ ap (λ (gs : List Frame). fs ++ gs) (sym none) ∙ led l .1
 
   pub led-end : {fs : List Frame} {c d : Cursor} → Led growing s fs c → nextOf s c ≡ Next.the-variants.End d

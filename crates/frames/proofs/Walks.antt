@@ -6,17 +6,17 @@ use mathlib.Core.List.{List, [], _∷_}
 use Prim.Native.Nat.{ℕ, _^_, _<_}
 use native.Mathlib.Omega.{arith}
 use lib.ListN.{length}
-use Rattle.frames.specs.Reading.{steps, closedSteps, framesOf, countsOf}
-use Rattle.frames.specs.Cursors.{begun, countsIn, nextOf}
+use Rattle.frames.specs.Reading.{closedSteps, framesOf, countsOf}
+use Rattle.frames.specs.Cursors.{begun, countsIn, nextOf, remaining}
 use Rattle.frames.specs.declared.step.Frame.{Frame}
 use Rattle.frames.specs.declared.cursor.Cursor.{Cursor}
 use Rattle.frames.specs.declared.cursor.Next as Next
 use Rattle.frames.proofs.Cursors.{Honest, honest-begun}
 use Rattle.frames.proofs.Answers.{said, honest-end}
 
--- the frames that a cursor has left
+-- the frames that a cursor of a closed reading has left
 abbrev pub left : List ℕ → Cursor → List Frame
-left s c = framesOf (steps false s (c .at))
+left s c = remaining false s c
 
 -- an honest cursor, and R of the frames that it has left
 pub record Walking (s : List ℕ) (R : List Frame → Type 0) (c : Cursor) : Type 0 where

@@ -65,9 +65,13 @@ after (Next.the-variants.Needs n c) = c
 
 -- ---- what that tells of the whole reading
 
+-- the frames that a cursor has left
+abbrev pub remaining : Bool → List ℕ → Cursor → List Frame
+remaining growing s c = framesOf (steps growing s (c .at))
+
 -- what an answer tells, where fs are the frames that were left: the first of them and a cursor from which the others are left, or that there are none
 abbrev pub Told : Bool → List ℕ → List Frame → Next.Next → Type 0
-Told growing s fs (Next.the-variants.Frame f c) = fs ≡ f ∷ framesOf (steps growing s (c .at))
+Told growing s fs (Next.the-variants.Frame f c) = fs ≡ f ∷ remaining growing s c
 Told growing s fs (Next.the-variants.End c) = (fs ≡ []) × (c .at ≡ length s)
 Told growing s fs (Next.the-variants.Needs n c) = (fs ≡ []) × (stepAt s (c .at) ≡ Short n) × (growing ≡ true)
 
