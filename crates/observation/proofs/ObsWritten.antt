@@ -2,7 +2,7 @@
 use mathlib.Core.Path.{_≡_, refl, sym, ap, ap₂, _∙_}
 use mathlib.Core.Bool.{Bool, true, false}
 use mathlib.Core.List.{List}
-use Prim.Native.Nat.{ℕ, _+_, _*_, _≤_, _<_}
+use Prim.Native.Nat.{ℕ, _+_, _≤_, _<_}
 use native.Mathlib.Omega.{arith}
 use lib.Dec.{leb}
 use lib.ListN.{length, getD, take}
@@ -16,7 +16,7 @@ use Rattle.wire.proofs.Fields.{length-encode, row-sets}
 use Rattle.frames.specs.Writer.{planned, sealed, framed}
 use Rattle.frames.proofs.WrittenPlan as plans
 use Rattle.frames.proofs.Written.{writes, framed-unfit}
-use Rattle.observation.specs.Layout.{first}
+use Rattle.observation.specs.Layout.{first, startOf}
 use Rattle.observation.specs.Obs.{head, observation, readEntry, readObs, entriesBytes, obsPayload}
 use Rattle.observation.specs.ObsWriter.{headOf, payloadFor, obsWriteAnswer, obsWritten}
 use Rattle.observation.specs.declared.entry.Observation.{Observation}
@@ -27,7 +27,7 @@ use Rattle.observation.proofs.Payloads.{length-payload, reads-obs, read
 
 -- how long the payload is
 abbrev pub sizeFor : Obs → ℕ
-sizeFor o = 7 + o .count * 16
+sizeFor o = startOf first (o .count)
 
 module _ (o : Obs) (room : ℕ) where
   answer-31 : 15 < o .count → obsWriteAnswer o room ≡ refused 31

@@ -1,11 +1,12 @@
 -- The carrier phase and its pair, each the other's inverse over the whole range. Assumes nothing.
-use mathlib.Core.Path.{_≡_, ap, _∙_}
-use mathlib.Core.Bool.{cond, true}
+use mathlib.Core.Path.{_≡_, refl, sym, ap, _∙_}
+use mathlib.Core.Bool.{cond, true, and-true}
 use Prim.Native.Nat.{ℕ, suc, _+_, _-_, _*_, _/_, _%_, _^_, _<_}
 use native.Mathlib.Omega.{arith}
+use lib.Dec.{leb}
 use lib.IntN.{ℤ, pos, negsuc, negℤ, _+ℤ_}
 use lib.Signed.{mag}
-use borrow.Author.Tests.{lt-ltb, ltb-true}
+use borrow.Author.Tests.{lt-ltb, le-leb, leb-true}
 use Rattle.observation.specs.Phase.{phaseOf, inPhase, partsOf}
 use Rattle.observation.specs.declared.phase.Phase.{Phase}
 
@@ -49,6 +50,14 @@ parts-phase p h = pair-back (p .«l_i») (p .«l_f») h
 
 -- ---- the range
 
+-- the last phase; the first is -1 - last
+abbrev pub last : ℕ
+last = 549755813887
+
+pub in-range : (z : ℤ) → inPhase z ≡ leb (mag z) last
+in-range (pos n) = refl
+in-range (negsuc n) = and-true (leb n last)
+
 pair-lt : (i : ℤ) (f : ℕ) → mag i < 2 ^ 31 → f < 256 → mag (phaseOf (pair i f)) < 2 ^ 39
 pair-lt (pos a) f hi hf = omega arith
 pair-lt (negsuc a) f hi hf = rw (below-zero a f hf) (omega arith)
@@ -58,12 +67,9 @@ pub phase-lt : (p : Phase) → mag (p .«l_i») < 2 ^ 31 → p .«l_f» < 256 �
 phase-lt p hi hf = pair-lt (p .«l_i») (p .«l_f») hi hf
 
 pub phase-in : (p : Phase) → mag (p .«l_i») < 2 ^ 31 → p .«l_f» < 256 → inPhase (phaseOf p) ≡ true
-phase-in p hi hf = lt-ltb (mag (phaseOf p)) _ (omega (arith, phase-lt p hi hf))
+phase-in p hi hf = in-range (phaseOf p) ∙ le-leb (mag (phaseOf p)) last (omega (arith, phase-lt p hi hf))
 
 -- and an observation has the pair of a phase in the range
-pub parts-lt : (z : ℤ) → mag z < 2 ^ 39 → (mag (partsOf z .«l_i») < 2 ^ 31) × (partsOf z .«l_f» < 256)
-parts-lt (pos n) h = omega arith
-parts-lt (negsuc n) h = omega arith
-
 pub parts-in : (z : ℤ) → inPhase z ≡ true → (mag (partsOf z .«l_i») < 2 ^ 31) × (partsOf z .«l_f» < 256)
-parts-in z e = parts-lt z (omega (arith, ltb-true (mag z) _ e))
+parts-in (pos n) e = omega (arith, leb-true n last e)
+parts-in (negsuc n) e = omega (arith, leb-true n last (sym (in-range (negsuc n)) ∙ e))
