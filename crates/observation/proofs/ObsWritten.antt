@@ -1,68 +1,50 @@
--- OBS written: when it is refused, what the ways through the writer answer and leave in the buffer, and that what is written reads back.
--- Assumes nothing.
+-- OBS written: what the ways through the writer answer and leave in the buffer, and that what is written reads back. Assumes nothing.
 use mathlib.Core.Path.{_≡_, refl, sym, ap, ap₂, _∙_}
 use mathlib.Core.Bool.{Bool, true, false}
 use mathlib.Core.List.{List}
-use mathlib.Core.Logic.{_↔_, _⊎_, inl, inr, ⊎-elim}
-use Prim.Native.Nat.{ℕ, _+_, _*_, _≤_, _<_}
+use Prim.Native.Nat.{ℕ, _+_, _≤_, _<_}
 use native.Mathlib.Omega.{arith}
 use lib.Dec.{leb}
 use lib.ListN.{length, getD, take}
 use lib.Seq.{sets, getD-take, length-take-le}
-use borrow.Author.Tests.{le-leb, lt-leb, leb-true, leb-false, eqb-false}
+use borrow.Author.Tests.{le-leb, lt-leb, leb-true, leb-false}
 use Rattle.wire.specs.Field.{HeldRow, encode, rowStored}
 use Rattle.wire.specs.Message.{Answer, given, refused}
+use Rattle.wire.proofs.Answers.{never-both}
 use Rattle.wire.proofs.Numbers.{sets-append}
 use Rattle.wire.proofs.Fields.{length-encode, row-sets}
 use Rattle.frames.specs.Writer.{planned, sealed, framed}
 use Rattle.frames.proofs.WrittenPlan as plans
 use Rattle.frames.proofs.Written.{writes, framed-unfit}
-use Rattle.observation.specs.Layout.{first}
-use Rattle.observation.specs.Obs.{head, observation, readEntry, readObs, entriesBytes, obsPayload}
+use Rattle.observation.specs.Layout.{first, startOf, rowsBytes}
+use Rattle.observation.specs.Obs.{head, observation, readEntry, readObs, obsPayload}
 use Rattle.observation.specs.ObsWriter.{headOf, payloadFor, obsWriteAnswer, obsWritten}
 use Rattle.observation.specs.declared.entry.Observation.{Observation}
 use Rattle.observation.specs.declared.obs.Obs.{Obs}
-use Rattle.wire.proofs.Answers.{same-refused, never-both}
 use Rattle.observation.proofs.Payloads.{length-payload, reads-obs, reads-entry}
 
 -- ---- the answer
 
 -- how long the payload is
 abbrev pub sizeFor : Obs → ℕ
-sizeFor o = 7 + o .count * 16
-
-few-or-many : (o : Obs) → (o .count ≤ 15) ⊎ (15 < o .count)
-few-or-many o = go (leb (o .count) 15) refl
-  where
-    go : (t : Bool) → leb (o .count) 15 ≡ t → (o .count ≤ 15) ⊎ (15 < o .count)
-    go true e = inl (leb-true (o .count) 15 e)
-    go false e = inr (leb-false (o .count) 15 e)
+sizeFor o = startOf first (o .count)
 
 module _ (o : Obs) (room : ℕ) where
   answer-31 : 15 < o .count → obsWriteAnswer o room ≡ refused 31
   unfolding obsWriteAnswer
   answer-31 many = rw (lt-leb (o .count) 15 many)
 
-  answer-planned : o .count ≤ 15 → obsWriteAnswer o room ≡ planned (sizeFor o) room
+  pub answer-planned : o .count ≤ 15 → obsWriteAnswer o room ≡ planned (sizeFor o) room
   unfolding obsWriteAnswer
   answer-planned few = rw (le-leb (o .count) 15 few)
 
-  -- 31 exactly when there are over 15 observations, then 32 exactly when their frame has no room
-  pub exactly-31 : (obsWriteAnswer o room ≡ refused 31) ↔ (15 < o .count)
-  exactly-31 = (λ r. ⊎-elim (only r) (λ many. many) (few-or-many o), answer-31)
-    where
-      only : obsWriteAnswer o room ≡ refused 31 → o .count ≤ 15 → 15 < o .count
-      only r few = omega (arith, plans.exactly-31 (sizeFor o) room .0 (sym (answer-planned few) ∙ r))
-
-  pub exactly-32 : (obsWriteAnswer o room ≡ refused 32) ↔ ((o .count ≤ 15) × (room < sizeFor o + 8))
-  exactly-32 = (
-    λ r. ⊎-elim (λ few. (few, plans.exactly-32 (sizeFor o) room .0 (sym (answer-planned few) ∙ r) .1)) (λ many. absurd (eqb-false 32 31 refl (same-refused r (answer-31 many)))) (few-or-many o),
-    λ c. answer-planned (c .0) ∙ plans.planned-32 (sizeFor o) room (omega arith) (c .1),
-  )
-
   -- a writer that answers a length found few enough and room for the frame
   written-when : {n : ℕ} → obsWriteAnswer o room ≡ given n → (o .count ≤ 15) × (planned (sizeFor o) room ≡ given n)
-  written-when g = ⊎-elim (λ few. (few, sym (answer-planned few) ∙ g)) (λ many. absurd (never-both g (answer-31 many))) (few-or-many o)
+  written-when {n} g = by (leb (o .count) 15) refl
+    where
+      by : (t : Bool) → leb (o .count) 15 ≡ t → (o .count ≤ 15) × (planned (sizeFor o) room ≡ given n)
+      by true e = let few = leb-true (o .count) 15 e in (few, sym (answer-planned few) ∙ g)
+      by false e = absurd (never-both g (answer-31 (leb-false (o .count) 15 e)))
 
 -- ---- the payload
 
@@ -71,13 +53,13 @@ module _ (o : Obs) (entries : List Observation) (enough : o .count ≤ length en
   counted = length-take-le (o .count) entries enough
 
   length-written : length (payloadFor o entries) ≡ sizeFor o
-  length-written = omega (arith, length-payload (headOf o) (take (o .count) entries), counted)
+  length-written = length-payload (headOf o) (take (o .count) entries) ∙ ap (startOf first) counted
 
 -- ---- the ways through the writer
 
 module _ (sender : ℕ) (o : Obs) (entries : List Observation) (buf : List ℕ) where
   -- what it answers, and the buffer as it leaves it
-  abbrev pub Wrote : Answer ℕ → List ℕ → Type 0
+  abbrev Wrote : Answer ℕ → List ℕ → Type 0
   Wrote a u = (a ≡ obsWriteAnswer o (length buf)) × (u ≡ obsWritten sender o entries buf)
 
   -- too many observations: nothing is written
@@ -91,11 +73,11 @@ module _ (sender : ℕ) (o : Obs) (entries : List Observation) (buf : List ℕ) 
 
   -- the header and then the observations stored are the payload stored
   stored-payload : 13 ≤ length buf → {s t : List ℕ} → s ≡ rowStored (head .fields) (head .row (headOf o)) buf 6
-      → t ≡ sets s 13 (entriesBytes (take (o .count) entries)) → t ≡ sets buf 6 (payloadFor o entries)
+      → t ≡ sets s 13 (rowsBytes observation (take (o .count) entries)) → t ≡ sets buf 6 (payloadFor o entries)
   unfolding obsPayload
   stored-payload room p q =
       let v = head .row (headOf o) in
-      let os = entriesBytes (take (o .count) entries) in
+      let os = rowsBytes observation (take (o .count) entries) in
       q ∙ ap₂ (λ (s : List ℕ) (i : ℕ). sets s i os) (p ∙ row-sets (head .fields) v buf 6 room) (ap (λ (n : ℕ). 6 + n) (sym (length-encode (head .fields) v)))
       ∙ sym (sets-append buf 6 (encode (head .fields) v) os)
 
@@ -112,7 +94,7 @@ module _ (sender : ℕ) (o : Obs) (entries : List Observation) (buf : List ℕ) 
 
     -- the header and the observations stored, then sealed
     pub wrote : {n : ℕ} {s t u : List ℕ} → planned (sizeFor o) (length buf) ≡ given n → s ≡ rowStored (head .fields) (head .row (headOf o)) buf 6
-        → t ≡ sets s 13 (entriesBytes (take (o .count) entries)) → u ≡ sealed (first .kind) sender (sizeFor o) t → Wrote a u
+        → t ≡ sets s 13 (rowsBytes observation (take (o .count) entries)) → u ≡ sealed (first .kind) sender (sizeFor o) t → Wrote a u
     wrote {t = t} g p q r =
         let room = plans.fits (sizeFor o) (length buf) g in
         let closed = r ∙ ap (λ (n : ℕ). sealed (first .kind) sender n t) (sym (length-written o entries enough)) in
