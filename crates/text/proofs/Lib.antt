@@ -1,4 +1,4 @@
 pub mod Decimals
-pub mod Digits
+pub mod Filling
 pub mod Pending
 pub mod Lines

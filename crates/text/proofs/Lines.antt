@@ -1,13 +1,14 @@
--- Lines: their lengths, and their fields stored one after the other. Assumes nothing.
-use mathlib.Core.Path.{_≡_, refl, sym, ap, _∙_, subst}
-use mathlib.Core.List.{List, [], _∷_, _++_, append-assoc}
-use Prim.Native.Nat.{ℕ, suc, _+_, _*_, _%_, _^_, _≤_, _<_}
+-- Lines: their lengths, and their fields one number more at a time. Assumes nothing.
+use mathlib.Core.Path.{_≡_, refl, sym, ap, ap₂, _∙_, subst, subst⁻¹}
+use mathlib.Core.List.{List, [], _∷_, _++_, append-assoc, append-nil}
+use Prim.Native.Nat.{ℕ, suc, _+_, _*_, _-_, _%_, _^_, _≤_, _<_}
 use native.Mathlib.Omega.{arith}
-use lib.ListN.{length, getD, set, drop, length-append, drop-of-length-le}
-use lib.Seq.{sets, drop-cons, length-sets}
+use lib.ListN.{length, getD, set, take, length-append}
+use lib.Seq.{sets, take-all, take-suc}
 use Rattle.text.specs.Decimal.{decimal}
 use Rattle.text.specs.Line.{fields, line, laid}
-use Rattle.text.proofs.Pending.{Pending, pending-sets, laid-fits, laid-unfit}
+use Rattle.text.proofs.Filling.{last-first, Filling, filling-begun, filling-length, filling-more}
+use Rattle.text.proofs.Pending.{laid-fits, laid-unfit}
 
 pub length-fields : (n : ℕ) (ns : List ℕ) → length (fields (n ∷ ns)) ≡ length (decimal n) + 1 + length (fields ns)
 unfolding fields
@@ -21,64 +22,84 @@ line-stored : (letter : ℕ) (ns buf : List ℕ) (at : ℕ) → sets (set buf at
 unfolding line
 line-stored letter ns buf at = refl
 
--- what is left of a line's fields
-abbrev pub left : List ℕ → ℕ → List ℕ
-left ns i = fields (drop i ns) ++ 10 ∷ []
+-- ---- one number more
 
-left-next : (ns : List ℕ) (i : ℕ) → i < length ns → left ns i ≡ (32 ∷ decimal (getD ns i 0)) ++ left ns (suc i)
+fields-append : (xs ys : List ℕ) → fields (xs ++ ys) ≡ fields xs ++ fields ys
 unfolding fields
-left-next ns i h =
-    ap (λ (r : List ℕ). fields r ++ 10 ∷ []) (drop-cons ns i 0 h)
-    ∙ append-assoc (32 ∷ decimal (getD ns i 0)) (fields (drop (suc i) ns)) (10 ∷ [])
+fields-append [] ys = refl
+fields-append (x ∷ xs) ys =
+    ap (λ (r : List ℕ). 32 ∷ decimal x ++ r) (fields-append xs ys) ∙ sym (append-assoc (32 ∷ decimal x) (fields xs) (fields ys))
 
-left-none : (ns : List ℕ) (i : ℕ) → length ns ≤ i → left ns i ≡ 10 ∷ []
-unfolding fields
-left-none ns i h = ap (λ (r : List ℕ). fields r ++ 10 ∷ []) (drop-of-length-le ns h)
+module _ (ns : List ℕ) (i : ℕ) (h : i < length ns) where
+  fields-more : fields (take (suc i) ns) ≡ fields (take i ns) ++ 32 ∷ decimal (getD ns i 0)
+  unfolding fields
+  fields-more =
+      ap fields (take-suc ns i 0 h)
+      ∙ fields-append (take i ns) (getD ns i 0 ∷ [])
+      ∙ ap (λ (r : List ℕ). fields (take i ns) ++ 32 ∷ r) (append-nil (decimal (getD ns i 0)))
 
-module _ {P : Type 0} {goal : List ℕ} {end : ℕ} {buf : List ℕ} {to : ℕ} (ns : List ℕ) (i : ℕ) (k : Pending P goal end buf to (left ns i)) where
-  -- the next number has room, and is put
-  pub left-room : i < length ns → end ≤ length goal → to + length (decimal (getD ns i 0)) + 1 ≤ length buf
-  left-room h room =
-      let next = ap length (left-next ns i h) ∙ length-append (32 ∷ decimal (getD ns i 0)) (left ns (suc i)) in
-      omega (arith, k .place, k .size, room, next)
-
-  pub left-more : {after : List ℕ} {next : ℕ} → i < length ns → next ≡ to + length (decimal (getD ns i 0)) + 1 → after ≡ sets buf to (32 ∷ decimal (getD ns i 0))
-      → Pending P goal end after next (left ns (i + 1))
-  left-more {after} {next} h q e =
-      let one : suc i ≡ i + 1 = omega arith in
-      let more = subst (Pending P goal end buf to) (left-next ns i h) k in
-      let piece : List ℕ = 32 ∷ decimal (getD ns i 0) in
-      subst (λ (j : ℕ). Pending P goal end after next (left ns j)) one
-      (pending-sets piece (left ns (suc i)) more (ap length e ∙ length-sets buf to piece) (λ p. e) (omega (arith, q)))
-
-  -- the line's end has room, and is put
-  pub last-room : length ns ≤ i → end ≤ length goal → to < length buf
-  last-room h room = omega (arith, k .place, k .size, room, ap length (left-none ns i h))
-
-  pub last-put : length ns ≤ i → P → set buf to 10 ≡ goal
-  last-put h p = ap (sets buf to) (sym (left-none ns i h)) ∙ k .text p
+  longer : length (fields (take (suc i) ns)) ≡ length (fields (take i ns)) + (length (decimal (getD ns i 0)) + 1)
+  longer = omega (arith, ap length fields-more, length-append (fields (take i ns)) (32 ∷ decimal (getD ns i 0)))
 
 -- ---- the length, summed number by number
 
 pub record Summing (ns : List ℕ) (n i : ℕ) : Type 0 where
-  pub inside : i ≤ length ns
   pub most : n ≤ 2 + 21 * i
-  pub whole : n + length (fields (drop i ns)) ≡ length (fields ns) + 2
+  pub whole : n ≡ length (fields (take i ns)) + 2
 
 pub summing-begun : (ns : List ℕ) → Summing ns 2 0
-summing-begun ns = record { inside = omega arith; most = omega arith; whole = omega arith }
+unfolding fields
+summing-begun ns = record { most = omega arith; whole = refl }
 
 module _ (ns : List ℕ) {n i : ℕ} (k : Summing ns n i) where
   pub summing-more : {d : ℕ} → i < length ns → d ≡ length (decimal (getD ns i 0)) → d ≤ 20 → Summing ns (n + (d + 1)) (i + 1)
   summing-more {d} h e few =
-      let next = ap (λ (r : List ℕ). length (fields r)) (drop-cons ns i 0 h) ∙ length-fields (getD ns i 0) (drop (suc i) ns) in
-      let one : suc i ≡ i + 1 = omega arith in
-      let rest = ap (λ (j : ℕ). length (fields (drop j ns))) one in
-      record { inside = omega arith; most = omega (arith, k .most, few, e); whole = omega (arith, k .whole, next, rest, e) }
+      let one : i + 1 ≡ suc i = omega arith in
+      record {
+        most = omega (arith, k .most, few, e);
+        whole = omega (arith, k .whole, longer ns i h, e, ap (λ (j : ℕ). length (fields (take j ns))) one);
+      }
 
   pub summing-end : length ns ≤ i → n ≡ length (fields ns) + 2
-  unfolding fields
-  summing-end h = let none = ap (λ (r : List ℕ). length (fields r)) (drop-of-length-le ns h) in omega (arith, k .whole, none)
+  summing-end h = k .whole ∙ ap (λ (r : List ℕ). length (fields r) + 2) (take-all i ns h)
+
+-- ---- the fields, stored before an end
+
+module _ (buf : List ℕ) (end : ℕ) (ns : List ℕ) where
+  -- those of the first i numbers are left, and end at `to`
+  abbrev pub Left : List ℕ → ℕ → ℕ → Type 0
+  Left after to i =
+      let start = end - length (fields ns) in
+      (i ≤ length ns) × Filling start (sets buf start (fields ns)) after to (fields (take i ns))
+
+  pub left-begun : {i : ℕ} → length (fields ns) ≤ end → end ≤ length buf → i ≡ length ns → Left buf end i
+  left-begun {i} room fits all =
+      let whole = take-all i ns (omega (arith, all)) in (
+        omega (arith, all),
+        subst⁻¹ (λ (r : List ℕ). Filling (end - length (fields ns)) (sets buf (end - length (fields ns)) (fields ns)) buf end (fields r)) whole (filling-begun buf end (fields ns) room fits),
+      )
+
+  module _ {after : List ℕ} {to i : ℕ} (k : Left after to i) where
+    -- the last of them has room, and is put
+    pub left-room : 0 < i → (length (decimal (getD ns (i - 1) 0)) + 1 ≤ to) × (to ≤ length after)
+    left-room some =
+        let one : i ≡ suc (i - 1) = omega arith in
+        let more = ap (λ (j : ℕ). length (fields (take j ns))) one ∙ longer ns (i - 1) (omega (arith, k .0)) in
+        (omega (arith, k .1 .place, more), omega (arith, k .1 .inside, filling-length (k .1)))
+
+    pub left-more : 0 < i → {next : List ℕ} {at : ℕ} → at ≡ to - (length (decimal (getD ns (i - 1) 0)) + 1)
+        → next ≡ sets after (to - (length (decimal (getD ns (i - 1) 0)) + 1)) (32 ∷ decimal (getD ns (i - 1) 0)) → Left next at (i - 1)
+    left-more some {next} {at} here e =
+        let n = getD ns (i - 1) 0 in
+        let one : i ≡ suc (i - 1) = omega arith in
+        let all = ap (λ (j : ℕ). fields (take j ns)) one ∙ fields-more ns (i - 1) (omega (arith, k .0)) in
+        (omega (arith, k .0), filling-more (32 ∷ decimal n) all (k .1) (omega (arith, here)) (e ∙ ap (λ (j : ℕ). sets after j (32 ∷ decimal n)) (sym here)))
+
+    pub left-none : i ≤ 0 → after ≡ sets buf (end - length (fields ns)) (fields ns)
+    unfolding fields
+    left-none h =
+        let none : i ≡ 0 = omega arith in
+        subst (λ (j : ℕ). sets after (end - length (fields ns)) (fields (take j ns)) ≡ sets buf (end - length (fields ns)) (fields ns)) none (k .1 .text)
 
 -- ---- a whole line
 
@@ -96,12 +117,19 @@ module _ (letter : ℕ) (ns buf : List ℕ) (at : ℕ) {n end : ℕ} (size : n �
   pub line-unfit : length buf < at + n → Put buf
   line-unfit h = (ended, sym (laid-unfit buf at (line letter ns) (omega (arith, h, long))))
 
-  pub line-fits : {after : List ℕ} → at + n ≤ length buf → after ≡ sets (set buf at letter) (at + 1) (fields ns ++ 10 ∷ []) → Put after
-  line-fits h e =
-      let one : at + 1 ≡ suc at = omega arith in (
-        ended,
-        e
-            ∙ ap (λ (k : ℕ). sets (set buf at letter) k (fields ns ++ 10 ∷ [])) one
-            ∙ line-stored letter ns buf at
-            ∙ sym (laid-fits buf at (line letter ns) (omega (arith, h, long))),
-      )
+  module _ (small : length buf < 2 ^ 64) (h : at + n ≤ length buf) where
+    -- it ends there, with nothing wrapped
+    pub line-end : end ≡ at + n
+    line-end = omega (arith, past)
+
+    pub line-fits : {after : List ℕ} → after ≡ sets (set (set buf at letter) (end - 1) 10) (end - 1 - length (fields ns)) (fields ns) → Put after
+    line-fits e =
+        let last : end - 1 ≡ suc at + length (fields ns) = omega (arith, line-end, size) in
+        let behind : end - 1 - length (fields ns) ≡ suc at = omega (arith, last) in (
+          ended,
+          e
+              ∙ ap₂ (λ (j k : ℕ). sets (set (set buf at letter) j 10) k (fields ns)) last behind
+              ∙ sym (last-first (set buf at letter) (suc at) (fields ns) (10 ∷ []))
+              ∙ line-stored letter ns buf at
+              ∙ sym (laid-fits buf at (line letter ns) (omega (arith, h, long))),
+        )

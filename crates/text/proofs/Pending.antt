@@ -37,23 +37,19 @@ unfolding laid
 laid-unfit buf at text h = rw (lt-leb (at + length text) (length buf) h)
 
 module _ {P : Type 0} {goal : List ℕ} {end : ℕ} {buf : List ℕ} {at : ℕ} where
-  -- a piece is stored, for P at least
-  pub pending-sets : (piece rest : List ℕ) {after : List ℕ} {to : ℕ} → Pending P goal end buf at (piece ++ rest) → length after ≡ length buf → (P → after ≡ sets buf at piece)
-      → to ≡ at + length piece → Pending P goal end after to rest
-  pending-sets piece rest p same e q =
-      record {
-        place = omega (arith, q, p .place, length-append piece rest);
-        size = same ∙ p .size;
-        text = λ (h : P). ap₂ (λ (t : List ℕ) (i : ℕ). sets t i rest) (e h) q ∙ sym (sets-append buf at piece rest) ∙ p .text h;
-      }
-
-  -- one stored where it has room, and its end by a sum that could wrap
+  -- a piece is stored where it has room, and its end is a sum that could wrap
   pub pending-laid : (piece rest : List ℕ) {after : List ℕ} {to : ℕ} → Pending P goal end buf at (piece ++ rest) → end < 2 ^ 64 → (P → end ≤ length goal)
       → after ≡ laid buf at piece → to ≡ (at + length piece) % 2 ^ 64 → Pending P goal end after to rest
-  pending-laid piece rest p small room e q =
+  pending-laid piece rest {after} {to} p small room e q =
       let both = length-append piece rest in
-      pending-sets piece rest p (ap length e ∙ length-laid buf at piece) (λ h. e ∙ laid-fits buf at piece (omega (arith, room h, p .size, p .place, both)))
-      (omega (arith, q, p .place, both))
+      let there : to ≡ at + length piece = omega (arith, q, p .place, both) in
+      record {
+        place = omega (arith, there, p .place, both);
+        size = ap length e ∙ length-laid buf at piece ∙ p .size;
+        text = λ (h : P).
+            let fits = laid-fits buf at piece (omega (arith, room h, p .size, p .place, both)) in
+            ap₂ (λ (t : List ℕ) (i : ℕ). sets t i rest) (e ∙ fits) there ∙ sym (sets-append buf at piece rest) ∙ p .text h;
+      }
 
   -- nothing is left
   pub pending-done : Pending P goal end buf at [] → (at ≡ end) × (P → buf ≡ goal)

@@ -3,7 +3,7 @@
 // A line that has no room changes nothing, and still says where it would end.
 ghost use mathlib.Core.Path.{_≡_};
 ghost use Prim.Native.Nat.{_+_, _%_, _^_, _-_, _≤_};
-ghost use mathlib.Core.List.{_∷_, _++_, []};
+ghost use mathlib.Core.List.{_∷_};
 ghost use lib.ListN.{length};
 ghost use lib.Seq.{sets};
 ghost use Rattle.text.specs.Decimal.{decimal};
@@ -22,32 +22,35 @@ fn digit_count(n: u64) -> usize
     count
 }
 
-// Stores the digits of a number so that the last stands before end.
-fn put_digits(buf: &mut [u8], end: usize, n: u64)
+// Stores the digits of a number so that the last stands before end, and says where the first stands.
+fn put_digits(buf: &mut [u8], end: usize, n: u64) -> usize
     requires { ⌜ length (decimal n) ≤ end ⌝ }
     requires { ⌜ end ≤ length (now buf) ⌝ }
+    ensures { λ r. ⌜ r ≡ end - length (decimal n) ⌝ }
     ensures { λ _. ⌜ now (buf .exit) ≡ sets (now (buf .entry)) (end - length (decimal n)) (decimal n) ⌝ }
 {
-    let mut at = end - 1;
+    let mut at = end;
     let mut rest = n;
     while 10 <= rest {
+        at -= 1;
         buf[at] = 48 + (rest % 10) as u8;
         rest = rest / 10;
-        at -= 1;
     }
+    at -= 1;
     buf[at] = 48 + rest as u8;
+    at
 }
 
-// Stores a space and a number, and says where they end.
-fn put_number(buf: &mut [u8], at: usize, n: u64) -> usize
-    requires { ⌜ at + length (decimal n) + 1 ≤ length (now buf) ⌝ }
-    ensures { λ r. ⌜ r ≡ at + length (decimal n) + 1 ⌝ }
-    ensures { λ _. ⌜ now (buf .exit) ≡ sets (now (buf .entry)) at (32 ∷ decimal n) ⌝ }
+// Stores a space and a number before end, and says where the space stands.
+fn put_number(buf: &mut [u8], end: usize, n: u64) -> usize
+    requires { ⌜ length (decimal n) + 1 ≤ end ⌝ }
+    requires { ⌜ end ≤ length (now buf) ⌝ }
+    ensures { λ r. ⌜ r ≡ end - (length (decimal n) + 1) ⌝ }
+    ensures { λ _. ⌜ now (buf .exit) ≡ sets (now (buf .entry)) (end - (length (decimal n) + 1)) (32 ∷ decimal n) ⌝ }
 {
+    let at = put_digits(buf, end, n) - 1;
     buf[at] = 32;
-    let end = at + digit_count(n) + 1;
-    put_digits(buf, end, n);
-    end
+    at
 }
 
 // How long a line is.
@@ -63,18 +66,18 @@ fn line_length(numbers: [u64; 5]) -> usize
     n
 }
 
-// Stores each number behind a space, and the line's end.
-fn put_fields(buf: &mut [u8], at: usize, numbers: [u64; 5])
-    requires { ⌜ at + length (fields numbers) + 1 ≤ length (now buf) ⌝ }
-    ensures { λ _. ⌜ now (buf .exit) ≡ sets (now (buf .entry)) at (fields numbers ++ 10 ∷ []) ⌝ }
+// Stores each number behind a space, the last before end: from the last to the first, so that no digits are counted again.
+fn put_fields(buf: &mut [u8], end: usize, numbers: [u64; 5])
+    requires { ⌜ length (fields numbers) ≤ end ⌝ }
+    requires { ⌜ end ≤ length (now buf) ⌝ }
+    ensures { λ _. ⌜ now (buf .exit) ≡ sets (now (buf .entry)) (end - length (fields numbers)) (fields numbers) ⌝ }
 {
-    let mut to = at;
-    let mut i = 0;
-    while i < 5 {
+    let mut to = end;
+    let mut i = 5;
+    while 0 < i {
+        i -= 1;
         to = put_number(buf, to, numbers[i]);
-        i += 1;
     }
-    buf[to] = 10;
 }
 
 // Stores a line at an offset where it has room, and says where it ends or would end.
@@ -91,6 +94,8 @@ pub fn put_line(buf: &mut [u8], at: usize, letter: u8, numbers: [u64; 5]) -> usi
         return end;
     }
     buf[at] = letter;
-    put_fields(buf, at + 1, numbers);
+    let last = end - 1;
+    buf[last] = 10;
+    put_fields(buf, last, numbers);
     end
 }
