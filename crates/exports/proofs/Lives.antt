@@ -1,5 +1,5 @@
 -- A collator in bytes from its making on: after any frames the bytes stand for the collator that the same frames lead to, and `sbp_feed` answers
--- 1 exactly where a frame ends an epoch. Assumes nothing.
+-- 1, with the report, exactly where a frame ends an epoch. Assumes nothing.
 use mathlib.Core.Path.{_≡_, refl, sym, ap, _∙_, subst}
 use mathlib.Core.List.{List, [], _∷_}
 use mathlib.Core.Logic.{_↔_}

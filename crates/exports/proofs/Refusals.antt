@@ -26,7 +26,7 @@ use Rattle.exports.specs.State.{placeIn, stateIn}
 use Rattle.exports.specs.Feed.{stateSize, reportFields, happenedNumber, madeAnswer, madeStored, FedIn, untouched, actedIn, fedIn}
 use Rattle.exports.proofs.Answered.{row-keeps}
 
--- no next frame, end or need is told by 32
+-- what comes next is told by 0, 1 or 2
 never-32 : (x : Next.Next) → numberIn x ≡ 32 → ⊥
 never-32 (Next.the-variants.Frame f c) e = absurd (omega (arith, e))
 never-32 (Next.the-variants.End c) e = absurd (omega (arith, e))

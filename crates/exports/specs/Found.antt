@@ -37,6 +37,7 @@ numberIn (Next.the-variants.Frame f c) = 0
 numberIn (Next.the-variants.End c) = 1
 numberIn (Next.the-variants.Needs n c) = 2
 
+-- the answer, 32 where the row has no room, and the buffer after it
 abbrev pub nextAnswer : List ℕ → ℕ → Bool → ℕ → ℕ
 nextAnswer s at growing room = rowAnswer foundFields (numberIn (nextOf s (startAt at growing))) room
 

@@ -13,6 +13,7 @@ countsFields = any u64 ∷ any u64 ∷ any u64 ∷ any u64 ∷ []
 abbrev pub countsRow : Counts → Row countsFields
 countsRow c = (c .framed, (c .junk, (c .bad, (c .short, tt))))
 
+-- the answer, 32 where the row has no room, and the buffer after it
 abbrev pub totalsAnswer : ℕ → ℕ
 totalsAnswer room = rowAnswer countsFields 0 room
 
