@@ -56,7 +56,7 @@ placeIn s i = placeOf (slotIn s i)
 abbrev pub placeStored : List ℕ → ℕ → Place → List ℕ
 placeStored s i place = slotStored s i (slotOf place)
 
--- ---- what the bytes stand for
+-- ---- what the bytes stand for; `listed f 8` is f at 0, 1, .. 7
 
 abbrev pub countIn : List ℕ → ℕ
 countIn s = numberAt 1 s 0
