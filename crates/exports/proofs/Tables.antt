@@ -3,7 +3,7 @@ use mathlib.Core.Path.{_≡_, refl, sym, ap, ap₂, _∙_}
 use mathlib.Core.Bool.{Bool, true, false}
 use mathlib.Core.List.{List, [], _∷_}
 use Prim.Native.Nat.{ℕ, zero, suc, _+_, _*_, _≤_, _<_}
-use native.Mathlib.Nat.{add-zero, add-suc, suc-add, suc-mul, mul-le-mul-right}
+use native.Mathlib.Nat.{suc-mul, mul-le-mul-right}
 use native.Mathlib.Numerals.{add-one}
 use native.Mathlib.Omega.{arith}
 use lib.Dec.{eqb}
@@ -11,40 +11,34 @@ use lib.ListN.{length, getD, set}
 use borrow.Author.Tests.{eqb-true, eqb-false}
 use Rattle.wire.specs.Field.{Field, Row, HeldRow, SettledRow, size, decode, rowStored}
 use Rattle.wire.proofs.Fields.{length-row}
-use Rattle.exports.specs.Rows.{rowsStored, upTo}
+use Rattle.crc.specs.Table.{listed}
+use Rattle.exports.specs.Rows.{rowsStored}
 use Rattle.exports.proofs.Parts.{decode-stored, decode-before}
 
 -- ---- lists by index
 
 module _ {A : Type 0} where
-  pub upTo-at : (n i : ℕ) (f : ℕ → A) (j : ℕ) (d : A) → j < n → getD (upTo n i f) j d ≡ f (i + j)
-  upTo-at zero i f j d h = absurd (omega arith)
-  upTo-at (suc n) i f zero d h = ap f (sym (add-zero i))
-  upTo-at (suc n) i f (suc j) d h = upTo-at n (suc i) f j d (omega arith) ∙ ap f (suc-add i j ∙ sym (add-suc i j))
-
-  pub upTo-same : (n i : ℕ) (f g : ℕ → A) → ((j : ℕ) → i ≤ j → j < i + n → f j ≡ g j) → upTo n i f ≡ upTo n i g
-  upTo-same zero i f g h = refl
-  upTo-same (suc n) i f g h =
-      ap₂ (λ (x : A) (xs : List A). x ∷ xs) (h i (omega arith) (omega arith)) (upTo-same n (suc i) f g (λ j a b. h j (omega arith) (omega arith)))
+  pub listed-same : (f g : ℕ → A) (n : ℕ) → ((j : ℕ) → j < n → f j ≡ g j) → listed f n ≡ listed g n
+  unfolding listed
+  listed-same f g zero h = refl
+  listed-same f g (suc n) h =
+      ap₂ (λ (x : A) (xs : List A). x ∷ xs) (h 0 (omega arith)) (listed-same (λ k. f (suc k)) (λ k. g (suc k)) n (λ j b. h (suc j) (omega arith)))
 
   -- one index alone is another's
-  pub upTo-set : (n i : ℕ) (f g : ℕ → A) (j : ℕ) → j < n → ((k : ℕ) → k < i + n → (k ≡ i + j → ⊥) → g k ≡ f k)
-      → upTo n i g ≡ set (upTo n i f) j (g (i + j))
-  upTo-set zero i f g j h others = absurd (omega arith)
-  upTo-set (suc n) i f g zero h others =
-      ap₂ (λ (x : A) (xs : List A). x ∷ xs) (ap g (sym (add-zero i)))
-      (upTo-same n (suc i) g f (λ k a b. others k (omega arith) (λ e. omega arith)))
-  upTo-set (suc n) i f g (suc j) h others =
-      let on : suc i + j ≡ i + suc j = omega arith in
-      ap₂ (λ (x : A) (xs : List A). x ∷ xs) (others i (omega arith) (λ e. omega arith))
-      (upTo-set n (suc i) f g j (omega arith) (λ k b other. others k (omega arith) (λ e. other (omega arith)))
-      ∙ ap (λ (k : ℕ). set (upTo n (suc i) f) j (g k)) on)
+  pub listed-set : (f g : ℕ → A) (n j : ℕ) → j < n → ((k : ℕ) → k < n → (k ≡ j → ⊥) → g k ≡ f k) → listed g n ≡ set (listed f n) j (g j)
+  unfolding listed
+  listed-set f g zero j h others = absurd (omega arith)
+  listed-set f g (suc n) zero h others =
+      ap (λ (xs : List A). g 0 ∷ xs) (listed-same (λ k. g (suc k)) (λ k. f (suc k)) n (λ k b. others (suc k) (omega arith) (λ e. omega arith)))
+  listed-set f g (suc n) (suc j) h others =
+      ap₂ (λ (x : A) (xs : List A). x ∷ xs) (others 0 (omega arith) (λ e. omega arith))
+      (listed-set (λ k. f (suc k)) (λ k. g (suc k)) n j (omega arith) (λ k b other. others (suc k) (omega arith) (λ e. other (omega arith))))
 
-  pub upTo-list : (xs : List A) (i : ℕ) (f : ℕ → A) (d : A) → ((j : ℕ) → j < length xs → f (i + j) ≡ getD xs j d) → upTo (length xs) i f ≡ xs
-  upTo-list [] i f d h = refl
-  upTo-list (x ∷ xs) i f d h =
-      ap₂ (λ (x : A) (xs : List A). x ∷ xs) (ap f (sym (add-zero i)) ∙ h 0 (omega arith))
-      (upTo-list xs (suc i) f d (λ j b. ap f (suc-add i j ∙ sym (add-suc i j)) ∙ h (suc j) (omega arith)))
+  pub listed-all : (f : ℕ → A) (xs : List A) (d : A) → ((j : ℕ) → j < length xs → f j ≡ getD xs j d) → listed f (length xs) ≡ xs
+  unfolding listed
+  listed-all f [] d h = refl
+  listed-all f (x ∷ xs) d h =
+      ap₂ (λ (x : A) (xs : List A). x ∷ xs) (h 0 (omega arith)) (listed-all (λ k. f (suc k)) xs d (λ j b. h (suc j) (omega arith)))
 
 -- ---- rows
 

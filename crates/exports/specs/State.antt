@@ -6,12 +6,13 @@ use lib.Dec.{eqb}
 use lib.ListN.{getD}
 use Rattle.wire.specs.Number.{numberAt}
 use Rattle.wire.specs.Field.{Field, any, u8, u16, u32, Row, decode, rowStored}
+use Rattle.crc.specs.Table.{listed}
 use Rattle.epochs.specs.Collator.{idle}
 use Rattle.epochs.specs.declared.placing.Run.{Run}
 use Rattle.epochs.specs.declared.placing.Run.the-variants.{Idle, Open}
 use Rattle.epochs.specs.declared.placing.Place.{Place}
 use Rattle.epochs.specs.declared.collating.Collator.{Collator}
-use Rattle.exports.specs.Rows.{rowsStored, upTo}
+use Rattle.exports.specs.Rows.{rowsStored}
 use Rattle.exports.specs.declared.placing.Slot.{Slot}
 
 -- ---- one place
@@ -55,24 +56,30 @@ placeIn s i = placeOf (slotIn s i)
 abbrev pub placeStored : List ℕ → ℕ → Place → List ℕ
 placeStored s i place = slotStored s i (slotOf place)
 
--- ---- what the bytes stand for
+-- ---- what the bytes stand for; `listed f 8` is f at 0, 1, .. 7
 
 abbrev pub countIn : List ℕ → ℕ
 countIn s = numberAt 1 s 0
 
 abbrev pub seatsIn : List ℕ → List ℕ
-seatsIn s = upTo 8 0 (λ i. numberAt 2 s (1 + i * 2))
+seatsIn s = listed (λ i. numberAt 2 s (1 + i * 2)) 8
 
 abbrev pub stateIn : List ℕ → Collator
-stateIn s = record { places = upTo 8 0 (placeIn s); roster = seatsIn s; count = countIn s }
+stateIn s = record { places = listed (placeIn s) 8; roster = seatsIn s; count = countIn s }
 
 -- ---- a collator stored
 
-abbrev pub seatsStored : List ℕ → ℕ → List ℕ → List ℕ
-seatsStored roster n s = rowsStored (any u16 ∷ []) (λ i. (getD roster i 0, tt)) n s 1
+abbrev pub seatRow : List ℕ → ℕ → Row (any u16 ∷ [])
+seatRow roster i = (getD roster i 0, tt)
 
-abbrev pub placesStored : List Place → ℕ → List ℕ → List ℕ
-placesStored places n s = rowsStored slotFields (λ i. slotRow (slotOf (getD places i idle))) n s 17
+abbrev pub seatsStored : List ℕ → List ℕ → List ℕ
+seatsStored roster s = rowsStored (any u16 ∷ []) (seatRow roster) 8 s 1
+
+abbrev pub placeRow : List Place → ℕ → Row slotFields
+placeRow places i = slotRow (slotOf (getD places i idle))
+
+abbrev pub placesStored : List Place → List ℕ → List ℕ
+placesStored places s = rowsStored slotFields (placeRow places) 8 s 17
 
 abbrev pub collatorStored : Collator → List ℕ → List ℕ
-collatorStored c s = placesStored (c .places) 8 (seatsStored (c .roster) 8 (rowStored (any u8 ∷ []) (c .count, tt) s 0))
+collatorStored c s = placesStored (c .places) (seatsStored (c .roster) (rowStored (any u8 ∷ []) (c .count, tt) s 0))
