@@ -10,7 +10,7 @@ use Rattle.wire.specs.Field.{HeldRow, SettledRow, allowedRow, rowBits, size, en
 use Rattle.wire.specs.Message.{Answer, given, refused, Message, readAs}
 use Rattle.wire.proofs.Fields.{length-encode}
 use Rattle.wire.proofs.Answers.{never-both}
-use Rattle.wire.proofs.Messages.{payload-given, written, writes-back, reads-back, reads-same, exactly-22, exactly-23}
+use Rattle.wire.proofs.Messages.{payload-given, written, writes-back, reads-back, reads-same, exactly-22, exactly-23, read-settled}
 use Rattle.frames.specs.Step.{stepAt, payloadIn}
 use Rattle.frames.specs.Writer.{planned, sealed, framed}
 use Rattle.frames.specs.Message.{writeAnswer, writtenAs, frameWritten, Faithful}
@@ -109,6 +109,7 @@ faithful m k = record {
   found = λ sender r buf s g. found-through m sender r buf k s g;
   back = λ sender r buf s g h. reads-through m sender r buf k s g h;
   same = λ sender r buf s g h e. reads-through-same m sender r buf k s g h e;
+  settled = read-settled m;
   again = λ sender r buf s h g. writes-through m sender r buf s h g;
   refused-22 = exactly-22 m;
   refused-23 = exactly-23 m;

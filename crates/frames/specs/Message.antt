@@ -36,6 +36,7 @@ pub record Faithful {R : Type 0} (m : Message R) : Type 0 where
   -- the very record, where it is such as reading makes
   pub same : (sender : ℕ) (r : R) (buf : List ℕ) {n : ℕ} → sender < 65536 → writeAnswer m r (length buf) ≡ given n → HeldRow (m .fields) (m .row r)
       → SettledRow (m .fields) (m .row r) → readAs m (payloadIn (writtenAs m sender r buf) (frameWritten m sender)) ≡ given r
+  pub settled : (s : List ℕ) (r : R) → Bytes s → readAs m s ≡ given r → SettledRow (m .fields) (m .row r)
   -- an accepted payload written again gives a frame of the same bytes
   pub again : (sender : ℕ) (r : R) (buf s : List ℕ) → Bytes s → readAs m s ≡ given r → writtenAs m sender r buf ≡ framed (m .kind) sender s buf
   -- a payload is refused exactly when one of its cases holds, by the first
