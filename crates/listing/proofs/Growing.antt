@@ -26,7 +26,8 @@ use Rattle.epochs.specs.declared.placing.Place.{Place}
 use Rattle.epochs.specs.declared.collating.Collator.{Collator}
 use Rattle.epochs.specs.declared.collating.Fed.{Fed}
 use Rattle.epochs.proofs.Judgements.{judged-46}
-use Rattle.listing.specs.Roster.{joined, enlisted, enlistedAll, rosterIn, enlistedTo}
+use Rattle.listing.specs.Roster.{joined, enlisted, enlistedAll, rosterIn}
+use Rattle.listing.specs.Seating.{enlistedTo}
 use Rattle.listing.specs.Listing.{frameLine, told, framesText}
 use Rattle.listing.specs.Words.{obsSenders, different}
 use Rattle.listing.proofs.Rosters.{Few, by-joining, few-joined, few-enlisted, all-few}

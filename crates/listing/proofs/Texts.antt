@@ -26,7 +26,7 @@ use Rattle.epochs.specs.declared.collating.Fed.{Fed}
 use Rattle.epochs.specs.declared.collating.Happened.{Happened}
 use Rattle.text.specs.Line.{line, laid}
 use Rattle.text.proofs.Pending.{Pending, pending-begun, pending-laid, pending-done, pending-last}
-use Rattle.listing.specs.Roster.{enlistedTo}
+use Rattle.listing.specs.Seating.{enlistedTo}
 use Rattle.listing.specs.Listing.{frameLine, totalsLine, told, textOf, listAnswer, listedAs, listed}
 use Rattle.listing.proofs.Growing.{grownText, text-grown}
 

@@ -45,13 +45,9 @@ framesText s c (f ∷ fs) =
     let fed = fedItem c (itemIn s f) in
     frameLine s f ++ told (fed .happened) ++ framesText s (fed .collator) fs
 
--- a whole capture, whose frames are fed to a collator
-abbrev pub textFrom : List ℕ → Collator → List ℕ
-textFrom s c = framesText s c (framesOf (closedSteps s)) ++ totalsLine s
-
--- where no sender is listed the collator lists nobody, and reports nothing
+-- a whole capture, fed to a collator of its roster. Where that is empty the collator lists nobody, and reports nothing
 abbrev pub textOf : List ℕ → List ℕ
-textOf s = textFrom s (made (rosterIn s) .collator)
+textOf s = framesText s (made (rosterIn s) .collator) (framesOf (closedSteps s)) ++ totalsLine s
 
 -- 11 for a capture over 65536 bytes, then 32 where the text has no room
 unfoldable pub listAnswer : List ℕ → ℕ → Answer ℕ

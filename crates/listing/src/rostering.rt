@@ -2,7 +2,7 @@
 ghost use mathlib.Core.Path.{_≡_};
 ghost use mathlib.Core.List.{[]};
 ghost use Rattle.epochs.specs.Collator.{fresh};
-ghost use Rattle.listing.specs.Roster.{joinedTo, enlistedTo};
+ghost use Rattle.listing.specs.Seating.{joinedTo, enlistedTo};
 use epochs::Collator;
 use epochs::Place;
 use epochs::Run;
