@@ -9,7 +9,7 @@ ghost use Rattle.frames.specs.Writer.{writtenAnswer};
 ghost use Rattle.text.specs.Line.{line, laid};
 ghost use Rattle.listing.specs.Listing.{told, textOf, listAnswer, listed};
 use crate::rostering::enlisted;
-use crate::rostering::nobody;
+use epochs::Collator;
 use epochs::Happened;
 use frames::Counts;
 use frames::Cursor;
@@ -87,7 +87,9 @@ fn put_text(s: &[u8], buf: &mut [u8]) -> usize
     ensures { λ _. ⌜ (length (textOf (now (s .entry))) ≤ length (now (buf .entry)) → now (buf .exit) ≡ sets (now (buf .entry)) 0 (textOf (now (s .entry)))) ⌝ }
 {
     let mut at = 0;
-    let mut collator = nobody();
+    // An empty roster makes a collator that lists nobody.
+    let nobody = Collator::made(&[]);
+    let mut collator = nobody.collator;
     let mut cursor = Cursor::closed();
     loop {
         let next = cursor.next(s);
