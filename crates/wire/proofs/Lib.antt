@@ -3,5 +3,6 @@ pub mod Signed
 pub mod Doubles
 pub mod Fields
 pub mod Answers
+pub mod Ordered
 pub mod Messages
 pub mod Flags

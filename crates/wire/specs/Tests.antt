@@ -1,0 +1,26 @@
+-- Tests in order, each with the number of its refusal: the first that fails decides. Document 01, "Order".
+-- Assumes nothing.
+use Prim.Native.Nat.{ℕ}
+use mathlib.Core.Path.{_≡_}
+use mathlib.Core.Bool.{Bool, true, false, cond}
+use mathlib.Core.List.{List, [], _∷_}
+use mathlib.Core.Logic.{_⊎_}
+use Rattle.wire.specs.Message.{Answer, given, refused}
+
+-- what has to be so, and the number of the refusal where it is not
+abbrev pub Tests : Type 0
+Tests = List (Bool × ℕ)
+
+-- what passes every test is given, else the number of the first that it fails
+abbrev pub ordered : {A : Type 0} → Tests → A → Answer A
+ordered [] x = given x
+ordered (t ∷ ts) x = cond (t .0) (ordered ts x) (refused (t .1))
+
+-- n is the number of the first test that fails
+abbrev pub FirstFails : Tests → ℕ → Type 0
+FirstFails [] n = ⊥
+FirstFails (t ∷ ts) n = ((t .0 ≡ false) × (n ≡ t .1)) ⊎ ((t .0 ≡ true) × FirstFails ts n)
+
+abbrev pub AllPass : Tests → Type 0
+AllPass [] = Unit {0}
+AllPass (t ∷ ts) = (t .0 ≡ true) × AllPass ts
