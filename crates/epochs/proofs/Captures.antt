@@ -32,10 +32,10 @@ use Rattle.epochs.specs.declared.collating.Report.{Report}
 use Rattle.epochs.specs.declared.collating.Happened.{Happened}
 use Rattle.epochs.specs.declared.collating.Happened.the-variants as H
 use Rattle.epochs.specs.declared.capturing.Collated.{Collated}
-use Rattle.epochs.proofs.Rosters.{seat-names, seat-own}
+use Rattle.epochs.proofs.Rosters.{seat-named, seat-own}
 use Rattle.epochs.proofs.Making.{accepted}
 use Rattle.epochs.proofs.Feeding.{fed-lists}
-use Rattle.epochs.proofs.Senders.{roster-kept, fresh-state}
+use Rattle.epochs.proofs.Senders.{roster-kept}
 
 -- ---- the roster's answer
 
@@ -106,9 +106,7 @@ module _ (roster : List ℕ) (once : repeats roster ≡ false) (few : length ros
       other : (x : Seat) → seatOf roster (r .sender) 0 ≡ x → (r .sender ≡ sender → ⊥) → getD (oneMore ns x) i 0 ≡ getD ns i 0
       other Nowhere q d = refl
       other (At j) q d =
-          let start : j ≡ 0 + j = omega arith in
-          let named = seat-names roster (r .sender) 0 j (q ∙ ap At start) in
-          getD-set-other ns j i ((getD ns j 0 + 1) % 2 ^ 64) 0 (λ k. d (sym named ∙ ap (λ (k : ℕ). getD roster k 0) (sym k)))
+          getD-set-other ns j i ((getD ns j 0 + 1) % 2 ^ 64) 0 (λ k. d (sym (seat-named roster (r .sender) q) ∙ ap (λ (k : ℕ). getD roster k 0) (sym k)))
 
       by : (t : Bool) → eqb (r .sender) sender ≡ t
           → getD (oneMore ns (seatOf (rosterOf c) (r .sender) 0)) i 0 + length (reportsOf sender rs) ≡ getD ns i 0 + length (cond t (r ∷ reportsOf sender rs) (reportsOf sender rs))
@@ -176,14 +174,6 @@ module _ (s roster : List ℕ) (ok : made roster .number ≡ 0) where
   whole : collated s roster ≡ fedAll (begun (made roster)) (itemsOf s)
   whole = collated-fed s roster refl ok
 
-  pub collated-number : collated s roster .number ≡ 0
-  unfolding fedAll
-  collated-number = ap (λ (t : Collated). t .number) whole ∙ fed-number (begun (made roster)) (itemsOf s) ∙ ok
-    where
-      fed-number : (t : Collated) (xs : List Item) → fedAll t xs .number ≡ t .number
-      fed-number t [] = refl
-      fed-number t (x ∷ xs) = fed-number (fedInto t x) xs
-
   -- the end state is that of the capture's frames
   pub collated-state : collated s roster .collator ≡ after (made roster .collator) (itemsOf s)
   collated-state = ap (λ (t : Collated). t .collator) whole ∙ fed-after (begun (made roster)) (itemsOf s)
@@ -195,7 +185,7 @@ module _ (s roster : List ℕ) (ok : made roster .number ≡ 0) where
   collated-counts small i below =
       let is = accepted roster ok in
       let listed : rosterOf (made roster .collator) ≡ roster
-      = ap (λ (m : Made). rosterOf (m .collator)) (is .whole) ∙ ap rosterOf (fresh-state roster (is .few)) ∙ roster-kept roster (is .few) (λ (k : ℕ). []) in
+      = ap (λ (m : Made). rosterOf (m .collator)) (is .whole) ∙ roster-kept roster (is .few) (λ (k : ℕ). []) in
       let none : _≡_ {A = ℕ} (getD (replicate 8 0) i 0) 0 = getD-replicate 8 i 0 0 (omega (arith, is .few)) in
       let frames : length (itemsOf s) ≤ length s = rw length-map (frames-few false 0 0 s) in
       let sum = all-counted roster (is .once) (is .few) i below (begun (made roster)) listed refl (itemsOf s) (omega arith) in

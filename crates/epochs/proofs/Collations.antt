@@ -6,16 +6,13 @@ use mathlib.Core.Bool.{Bool, true, false, cond}
 use mathlib.Core.List.{List, [], _∷_, _++_}
 use mathlib.Core.Logic.{_↔_}
 use Prim.Native.Nat.{ℕ, _≤_}
-use native.Mathlib.Omega.{arith}
 use lib.Dec.{eqb}
 use lib.ListN.{length, take, replicate}
 use borrow.Author.Tests.{eqb-true, eqb-false, eq-eqb}
 use Rattle.wire.specs.Number.{Bytes}
-use Rattle.epochs.specs.Packet.{seatOf}
-use Rattle.epochs.specs.Collator.{idle, stepped, reportOf, told, names, made}
-use Rattle.epochs.specs.Epoch.{AllFormed, placeOf, Item, own, kept, packetsOf, ofSender, historyOf, fedItem, after, reportIn, reports, reportsOf, placesOf, stateOf, EndsEpoch, SameFrames, itemsOf}
+use Rattle.epochs.specs.Collator.{idle, stepped, told, names, made}
+use Rattle.epochs.specs.Epoch.{Item, own, kept, packetsOf, ofSender, historyOf, fedItem, after, reportIn, reports, reportsOf, EndsEpoch, SameFrames, itemsOf}
 use Rattle.epochs.specs.declared.judging.Packet.{Packet}
-use Rattle.epochs.specs.declared.judging.Seat.the-variants.{At}
 use Rattle.epochs.specs.declared.judging.Judged.{Judged}
 use Rattle.epochs.specs.declared.judging.Judged.the-variants as J
 use Rattle.epochs.specs.declared.placing.Place.{Place}
@@ -27,15 +24,19 @@ use Rattle.epochs.specs.declared.collating.Report.{Report}
 use Rattle.epochs.specs.declared.collating.Happened.{Happened}
 use Rattle.epochs.specs.declared.collating.Happened.the-variants as H
 use Rattle.epochs.specs.declared.collating.Fed.{Fed}
-use Rattle.epochs.proofs.Rosters.{same-seat, map-listed}
+use Rattle.epochs.proofs.Pasts.{Formed, AllFormed, placeOf, placesOf, stateOf}
+use Rattle.epochs.proofs.Rosters.{same-seat, seat-alone, map-listed}
 use Rattle.epochs.proofs.Judgements.{heard, judged-formed, judged-n}
 use Rattle.epochs.proofs.Making.{Accepted, accepted}
 use Rattle.epochs.proofs.Runs.{total-small}
 use Rattle.epochs.proofs.Epochs.{whole-epoch}
-use Rattle.epochs.proofs.Feeding.{report-own}
+use Rattle.epochs.proofs.Feeding.{never-refused, never-taken, report-own}
 use Rattle.epochs.proofs.Senders.{heardBy, tells, fresh-state, fed-listed, fed-unlisted, fed-state, after-state}
 
 -- ---- what is kept of frames is well-formed
+
+own-formed : (x : Item) {i : ℕ} {p : Packet} → own x ≡ J.For i p → Formed p
+own-formed x q = judged-formed (x .sender ∷ []) (x .kind) (x .sender) (x .payload) q
 
 pub packets-formed : (xs : List Item) (past : List Packet) → AllFormed past → AllFormed (packetsOf xs past)
 unfolding packetsOf
@@ -44,7 +45,7 @@ packets-formed (x ∷ xs) past all = packets-formed xs (kept (own x) past) (one 
   where
     one : (j : Judged) → own x ≡ j → AllFormed (kept j past)
     one (J.Refused n) q = all
-    one (J.For i p) q = (judged-formed (x .sender ∷ []) (x .kind) (x .sender) (x .payload) q, all)
+    one (J.For i p) q = (own-formed x q, all)
 
 pub history-formed : (s : ℕ) (xs : List Item) → AllFormed (historyOf s xs)
 unfolding historyOf
@@ -52,16 +53,10 @@ history-formed s xs = packets-formed (ofSender s xs) [] tt
 
 -- a frame by itself has the only seat
 own-seat : (x : Item) {i : ℕ} {p : Packet} → own x ≡ J.For i p → i ≡ 0
-unfolding seatOf
-own-seat x q =
-    let alone : seatOf (x .sender ∷ []) (x .sender) 0 ≡ At 0 = rw (eq-eqb (x .sender) (x .sender) refl) in
-    same-seat (heard (x .sender ∷ []) (x .kind) (x .sender) (x .payload) q .found .seat ∙ alone)
+own-seat x q = same-seat (heard (x .sender ∷ []) (x .kind) (x .sender) (x .payload) q .found .seat ∙ seat-alone (x .sender))
 
-same-report : {a b : Report} → H.Epoch a ≡ H.Epoch b → a ≡ b
+pub same-report : {a b : Report} → H.Epoch a ≡ H.Epoch b → a ≡ b
 same-report e = cc
-
-never-report : {n : ℕ} {r : Report} → H.Refused n ≡ H.Epoch r → ⊥
-never-report e = let z : _≡_ {A = ℕ} 0 1 = cc in omega arith
 
 -- ---- the reports of one sender, from its own frames alone
 
@@ -99,6 +94,9 @@ module _ (roster : List ℕ) (ok : made roster .number ≡ 0) where
     abbrev past : ℕ → List Packet
     past s = historyOf s xs
 
+    formed-on : {i : ℕ} {p : Packet} → own x ≡ J.For i p → AllFormed (p ∷ past (x .sender))
+    formed-on q = (own-formed x q, history-formed (x .sender) xs)
+
     -- a frame that is fed after others tells of an epoch exactly when it ends one
     pub epoch-told : (fedItem (after (made roster .collator) xs) x .happened ≡ H.Epoch e) ↔ EndsEpoch roster xs x e
     epoch-told = (λ h. there (names roster (x .sender)) refl (sym at ∙ h), λ w. at ∙ back w)
@@ -111,39 +109,33 @@ module _ (roster : List ℕ) (ok : made roster .number ≡ 0) where
 
         by-ended : names roster (x .sender) ≡ true → (p : Packet) → own x ≡ J.For 0 p → (d : Ended) → stepped (placeOf (past (x .sender))) p .ended ≡ d
             → told (x .sender) p d ≡ H.Epoch e → EndsEpoch roster xs x e
-        by-ended n p q Not r h = let z : _≡_ {A = ℕ} 0 1 = cc in absurd (omega arith)
+        by-ended n p q Not r h = absurd (never-taken h)
         by-ended n p q (Whole t) r h =
-            let formed = judged-formed (x .sender ∷ []) (x .kind) (x .sender) (x .payload) q in
-            let ends = whole-epoch p (past (x .sender)) t (formed, history-formed (x .sender) xs) .0 r in
-            let same : reportOf (x .sender) p t ≡ e = same-report h in
-            record { packet = p; total = t; listed = n; formed = q; ends = ends; report = sym same }
+            record { packet = p; total = t; listed = n; formed = q; ends = whole-epoch p (past (x .sender)) t (formed-on q) .0 r; report = sym (same-report h) }
 
         by-own : names roster (x .sender) ≡ true → (j : Judged) → own x ≡ j → tells (x .sender) (past (x .sender)) j ≡ H.Epoch e → EndsEpoch roster xs x e
-        by-own n (J.Refused m) q h = let z : _≡_ {A = ℕ} 0 1 = cc in absurd (omega arith)
+        by-own n (J.Refused m) q h = absurd (never-refused h)
         by-own n (J.For i p) q h = by-ended n p (q ∙ ap (λ (i : ℕ). J.For i p) (own-seat x q)) (stepped (placeOf (past (x .sender))) p .ended) refl h
 
         there : (t : Bool) → names roster (x .sender) ≡ t → fedItem (stateOf roster past) x .happened ≡ H.Epoch e → EndsEpoch roster xs x e
         there true n h = by-own n (own x) refl (sym (listed-tells n) ∙ h)
         there false n h =
             let r = fed-unlisted roster (is .few) (is .once) past x n in
-            absurd (never-report (sym (ap (λ (f : Fed). f .happened) (r .1)) ∙ h))
+            absurd (never-refused (sym (ap (λ (f : Fed). f .happened) (r .1)) ∙ h))
 
         back : EndsEpoch roster xs x e → fedItem (stateOf roster past) x .happened ≡ H.Epoch e
         back w =
-            let p = w .packet in
-            let formed = judged-formed (x .sender ∷ []) (x .kind) (x .sender) (x .payload) (w .formed) in
             listed-tells (w .listed)
             ∙ ap (tells (x .sender) (past (x .sender))) (w .formed)
-            ∙ ap (told (x .sender) p) (whole-epoch p (past (x .sender)) (w .total) (formed, history-formed (x .sender) xs) .1 (w .ends))
+            ∙ ap (told (x .sender) (w .packet)) (whole-epoch (w .packet) (past (x .sender)) (w .total) (formed-on (w .formed)) .1 (w .ends))
             ∙ ap H.Epoch (sym (w .report))
 
     -- with at most 225 observations, where the payload is of bytes
     pub epoch-small : Bytes (x .payload) → fedItem (after (made roster .collator) xs) x .happened ≡ H.Epoch e → e .observations ≤ 225
     epoch-small bytes h =
         let w = epoch-told .0 h in
-        let formed = judged-formed (x .sender ∷ []) (x .kind) (x .sender) (x .payload) (w .formed) in
         let n = judged-n (x .sender ∷ []) (x .kind) (x .sender) (x .payload) bytes (w .formed) in
-        subst (λ (r : Report). r .observations ≤ 225) (sym (w .report)) (total-small (formed, history-formed (x .sender) xs) n (w .ends))
+        subst (λ (r : Report). r .observations ≤ 225) (sym (w .report)) (total-small (formed-on (w .formed)) n (w .ends))
 
   -- ---- demand 3
 

@@ -9,17 +9,18 @@ use native.Mathlib.Omega.{arith}
 use lib.Dec.{eqb}
 use borrow.Author.Tests.{eqb-true, eqb-false, eq-eqb}
 use Rattle.epochs.specs.Packet.{sameKey}
-use Rattle.epochs.specs.Collator.{idle, dropped, goesOn, fits, summed, continued, stepped}
-use Rattle.epochs.specs.Epoch.{RunTo, EpochEnds, Formed, AllFormed, placeOf}
+use Rattle.epochs.specs.Collator.{dropped, goesOn, fits, summed, continued, stepped}
+use Rattle.epochs.specs.Epoch.{RunTo, EpochEnds}
 use Rattle.epochs.specs.declared.judging.Key.{Key}
 use Rattle.epochs.specs.declared.judging.Packet.{Packet}
 use Rattle.epochs.specs.declared.placing.Run.{Run}
 use Rattle.epochs.specs.declared.placing.Run.the-variants.{Idle, Open}
 use Rattle.epochs.specs.declared.placing.Place.{Place}
-use Rattle.epochs.specs.declared.placing.Ended.the-variants.{Not, Whole}
+use Rattle.epochs.specs.declared.placing.Ended.the-variants.{Whole}
 use Rattle.epochs.specs.declared.placing.Stepped.{Stepped}
+use Rattle.epochs.proofs.Pasts.{Formed, AllFormed, placeOf}
 use Rattle.epochs.proofs.Keys.{equal-key, same-key}
-use Rattle.epochs.proofs.Places.{not-whole}
+use Rattle.epochs.proofs.Places.{not-whole, whole, opened}
 use Rattle.epochs.proofs.Runs.{unroll, run-head, first-of, next-of, same-run, run-small, run-low}
 
 -- what a place's run says of the history: an open part is the run at its front; where it is idle, no run there is unfinished
@@ -44,8 +45,7 @@ module _ (p : Packet) (past : List Packet) (formed : Formed p) where
       next = omega (arith, formed .nibble)
 
       by : (t : Bool) → eqb ((p .counter + 1) % 256) (p .key .n) ≡ t
-          → Right p past (cond t (record { place = idle; ended = Whole total })
-          (record { place = record { run = Open (record { key = p .key; next = (p .counter + 1) % 256; total = total }) }; ended = Not }))
+          → Right p past (cond t (whole p total) (opened p total))
       by true e =
           let last : suc (p .counter) ≡ p .key .n = sym next ∙ eqb-true _ _ e in (
             λ key j t h q. let a = run-head j q in let n = ap (λ (k : Key). k .n) (a .0) in omega (arith, a .1),
@@ -83,8 +83,8 @@ module _ (p : Packet) (past : List Packet) (formed : Formed p) where
         by true e =
             let tests = and-eq-true-iff (sameKey (part .key) (p .key)) (eqb (part .next) (p .counter)) .0 e in
             let counter : p .counter ≡ suc (h .0) = sym (eqb-true _ _ (tests .1)) ∙ h .2 in
-            let whole : part .total + p .observations ≡ summed part p = omega (arith, small) in
-            right-on (subst (RunTo (p .key) (p .counter) (p ∷ past)) whole (next-of p (h .1) (equal-key (part .key) (p .key) (tests .0)) counter))
+            let sum : part .total + p .observations ≡ summed part p = omega (arith, small) in
+            right-on (subst (RunTo (p .key) (p .counter) (p ∷ past)) sum (next-of p (h .1) (equal-key (part .key) (p .key) (tests .0)) counter))
         by false e =
             right-dropped (λ key j t below r.
             let a = earlier j r in

@@ -2,7 +2,7 @@
 -- another sender is touched. Assumes nothing.
 use mathlib.Core.Path.{_≡_, refl, sym, ap, ap₂, _∙_, subst}
 use mathlib.Core.List.{List, [], _∷_}
-use Prim.Native.Nat.{ℕ, zero, suc, _+_}
+use Prim.Native.Nat.{ℕ, zero, suc}
 use native.Mathlib.Omega.{arith}
 use lib.ListN.{getD, set}
 use lib.Seq.{getD-set-other}
@@ -23,9 +23,16 @@ use Rattle.epochs.specs.declared.collating.Report.{Report}
 use Rattle.epochs.specs.declared.collating.Fed.{Fed}
 use Rattle.epochs.specs.declared.collating.Happened.{Happened}
 use Rattle.epochs.specs.declared.collating.Happened.the-variants as H
-use Rattle.epochs.proofs.Rosters.{same-seat, seat-names}
+use Rattle.epochs.proofs.Rosters.{same-seat, seat-named}
 use Rattle.epochs.proofs.Judgements.{heard}
 use Rattle.epochs.proofs.Places.{whole-rests}
+
+-- a refusal and a packet taken tell of no epoch
+pub never-refused : {n : ℕ} {r : Report} → H.Refused n ≡ H.Epoch r → ⊥
+never-refused e = let z : _≡_ {A = ℕ} 0 1 = cc in omega arith
+
+pub never-taken : {r : Report} → H.Taken ≡ H.Epoch r → ⊥
+never-taken e = let z : _≡_ {A = ℕ} 0 1 = cc in omega arith
 
 module _ (c : Collator) (kind sender : ℕ) (payload : List ℕ) where
   pub fed-refused : {n : ℕ} → judged (rosterOf c) kind sender payload ≡ J.Refused n → fed c kind sender payload ≡ record { collator = c; happened = H.Refused n }
@@ -69,13 +76,10 @@ module _ (c : Collator) (kind sender : ℕ) (payload : List ℕ) where
   -- a report leaves its sender's place idle
   pub report-rests : {r : Report} (i : ℕ) → seatOf (rosterOf c) sender 0 ≡ At i → fed c kind sender payload .happened ≡ H.Epoch r
       → getD (fed c kind sender payload .collator .places) i idle ≡ idle
-  report-rests {r} i s = by-judgement (λ (f : Fed). f .happened ≡ H.Epoch r → getD (f .collator .places) i idle ≡ idle) (λ n e. absurd (never e)) rests
+  report-rests {r} i s = by-judgement (λ (f : Fed). f .happened ≡ H.Epoch r → getD (f .collator .places) i idle ≡ idle) (λ n e. absurd (never-refused e)) rests
     where
-      never : {n : ℕ} → H.Refused n ≡ H.Epoch r → ⊥
-      never e = let z : _≡_ {A = ℕ} 0 1 = cc in omega arith
-
       ended : (p : Packet) (e : Ended) → told sender p e ≡ H.Epoch r → (t : ℕ) × (e ≡ Whole t)
-      ended p Not e = let z : _≡_ {A = ℕ} 0 1 = cc in absurd (omega arith)
+      ended p Not e = absurd (never-taken e)
       ended p (Whole t) e = (t, refl)
 
       set-idle : (ps : List Place) (i : ℕ) → getD (set ps i idle) i idle ≡ idle
@@ -95,9 +99,8 @@ module _ (c : Collator) (kind sender : ℕ) (payload : List ℕ) where
     where
       keeps : (i : ℕ) (p : Packet) → seatOf (rosterOf c) sender 0 ≡ At i → getD (taken c sender i p .collator .places) j idle ≡ getD (c .places) j idle
       keeps i p s =
-          let start : i ≡ 0 + i = omega arith in
-          let named = seat-names (rosterOf c) sender 0 i (s ∙ ap At start) in
-          getD-set-other (c .places) i j (stepped (getD (c .places) i idle) p .place) idle (λ e. other (ap (λ (k : ℕ). getD (rosterOf c) k 0) e ∙ named))
+          getD-set-other (c .places) i j (stepped (getD (c .places) i idle) p .place) idle
+          (λ e. other (ap (λ (k : ℕ). getD (rosterOf c) k 0) e ∙ seat-named (rosterOf c) sender s))
 
   -- and the senders stay the same
   pub fed-lists : rosterOf (fed c kind sender payload .collator) ≡ rosterOf c

@@ -18,13 +18,13 @@ use Rattle.wire.proofs.Answers.{same-given, never-both}
 use Rattle.observation.proofs.Layouts.{whole}
 use Rattle.observation.proofs.Payloads.{obs-22, obs-given}
 use Rattle.epochs.specs.Packet.{obsKind, packetOf, seatOf, seated, listed, judged, Found, Verdict, otherKind, wrongLength, unlisted, noPackets, pastTheLast, wellFormed}
-use Rattle.epochs.specs.Epoch.{Formed}
 use Rattle.epochs.specs.declared.judging.Packet.{Packet}
 use Rattle.epochs.specs.declared.judging.Seat.{Seat}
 use Rattle.epochs.specs.declared.judging.Seat.the-variants.{At, Nowhere}
 use Rattle.epochs.specs.declared.judging.Judged.{Judged}
 use Rattle.epochs.specs.declared.judging.Judged.the-variants.{Refused, For}
-use Rattle.epochs.proofs.Rosters.{seat-below}
+use Rattle.epochs.proofs.Pasts.{Formed}
+use Rattle.epochs.proofs.Rosters.{seat-below, seat-alone}
 
 -- a payload is refused by 22 alone
 only-22 : (s : List ℕ) {n : ℕ} → refused n ≡ readObs s → n ≡ 22
@@ -143,10 +143,10 @@ pub record Heard (roster : List ℕ) (kind sender : ℕ) (payload : List ℕ) (i
   pub packet : packetOf obs ≡ p
   pub below : p .counter < p .key .n
 
-never-for : {n i : ℕ} {p : Packet} → Refused n ≡ For i p → ⊥
+pub never-for : {n i : ℕ} {p : Packet} → Refused n ≡ For i p → ⊥
 never-for e = let z : _≡_ {A = ℕ} 0 1 = cc in omega arith
 
-same-for : {i j : ℕ} {p q : Packet} → For i p ≡ For j q → (i ≡ j) × (p ≡ q)
+pub same-for : {i j : ℕ} {p q : Packet} → For i p ≡ For j q → (i ≡ j) × (p ≡ q)
 same-for e = (cc, cc)
 
 module _ (roster : List ℕ) (kind sender : ℕ) (payload : List ℕ) {i : ℕ} {p : Packet} where
@@ -182,12 +182,9 @@ moved i (For j p) = For i p
 module _ (roster : List ℕ) (kind sender : ℕ) (payload : List ℕ) where
   -- for a listed sender it is what it is by itself, at the sender's seat
   pub judged-listed : {i : ℕ} → seatOf roster sender 0 ≡ At i → judged roster kind sender payload ≡ moved i (judged (sender ∷ []) kind sender payload)
-  unfolding judged seatOf
+  unfolding judged
   judged-listed {i} e = by (eqb kind obsKind) (readObs payload)
     where
-      alone : seatOf (sender ∷ []) sender 0 ≡ At 0
-      alone = rw (eq-eqb sender sender refl)
-
       counted : (o : Obs) (t u : Bool)
           → cond t (Refused 44) (cond u (Refused 45) (For i (packetOf o))) ≡ moved i (cond t (Refused 44) (cond u (Refused 45) (For 0 (packetOf o))))
       counted o true u = refl
@@ -198,7 +195,7 @@ module _ (roster : List ℕ) (kind sender : ℕ) (payload : List ℕ) where
       by false a = refl
       by true (refused n) = refl
       by true (given o) =
-          ap (seated o) e ∙ counted o (eqb (packetOf o .key .n) 0) (leb (packetOf o .key .n) (packetOf o .counter)) ∙ ap (λ (x : Seat). moved i (seated o x)) (sym alone)
+          ap (seated o) e ∙ counted o (eqb (packetOf o .key .n) 0) (leb (packetOf o .key .n) (packetOf o .counter)) ∙ ap (λ (x : Seat). moved i (seated o x)) (sym (seat-alone sender))
 
   -- for another it is refused
   pub judged-unlisted : seatOf roster sender 0 ≡ Nowhere → (n : ℕ) × (judged roster kind sender payload ≡ Refused n)

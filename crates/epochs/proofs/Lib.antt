@@ -1,3 +1,4 @@
+pub mod Pasts
 pub mod Rosters
 pub mod Keys
 pub mod Judgements

@@ -1,7 +1,7 @@
--- A place that ended an epoch is idle. Assumes nothing.
+-- What a step can come to, and that a place that ended an epoch is idle. Assumes nothing.
 use mathlib.Core.Path.{_≡_, refl}
 use mathlib.Core.Bool.{Bool, true, false, cond}
-use Prim.Native.Nat.{ℕ, _+_, _%_}
+use Prim.Native.Nat.{ℕ, _+_, _%_, _<_}
 use native.Mathlib.Omega.{arith}
 use lib.Dec.{eqb}
 use Rattle.epochs.specs.Collator.{idle, dropped, goesOn, fits, summed, continued, stepped}
@@ -15,32 +15,42 @@ use Rattle.epochs.specs.declared.placing.Stepped.{Stepped}
 pub not-whole : {t : ℕ} → Not ≡ Whole t → ⊥
 not-whole e = let z : _≡_ {A = ℕ} 0 1 = cc in omega arith
 
-abbrev Rests : Stepped → Type 0
-Rests s = (t : ℕ) → s .ended ≡ Whole t → s .place ≡ idle
-
+-- where a run goes on it is whole, or open for the next packet
 module _ (p : Packet) where
-  rests-on : (total : ℕ) → Rests (goesOn p total)
+  abbrev pub whole : ℕ → Stepped
+  whole total = record { place = idle; ended = Whole total }
+
+  abbrev pub opened : ℕ → Stepped
+  opened total = record { place = record { run = Open (record { key = p .key; next = (p .counter + 1) % 256; total = total }) }; ended = Not }
+
+-- a step drops the run, ends it or leaves it open; its total is a u16's where the packet's own observations are
+module _ (P : Stepped → Type 0) (p : Packet) (on-dropped : P dropped)
+    (on-whole : (total : ℕ) → (p .observations < 65536 → total < 65536) → P (whole p total))
+    (on-opened : (total : ℕ) → (p .observations < 65536 → total < 65536) → P (opened p total)) where
+  going : (total : ℕ) → (p .observations < 65536 → total < 65536) → P (goesOn p total)
   unfolding goesOn
-  rests-on total = by (eqb ((p .counter + 1) % 256) (p .key .n))
+  going total h = by (eqb ((p .counter + 1) % 256) (p .key .n))
     where
-      by : (t : Bool) → Rests (cond t (record { place = idle; ended = Whole total })
-          (record { place = record { run = Open (record { key = p .key; next = (p .counter + 1) % 256; total = total }) }; ended = Not }))
-      by true t e = refl
-      by false t e = absurd (not-whole e)
+      by : (t : Bool) → P (cond t (whole p total) (opened p total))
+      by true = on-whole total h
+      by false = on-opened total h
 
-  rests-later : (run : Run) → Rests (continued run p)
+  continuing : (run : Run) → P (continued run p)
   unfolding continued
-  rests-later Idle = λ t e. refl
-  rests-later (Open part) = by (fits part p)
+  continuing Idle = on-dropped
+  continuing (Open part) = by (fits part p)
     where
-      by : (t : Bool) → Rests (cond t (goesOn p (summed part p)) dropped)
-      by true = rests-on (summed part p)
-      by false = λ t e. refl
+      by : (t : Bool) → P (cond t (goesOn p (summed part p)) dropped)
+      by true = going (summed part p) (λ h. omega arith)
+      by false = on-dropped
 
-  pub whole-rests : (place : Place) (t : ℕ) → stepped place p .ended ≡ Whole t → stepped place p .place ≡ idle
+  pub step-cases : (place : Place) → P (stepped place p)
   unfolding stepped
-  whole-rests place = by (eqb (p .counter) 0)
+  step-cases place = by (eqb (p .counter) 0)
     where
-      by : (t : Bool) → Rests (cond t (goesOn p (p .observations)) (continued (place .run) p))
-      by true = rests-on (p .observations)
-      by false = rests-later (place .run)
+      by : (t : Bool) → P (cond t (goesOn p (p .observations)) (continued (place .run) p))
+      by true = going (p .observations) (λ h. h)
+      by false = continuing (place .run)
+
+pub whole-rests : (p : Packet) (place : Place) (t : ℕ) → stepped place p .ended ≡ Whole t → stepped place p .place ≡ idle
+whole-rests p = step-cases (λ (s : Stepped). (t : ℕ) → s .ended ≡ Whole t → s .place ≡ idle) p (λ t e. refl) (λ total h t e. refl) (λ total h t e. absurd (not-whole e))

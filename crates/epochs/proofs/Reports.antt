@@ -1,27 +1,25 @@
 -- What a report's numbers are at most, whatever the state: those of its fields' widths. Assumes nothing.
 use mathlib.Core.Path.{_≡_, refl}
-use mathlib.Core.Bool.{Bool, true, false}
 use mathlib.Core.List.{List}
-use Prim.Native.Nat.{ℕ, _+_, _%_, _^_, _≤_, _<_}
+use Prim.Native.Nat.{ℕ, _^_, _≤_, _<_}
 use native.Mathlib.Omega.{arith}
-use lib.Dec.{eqb}
 use lib.ListN.{getD}
 use Rattle.wire.specs.Number.{Bytes}
 use Rattle.epochs.specs.Packet.{judged}
-use Rattle.epochs.specs.Collator.{idle, fits, summed, goesOn, continued, stepped, told, acted, rosterOf, fed}
+use Rattle.epochs.specs.Collator.{idle, stepped, told, acted, rosterOf, fed}
 use Rattle.epochs.specs.declared.judging.Packet.{Packet}
 use Rattle.epochs.specs.declared.judging.Judged.{Judged}
 use Rattle.epochs.specs.declared.judging.Judged.the-variants as J
-use Rattle.epochs.specs.declared.placing.Run.{Run}
-use Rattle.epochs.specs.declared.placing.Run.the-variants.{Idle, Open}
 use Rattle.epochs.specs.declared.placing.Place.{Place}
 use Rattle.epochs.specs.declared.placing.Ended.{Ended}
 use Rattle.epochs.specs.declared.placing.Ended.the-variants.{Not, Whole}
+use Rattle.epochs.specs.declared.placing.Stepped.{Stepped}
 use Rattle.epochs.specs.declared.collating.Collator.{Collator}
 use Rattle.epochs.specs.declared.collating.Report.{Report}
 use Rattle.epochs.specs.declared.collating.Happened.{Happened}
 use Rattle.epochs.specs.declared.collating.Happened.the-variants as H
 use Rattle.epochs.proofs.Judgements.{judged-formed, judged-n, judged-time}
+use Rattle.epochs.proofs.Places.{step-cases}
 
 pub record Small (e : Report) : Type 0 where
   pub sender : e .sender < 65536
@@ -42,30 +40,8 @@ abbrev Within : Ended → Type 0
 Within Not = Unit {0}
 Within (Whole total) = total < 65536
 
-going-within : (p : Packet) (total : ℕ) → total < 65536 → Within (goesOn p total .ended)
-unfolding goesOn
-going-within p total h = by (eqb ((p .counter + 1) % 256) (p .key .n)) refl
-  where
-    by : (t : Bool) → eqb ((p .counter + 1) % 256) (p .key .n) ≡ t → Within (goesOn p total .ended)
-    by true e = rw e h
-    by false e = rw e tt
-
-continued-within : (run : Run) (p : Packet) → Within (continued run p .ended)
-unfolding continued
-continued-within Idle p = tt
-continued-within (Open part) p = by (fits part p) refl
-  where
-    by : (t : Bool) → fits part p ≡ t → Within (continued (Open part) p .ended)
-    by true e = rw e (going-within p (summed part p) (omega arith))
-    by false e = rw e tt
-
 stepped-within : (place : Place) (p : Packet) → p .observations ≤ 15 → Within (stepped place p .ended)
-unfolding stepped
-stepped-within place p few = by (eqb (p .counter) 0) refl
-  where
-    by : (t : Bool) → eqb (p .counter) 0 ≡ t → Within (stepped place p .ended)
-    by true e = rw e (going-within p (p .observations) (omega arith))
-    by false e = rw e (continued-within (place .run) p)
+stepped-within place p few = step-cases (λ (s : Stepped). Within (s .ended)) p tt (λ total h. h (omega arith)) (λ total h. tt) place
 
 -- ---- the report
 

@@ -3,6 +3,7 @@ use mathlib.Core.Path.{_≡_, refl, sym, ap, ap₂, _∙_, subst}
 use mathlib.Core.Bool.{Bool, true, false, cond, true≢false, false≢true}
 use mathlib.Core.List.{List, [], _∷_, _++_, map, append-nil}
 use Prim.Native.Nat.{ℕ, zero, suc, _+_, _≤_, _<_}
+use native.Mathlib.Nat.{zero-add}
 use native.Mathlib.Omega.{arith}
 use native.Mathlib.Numerals.{add-one}
 use lib.Dec.{eqb}
@@ -94,7 +95,7 @@ seat-below (x ∷ xs) sender i {j} e = by (eqb x sender) e (λ f. seat-below xs 
     by false f rest = let h = rest f in (omega arith, omega arith)
 
 -- the roster names the sender at its seat
-pub seat-names : (xs : List ℕ) (sender i j : ℕ) → seatOf xs sender i ≡ At (i + j) → getD xs j 0 ≡ sender
+seat-names : (xs : List ℕ) (sender i j : ℕ) → seatOf xs sender i ≡ At (i + j) → getD xs j 0 ≡ sender
 unfolding seatOf
 seat-names [] sender i j e = let z : _≡_ {A = ℕ} 0 1 = cc in absurd (omega arith)
 seat-names (x ∷ xs) sender i j e = by (eqb x sender) refl j e (λ k f. seat-names xs sender (suc i) k f)
@@ -105,6 +106,14 @@ seat-names (x ∷ xs) sender i j e = by (eqb x sender) refl j e (λ k f. seat-na
     by true q (suc k) f rest = let z : i ≡ i + suc k = same-seat f in absurd (omega arith)
     by false q zero f rest = let h = seat-below xs sender (suc i) f in absurd (omega arith)
     by false q (suc k) f rest = let z : i + suc k ≡ suc i + k = omega arith in rest k (f ∙ ap At z)
+
+pub seat-named : (xs : List ℕ) (sender : ℕ) {j : ℕ} → seatOf xs sender 0 ≡ At j → getD xs j 0 ≡ sender
+seat-named xs sender {j} e = seat-names xs sender 0 j (e ∙ ap At (sym (zero-add j)))
+
+-- a sender that is alone has the first
+pub seat-alone : (sender : ℕ) → seatOf (sender ∷ []) sender 0 ≡ At 0
+unfolding seatOf
+seat-alone sender = rw (eq-eqb sender sender refl)
 
 -- a sender is named exactly when it has a seat
 pub seat-listed : (xs : List ℕ) (sender i : ℕ) → names xs sender ≡ true → (j : ℕ) × (seatOf xs sender i ≡ At j)
@@ -127,15 +136,16 @@ seat-unlisted (x ∷ xs) sender i e = by (eqb x sender) e (λ f. seat-unlisted x
     by true f rest = absurd (true≢false f)
     by false f rest = rest f
 
+-- who is named later is named
+later : {u : Bool} (t : Bool) → u ≡ true → cond t true u ≡ true
+later true n = refl
+later false n = n
+
 pub names-at : (xs : List ℕ) (j : ℕ) → j < length xs → names xs (getD xs j 0) ≡ true
 unfolding names
 names-at [] j h = absurd (omega arith)
 names-at (x ∷ xs) zero h = rw (eq-eqb x x refl)
-names-at (x ∷ xs) (suc j) h = by (eqb x (getD xs j 0)) (names-at xs j (omega arith))
-  where
-    by : (t : Bool) → names xs (getD xs j 0) ≡ true → cond t true (names xs (getD xs j 0)) ≡ true
-    by true e = refl
-    by false e = e
+names-at (x ∷ xs) (suc j) h = later (eqb x (getD xs j 0)) (names-at xs j (omega arith))
 
 -- where no sender is named twice, two seats have two senders
 apart : (xs : List ℕ) (i j : ℕ) → repeats xs ≡ false → i < length xs → j < length xs → getD xs i 0 ≡ getD xs j 0 → i ≡ j
@@ -156,9 +166,7 @@ pub seat-own : (xs : List ℕ) (j : ℕ) → repeats xs ≡ false → j < length
 seat-own xs j once h =
     let found = seat-listed xs (getD xs j 0) 0 (names-at xs j h) in
     let within = seat-below xs (getD xs j 0) 0 (found .1) in
-    let start : found .0 ≡ 0 + found .0 = omega arith in
-    let named = seat-names xs (getD xs j 0) 0 (found .0) (found .1 ∙ ap At start) in
-    found .1 ∙ ap At (apart xs (found .0) j once (omega arith) h named)
+    found .1 ∙ ap At (apart xs (found .0) j once (omega arith) h (seat-named xs (getD xs j 0) (found .1)))
 
 -- ---- a value for each sender of a roster
 
@@ -198,8 +206,4 @@ map-at f (x ∷ xs) (suc j) d h = map-at f xs j d (omega arith)
 pub map-listed : {A : Type 0} {f g : ℕ → A} (xs : List ℕ) → ((s : ℕ) → names xs s ≡ true → f s ≡ g s) → map f xs ≡ map g xs
 unfolding names
 map-listed [] e = refl
-map-listed (x ∷ xs) e = ap₂ _∷_ (e x (rw (eq-eqb x x refl))) (map-listed xs (λ s n. e s (either (eqb x s) n)))
-  where
-    either : {u : Bool} (t : Bool) → u ≡ true → cond t true u ≡ true
-    either true n = refl
-    either false n = n
+map-listed (x ∷ xs) e = ap₂ _∷_ (e x (rw (eq-eqb x x refl))) (map-listed xs (λ s n. e s (later (eqb x s) n)))

@@ -6,9 +6,10 @@ use mathlib.Core.Logic.{_↔_}
 use Prim.Native.Nat.{ℕ, zero, suc, _+_, _*_, _≤_}
 use native.Mathlib.Omega.{arith}
 use lib.ListN.{replicate}
-use Rattle.epochs.specs.Epoch.{RunTo, begins, follows, EpochEnds, countdown, observationsIn, InWords, AllFormed}
+use Rattle.epochs.specs.Epoch.{RunTo, begins, follows, EpochEnds, countdown, observationsIn, InWords}
 use Rattle.epochs.specs.declared.judging.Key.{Key}
 use Rattle.epochs.specs.declared.judging.Packet.{Packet}
+use Rattle.epochs.proofs.Pasts.{AllFormed}
 use Rattle.epochs.proofs.Keys.{equal-key, same-key}
 
 -- ---- a run, from its latest packet

@@ -11,7 +11,7 @@ use lib.Seq.{take-take, take-append-seam, getD-take, take-set-lt, set-append-lef
 use borrow.Author.Tests.{eq-eqb, ne-eqb}
 use Rattle.epochs.specs.Packet.{seatOf, judged}
 use Rattle.epochs.specs.Collator.{idle, stepped, told, rosterOf, fed, fresh, names, repeats}
-use Rattle.epochs.specs.Epoch.{placeOf, Item, own, kept, packetsOf, ofSender, fedItem, after, placesOf, stateOf}
+use Rattle.epochs.specs.Epoch.{Item, own, kept, packetsOf, ofSender, fedItem, after}
 use Rattle.epochs.specs.declared.judging.Packet.{Packet}
 use Rattle.epochs.specs.declared.judging.Seat.the-variants.{At}
 use Rattle.epochs.specs.declared.judging.Judged.{Judged}
@@ -21,7 +21,8 @@ use Rattle.epochs.specs.declared.collating.Collator.{Collator}
 use Rattle.epochs.specs.declared.collating.Happened.{Happened}
 use Rattle.epochs.specs.declared.collating.Happened.the-variants as H
 use Rattle.epochs.specs.declared.collating.Fed.{Fed}
-use Rattle.epochs.proofs.Rosters.{seat-below, seat-names, seat-listed, seat-unlisted, map-others, map-seat, map-at}
+use Rattle.epochs.proofs.Pasts.{placeOf, placesOf, stateOf}
+use Rattle.epochs.proofs.Rosters.{seat-below, seat-named, seat-listed, seat-unlisted, map-others, map-seat, map-at}
 use Rattle.epochs.proofs.Judgements.{moved, judged-listed, judged-unlisted}
 use Rattle.epochs.proofs.Feeding.{fed-refused, fed-for}
 
@@ -84,7 +85,7 @@ module _ (roster : List ℕ) (few : length roster ≤ 8) where
       below = omega (arith, seat-below roster (x .sender) 0 e .1)
 
       named : getD roster i 0 ≡ x .sender
-      named = let start : i ≡ 0 + i = omega arith in seat-names roster (x .sender) 0 i (e ∙ ap At start)
+      named = seat-named roster (x .sender) e
 
       inside : i < length (placesOf roster past)
       inside = omega (arith, below, length-map roster (λ (s : ℕ). placeOf (past s)))

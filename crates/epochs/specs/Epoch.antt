@@ -1,21 +1,20 @@
 -- An epoch in document 01's words, over the packets of one sender; the packets and the reports of a sender over frames fed in order.
 -- Assumes nothing.
-use Prim.Native.Nat.{ℕ, zero, suc, _+_, _≤_, _<_}
+use Prim.Native.Nat.{ℕ, zero, suc, _+_}
 use mathlib.Core.Path.{_≡_}
 use mathlib.Core.Bool.{true, cond}
 use mathlib.Core.List.{List, [], _∷_, _++_, map}
 use lib.Dec.{eqb}
-use lib.ListN.{length, take, replicate}
+use lib.ListN.{replicate}
 use Rattle.frames.specs.Step.{payloadIn}
 use Rattle.frames.specs.Reading.{closedSteps, framesOf}
 use Rattle.frames.specs.declared.step.Frame.{Frame}
 use Rattle.epochs.specs.Packet.{sameKey, judged}
-use Rattle.epochs.specs.Collator.{idle, stepped, reportOf, names, fed}
+use Rattle.epochs.specs.Collator.{reportOf, names, fed}
 use Rattle.epochs.specs.declared.judging.Key.{Key}
 use Rattle.epochs.specs.declared.judging.Packet.{Packet}
 use Rattle.epochs.specs.declared.judging.Judged.{Judged}
 use Rattle.epochs.specs.declared.judging.Judged.the-variants as J
-use Rattle.epochs.specs.declared.placing.Place.{Place}
 use Rattle.epochs.specs.declared.collating.Collator.{Collator}
 use Rattle.epochs.specs.declared.collating.Report.{Report}
 use Rattle.epochs.specs.declared.collating.Fed.{Fed}
@@ -49,22 +48,6 @@ pub record InWords (p : Packet) (past : List Packet) (total : ℕ) : Type 0 wher
   pub counters : map (λ (q : Packet). q .counter) packets ≡ countdown (p .key .n)
   pub keys : map (λ (q : Packet). q .key) packets ≡ replicate (p .key .n) (p .key)
   pub sum : observationsIn packets ≡ total
-
--- what the packet of a well-formed frame is; n is at most 15 where the payload is of bytes
-pub record Formed (p : Packet) : Type 0 where
-  pub below : p .counter < p .key .n
-  pub nibble : p .counter ≤ 15
-  pub few : p .observations ≤ 15
-
-abbrev pub AllFormed : List Packet → Type 0
-AllFormed [] = Unit {0}
-AllFormed (p ∷ ps) = Formed p × AllFormed ps
-
--- a sender's place after its packets, the latest first
-unfoldable pub placeOf : List Packet → Place
-unfolding stepped
-placeOf [] = idle
-placeOf (p ∷ past) = stepped (placeOf past) p .place
 
 -- ---- frames, in the order in which they are fed
 
@@ -115,15 +98,6 @@ reports c (x ∷ xs) = reportIn (fedItem c x .happened) (reports (fedItem c x .c
 unfoldable pub reportsOf : ℕ → List Report → List Report
 reportsOf sender [] = []
 reportsOf sender (r ∷ rs) = cond (eqb (r .sender) sender) (r ∷ reportsOf sender rs) (reportsOf sender rs)
-
--- the places of a roster's senders, each after its own packets
-abbrev pub placesOf : List ℕ → (ℕ → List Packet) → List Place
-placesOf roster past = map (λ (s : ℕ). placeOf (past s)) roster
-
--- the collator in which each listed sender has sent the packets of its past, and nothing else has left a trace
-abbrev pub stateOf : List ℕ → (ℕ → List Packet) → Collator
-stateOf roster past =
-    record { places = take 8 (placesOf roster past ++ replicate 8 idle); roster = take 8 (roster ++ replicate 8 0); count = length roster }
 
 -- ---- demand 2 and demand 3
 

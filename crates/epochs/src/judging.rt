@@ -43,8 +43,8 @@ pub fn same_key(a: Key, b: Key) -> bool
     a.n == b.n
 }
 
-// How many seats are taken. A loop to here is not written out eight times, and so whoever judges a frame is compiled into its callers.
-fn taken(count: usize) -> usize
+// How many seats have a sender. A loop to here is not written out eight times, and so whoever judges a frame is compiled into its callers.
+fn seats_listed(count: usize) -> usize
     ensures { λ r. ⌜ r ≡ min count 8 ⌝ }
 {
     if count < 8 {
@@ -57,7 +57,7 @@ fn taken(count: usize) -> usize
 pub fn seat_of(roster: [u16; 8], count: usize, sender: u16) -> Seat
     ensures { λ r. ⌜ r ≡ seatOf (take count roster) sender 0 ⌝ }
 {
-    let end = taken(count);
+    let end = seats_listed(count);
     let mut i = 0;
     while i < end {
         if roster[i] == sender {

@@ -32,8 +32,8 @@ pub struct Stepped {
     pub ended: Ended,
 }
 
-// The run with a packet that fits it: whole after the last counter, else waiting for the next.
-fn added(packet: Packet, total: u16) -> Stepped
+// The run that ends with this packet: whole where its counter is the last, else open for the next.
+fn goes_on(packet: Packet, total: u16) -> Stepped
     ensures { λ r. ⌜ r ≡ goesOn packet total ⌝ }
 {
     let key = packet.key;
@@ -57,28 +57,28 @@ pub fn step(place: Place, packet: Packet) -> Stepped
     ensures { λ r. ⌜ r ≡ stepped place packet ⌝ }
 {
     if packet.counter == 0 {
-        return added(packet, packet.observations as u16);
+        return goes_on(packet, packet.observations as u16);
     }
     let run = place.run;
     match run {
-        Run::Idle => idle(),
+        Run::Idle => dropped(),
         Run::Open(part) => {
             if same_key(part.key, packet.key) {
                 if part.next == packet.counter {
-                    return added(
+                    return goes_on(
                         packet,
                         std::num::wrapping_add_u16(part.total, packet.observations as u16),
                     );
                 }
-                return idle();
+                return dropped();
             }
-            idle()
+            dropped()
         }
     }
 }
 
 // Nothing is open, and nothing ended.
-fn idle() -> Stepped
+fn dropped() -> Stepped
     ensures { λ r. ⌜ r ≡ dropped ⌝ }
 {
     Stepped {

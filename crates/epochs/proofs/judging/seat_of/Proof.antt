@@ -17,24 +17,24 @@ Inv-loop count sender roster end i₀ i = (i ≤ end) × (seatOf (take count ros
 abbrev μ-loop : tie.MeasureT-loop
 μ-loop count sender roster end i₀ i = end - i
 
-taken-requires : tie.Need-taken-requires Inv-loop μ-loop
-taken-requires c κs = search needs
+seats-listed-requires : tie.Need-seats-listed-requires Inv-loop μ-loop
+seats-listed-requires c κs = search needs
 
 loop-holds : tie.Need-loop-holds Inv-loop μ-loop
 loop-holds c = (search needs, refl)
 
 mul-if1 : tie.Need-mul-if1 Inv-loop μ-loop
-mul-if1 c = omega (arith, c .loop-test .taken, c .before .before .taken .ensures)
+mul-if1 c = omega (arith, c .loop-test .taken, c .before .before .seats-listed .ensures)
 
 array-read-if1 : tie.Need-array-read-if1 Inv-loop μ-loop
-array-read-if1 c = omega (arith, c .loop-test .taken, c .before .before .taken .ensures)
+array-read-if1 c = omega (arith, c .loop-test .taken, c .before .before .seats-listed .ensures)
 
 returns : tie.Need-returns Inv-loop μ-loop
 returns c =
     let start = c .before .before .before .before in
     let roster = take (start .args .count) (start .args .t1) in
     let i = c .before .before .loop .i in
-    let end = c .before .before .before .taken .ensures in
+    let end = c .before .before .before .seats-listed .ensures in
     let inside : i < length roster = simp length-take (omega (arith, c .before .loop-test .taken, end, start .good .0 .1 .0 .1)) in
     sym (c .before .before .loop .inv .1 ∙ seat-here roster (start .args .sender) i inside (getD-take (start .args .count) (start .args .t1) i 0 (omega (arith, c .before .loop-test .taken, end)) ∙ c .if1 .taken))
 
@@ -49,16 +49,16 @@ loop-again c =
     let start = c .before .before .before .before in
     let roster = take (start .args .count) (start .args .t1) in
     let i = c .before .before .loop .i in
-    let end = c .before .before .before .taken .ensures in
+    let end = c .before .before .before .seats-listed .ensures in
     let inside : i < length roster = simp length-take (omega (arith, c .before .loop-test .taken, end, start .good .0 .1 .0 .1)) in
-    let byte = getD-take (start .args .count) (start .args .t1) i 0 (omega (arith, c .before .loop-test .taken, end)) in
-    (omega (arith, c .before .loop-test .taken), c .before .before .loop .inv .1 ∙ seat-on roster (start .args .sender) i inside (λ e. c .if1 .left (sym byte ∙ e)))
+    let there = getD-take (start .args .count) (start .args .t1) i 0 (omega (arith, c .before .loop-test .taken, end)) in
+    (omega (arith, c .before .loop-test .taken), c .before .before .loop .inv .1 ∙ seat-on roster (start .args .sender) i inside (λ e. c .if1 .left (sym there ∙ e)))
 
 returns-2 : tie.Need-returns-2 Inv-loop μ-loop
 returns-2 c =
     let start = c .before .before .before in
     let roster = take (start .args .count) (start .args .t1) in
-    let past : length roster ≤ c .before .loop .i = simp length-take (omega (arith, c .loop-test .left, c .before .before .taken .ensures, start .good .0 .1 .0 .1)) in
+    let past : length roster ≤ c .before .loop .i = simp length-take (omega (arith, c .loop-test .left, c .before .before .seats-listed .ensures, start .good .0 .1 .0 .1)) in
     sym (c .before .loop .inv .1 ∙ seat-none roster (start .args .sender) (c .before .loop .i) past)
 
 pub seat-of-spec : {M : Type 1} → statement M
@@ -67,7 +67,7 @@ seat-of-spec =
     (tie.spec
     Inv-loop
     μ-loop
-    taken-requires
+    seats-listed-requires
     loop-holds
     mul-if1
     array-read-if1

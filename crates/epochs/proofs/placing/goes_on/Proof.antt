@@ -1,11 +1,11 @@
--- `epochs::placing::added` meets its contract.
+-- `epochs::placing::goes_on` meets its contract.
 -- Assumes nothing.
 use mathlib.Core.Path.{sym, _∙_}
 use borrow.Author.Needs.{needs}
 use borrow.Author.Tests.{eq-eqb, ne-eqb}
 use Rattle.epochs.specs.Collator.{goesOn}
-use Rattle.epochs.proofs.placing.added.Statement.{statement}
-use Rattle.epochs.proofs.placing.added.Tie as tie
+use Rattle.epochs.proofs.placing.goes_on.Statement.{statement}
+use Rattle.epochs.proofs.placing.goes_on.Tie as tie
 
 wrapping-add-u8-requires : tie.Need-wrapping-add-u8-requires
 wrapping-add-u8-requires c κs = search needs
@@ -18,5 +18,5 @@ returns-2 : tie.Need-returns-2
 unfolding goesOn
 returns-2 c = rw (c .before .before .wrapping-add-u8 .ensures, ne-eqb _ _ (λ e. c .if1 .left (c .before .before .wrapping-add-u8 .ensures ∙ e)))
 
-pub added-spec : {M : Type 1} → statement M
-added-spec = tie.close (tie.spec wrapping-add-u8-requires returns returns-2)
+pub goes-on-spec : {M : Type 1} → statement M
+goes-on-spec = tie.close (tie.spec wrapping-add-u8-requires returns returns-2)
