@@ -2,7 +2,7 @@
 use mathlib.Core.Path.{_≡_, refl, sym, ap, _∙_}
 use mathlib.Core.Bool.{Bool, true, false}
 use mathlib.Core.List.{List}
-use Prim.Native.Nat.{ℕ, suc, _+_, _^_, _≤_, _<_}
+use Prim.Native.Nat.{ℕ, suc, _+_, _^_, _<_}
 use native.Mathlib.Nat.{add-zero}
 use native.Mathlib.Numerals.{add-one}
 use native.Mathlib.Omega.{arith}
@@ -24,22 +24,14 @@ module _ (s : List ℕ) (i : ℕ) where
   unfolding placeAfter
   stands-at e r = ap (λ (m : ℕ). i + m) (e ∙ ap movedBy r)
 
-  pub moves-on : {o : Observation} → readEntry s i ≡ given o → placeAfter s i ≡ i + 1
+  moves-on : {o : Observation} → readEntry s i ≡ given o → placeAfter s i ≡ i + 1
   moves-on r = sym (stands-at refl (sym r))
 
   pub stays : {n : ℕ} → readEntry s i ≡ refused n → placeAfter s i ≡ i
   stays r = sym (stands-at refl (sym r)) ∙ add-zero i
 
-  -- ---- by the payload's length and the place
-
   pub before-the-last : fitting first (length s) ≡ true → i < countIn first (length s) → placeAfter s i ≡ suc i
   before-the-last e h = moves-on (entry-given s i e h) ∙ add-one i
-
-  pub past-the-last : fitting first (length s) ≡ true → countIn first (length s) ≤ i → (readEntry s i ≡ refused 25) × (placeAfter s i ≡ i)
-  past-the-last e h = (entry-25 s i e h, stays (entry-25 s i e h))
-
-  pub wrong-length : fitting first (length s) ≡ false → (readEntry s i ≡ refused 22) × (placeAfter s i ≡ i)
-  wrong-length e = (entry-22 s i e, stays (entry-22 s i e))
 
   -- ---- an observation's place is below 15, so a place stays a number of the machine
 

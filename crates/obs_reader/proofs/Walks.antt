@@ -45,11 +45,6 @@ unfolding entriesFrom
 length-entries zero i s = refl
 length-entries (suc n) i s = ap suc (length-entries n (suc i) s)
 
--- a payload of a right length has as many observations as document 01 says
-pub observations-counted : (s : List ℕ) → fitting first (length s) ≡ true → length (observationsIn s) ≡ countIn first (length s)
-unfolding observationsIn
-observations-counted s e = rw e (length-entries (countIn first (length s)) 0 s)
-
 -- the observations in order, each once; then 25 for good, or 22 where the length is wrong; and the reader stands behind the last
 pub whole-walk : (s : List ℕ) (more : ℕ)
     → Walk (length (observationsIn s) + more) s 0 (map given (observationsIn s) ++ replicate more (pastThem s)) (length (observationsIn s))

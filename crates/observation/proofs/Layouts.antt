@@ -1,17 +1,12 @@
 -- Which lengths fit an edition of OBS, over the edition: those of a header and k observations, k up to the most. Assumes nothing.
-use mathlib.Core.Path.{_≡_, refl, sym, ap, _∙_}
-use mathlib.Core.Bool.{Bool, true, false, _&&_, false≢true}
-use mathlib.Core.Logic.{_↔_}
+use mathlib.Core.Path.{_≡_, sym, _∙_}
+use mathlib.Core.Bool.{true, false, and-eq-true-iff}
 use Prim.Native.Nat.{ℕ, _+_, _-_, _*_, _%_, _≤_, _<_}
 use native.Mathlib.Nat.{div-add-mod', mul-div-cancel, mul-mod-left}
 use native.Mathlib.Omega.{arith}
 use lib.Dec.{leb}
 use borrow.Author.Tests.{le-leb, lt-leb, leb-true, eq-eqb, ne-eqb, eqb-true}
 use Rattle.observation.specs.Layout.{Layout, fitting, countIn}
-
-both : (a b : Bool) → (a && b) ≡ true → (a ≡ true) × (b ≡ true)
-both true b e = (refl, e)
-both false b e = absurd (false≢true e)
 
 module _ (l : Layout) where
   -- ---- the tests one after the other, as code makes them
@@ -30,8 +25,8 @@ module _ (l : Layout) where
   -- a length that fits is that of a header and so many observations
   pub whole : (n : ℕ) → fitting l n ≡ true → (n ≡ l .head + countIn l n * l .each) × (countIn l n ≤ l .most)
   whole n e =
-      let (ab, c) = both _ _ e in
-      let (a, b) = both _ _ ab in
+      let (ab, c) = and-eq-true-iff _ _ .0 e in
+      let (a, b) = and-eq-true-iff _ _ .0 ab in
       let head = leb-true (l .head) n a in
       let rest = eqb-true ((n - l .head) % l .each) 0 b in
       let split = div-add-mod' (n - l .head) (l .each) in
@@ -49,6 +44,3 @@ module _ (l : Layout) where
     fits k h =
         sym (counted (l .head + k * l .each) (omega arith) (rw (behind k, mul-mod-left k (l .each))))
         ∙ le-leb (countIn l (l .head + k * l .each)) (l .most) (rw (count k) h)
-
-    pub exactly-fitting : (n : ℕ) → (fitting l n ≡ true) ↔ ((k : ℕ) × (k ≤ l .most) × (n ≡ l .head + k * l .each))
-    exactly-fitting n = (λ e. (countIn l n, whole n e .1, whole n e .0), λ r. ap (fitting l) (r .2) ∙ fits (r .0) (r .1))

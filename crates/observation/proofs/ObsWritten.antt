@@ -1,42 +1,33 @@
--- OBS written: when it is refused, what the ways through the writer answer and leave in the buffer, and that what is written reads back.
--- Assumes nothing.
+-- OBS written: what the ways through the writer answer and leave in the buffer, and that what is written reads back. Assumes nothing.
 use mathlib.Core.Path.{_≡_, refl, sym, ap, ap₂, _∙_}
 use mathlib.Core.Bool.{Bool, true, false}
 use mathlib.Core.List.{List}
-use mathlib.Core.Logic.{_↔_, _⊎_, inl, inr, ⊎-elim}
-use Prim.Native.Nat.{ℕ, _+_, _*_, _≤_, _<_}
+use Prim.Native.Nat.{ℕ, _+_, _≤_, _<_}
 use native.Mathlib.Omega.{arith}
 use lib.Dec.{leb}
 use lib.ListN.{length, getD, take}
 use lib.Seq.{sets, getD-take, length-take-le}
-use borrow.Author.Tests.{le-leb, lt-leb, leb-true, leb-false, eqb-false}
+use borrow.Author.Tests.{le-leb, lt-leb, leb-true, leb-false}
 use Rattle.wire.specs.Field.{HeldRow, encode, rowStored}
 use Rattle.wire.specs.Message.{Answer, given, refused}
+use Rattle.wire.proofs.Answers.{never-both}
 use Rattle.wire.proofs.Numbers.{sets-append}
 use Rattle.wire.proofs.Fields.{length-encode, row-sets}
 use Rattle.frames.specs.Writer.{planned, sealed, framed}
 use Rattle.frames.proofs.WrittenPlan as plans
 use Rattle.frames.proofs.Written.{writes, framed-unfit}
-use Rattle.observation.specs.Layout.{first}
+use Rattle.observation.specs.Layout.{first, startOf}
 use Rattle.observation.specs.Obs.{head, observation, readEntry, readObs, entriesBytes, obsPayload}
 use Rattle.observation.specs.ObsWriter.{headOf, payloadFor, obsWriteAnswer, obsWritten}
 use Rattle.observation.specs.declared.entry.Observation.{Observation}
 use Rattle.observation.specs.declared.obs.Obs.{Obs}
-use Rattle.wire.proofs.Answers.{same-refused, never-both}
 use Rattle.observation.proofs.Payloads.{length-payload, reads-obs, reads-entry}
 
 -- ---- the answer
 
 -- how long the payload is
 abbrev pub sizeFor : Obs → ℕ
-sizeFor o = 7 + o .count * 16
-
-few-or-many : (o : Obs) → (o .count ≤ 15) ⊎ (15 < o .count)
-few-or-many o = go (leb (o .count) 15) refl
-  where
-    go : (t : Bool) → leb (o .count) 15 ≡ t → (o .count ≤ 15) ⊎ (15 < o .count)
-    go true e = inl (leb-true (o .count) 15 e)
-    go false e = inr (leb-false (o .count) 15 e)
+sizeFor o = startOf first (o .count)
 
 module _ (o : Obs) (room : ℕ) where
   answer-31 : 15 < o .count → obsWriteAnswer o room ≡ refused 31
@@ -47,22 +38,13 @@ module _ (o : Obs) (room : ℕ) where
   unfolding obsWriteAnswer
   answer-planned few = rw (le-leb (o .count) 15 few)
 
-  -- 31 exactly when there are over 15 observations, then 32 exactly when their frame has no room
-  pub exactly-31 : (obsWriteAnswer o room ≡ refused 31) ↔ (15 < o .count)
-  exactly-31 = (λ r. ⊎-elim (only r) (λ many. many) (few-or-many o), answer-31)
-    where
-      only : obsWriteAnswer o room ≡ refused 31 → o .count ≤ 15 → 15 < o .count
-      only r few = omega (arith, plans.exactly-31 (sizeFor o) room .0 (sym (answer-planned few) ∙ r))
-
-  pub exactly-32 : (obsWriteAnswer o room ≡ refused 32) ↔ ((o .count ≤ 15) × (room < sizeFor o + 8))
-  exactly-32 = (
-    λ r. ⊎-elim (λ few. (few, plans.exactly-32 (sizeFor o) room .0 (sym (answer-planned few) ∙ r) .1)) (λ many. absurd (eqb-false 32 31 refl (same-refused r (answer-31 many)))) (few-or-many o),
-    λ c. answer-planned (c .0) ∙ plans.planned-32 (sizeFor o) room (omega arith) (c .1),
-  )
-
   -- a writer that answers a length found few enough and room for the frame
   written-when : {n : ℕ} → obsWriteAnswer o room ≡ given n → (o .count ≤ 15) × (planned (sizeFor o) room ≡ given n)
-  written-when g = ⊎-elim (λ few. (few, sym (answer-planned few) ∙ g)) (λ many. absurd (never-both g (answer-31 many))) (few-or-many o)
+  written-when {n} g = by (leb (o .count) 15) refl
+    where
+      by : (t : Bool) → leb (o .count) 15 ≡ t → (o .count ≤ 15) × (planned (sizeFor o) room ≡ given n)
+      by true e = let few = leb-true (o .count) 15 e in (few, sym (answer-planned few) ∙ g)
+      by false e = absurd (never-both g (answer-31 (leb-false (o .count) 15 e)))
 
 -- ---- the payload
 

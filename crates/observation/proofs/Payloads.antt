@@ -1,14 +1,13 @@
--- A whole OBS payload: when a reading of it is refused, and both round trips. Assumes nothing.
+-- A whole OBS payload: what a reading of it answers, and both round trips. Assumes nothing.
 use mathlib.Core.Path.{_≡_, refl, sym, ap, ap₂, _∙_}
 use mathlib.Core.Bool.{Bool, true, false}
 use mathlib.Core.List.{List, [], _∷_, _++_}
-use mathlib.Core.Logic.{_↔_}
 use Prim.Native.Nat.{ℕ, zero, suc, _+_, _*_, _≤_, _<_}
 use native.Mathlib.Omega.{arith}
-use lib.Dec.{ltb, lit<}
+use lib.Dec.{lit<}
 use lib.ListN.{length, getD, take, drop, length-drop, take-append-drop}
 use lib.Seq.{take-append-le, drop-append-le, take-all, length-take-le}
-use borrow.Author.Tests.{lt-ltb, le-ltb, ltb-false, eqb-false}
+use borrow.Author.Tests.{lt-ltb, le-ltb}
 use mir.Syntax.{w32}
 use Rattle.wire.specs.Number.{Bytes, little, numberAt}
 use Rattle.wire.specs.Field.{HeldRow, SettledRow, encode, decode}
@@ -20,7 +19,7 @@ use Rattle.observation.specs.Obs.{Head, head, observation, entryAt, read
 use Rattle.observation.specs.ObsWriter.{headOf}
 use Rattle.observation.specs.declared.entry.Observation.{Observation}
 use Rattle.observation.specs.declared.obs.Obs.{Obs}
-use Rattle.wire.proofs.Answers.{same-given, never-both, passed, failed, exactly-failed, exactly-first, exactly-second}
+use Rattle.wire.proofs.Answers.{same-given, never-both, passed, failed}
 use Rattle.observation.proofs.Layouts.{whole}
 use Rattle.observation.proofs.Rows.{rowsBytes, rowsFrom, length-behind, count-behind, fitting-behind, row-back, rows-back, rows-again}
 
@@ -35,11 +34,6 @@ module _ (s : List ℕ) where
   unfolding readObs
   obs-given e = passed (obsIn s) 22 e
 
-  -- the payload is refused exactly when its length is wrong
-  pub exactly-obs-22 : (readObs s ≡ refused 22) ↔ (fitting first (length s) ≡ false)
-  unfolding readObs
-  exactly-obs-22 = exactly-failed (obsIn s) 22 (fitting first (length s))
-
   module _ (i : ℕ) where
     pub entry-22 : fitting first (length s) ≡ false → readEntry s i ≡ refused 22
     unfolding readEntry
@@ -52,17 +46,6 @@ module _ (s : List ℕ) where
     pub entry-given : fitting first (length s) ≡ true → i < countIn first (length s) → readEntry s i ≡ given (entryAt s i)
     unfolding readEntry
     entry-given e h = rw e (passed (entryAt s i) 25 (lt-ltb i (countIn first (length s)) h))
-
-    -- one observation is refused exactly when one of its cases holds, by the first
-    pub exactly-entry-22 : (readEntry s i ≡ refused 22) ↔ (fitting first (length s) ≡ false)
-    unfolding readEntry
-    exactly-entry-22 = exactly-first (entryAt s i) 22 25 (eqb-false 25 22 refl) (fitting first (length s)) (ltb i (countIn first (length s)))
-
-    pub exactly-entry-25 : (readEntry s i ≡ refused 25) ↔ ((fitting first (length s) ≡ true) × (countIn first (length s) ≤ i))
-    unfolding readEntry
-    exactly-entry-25 =
-        let tests = exactly-second (entryAt s i) 22 25 (eqb-false 25 22 refl) (fitting first (length s)) (ltb i (countIn first (length s))) in
-        (λ r. (tests .0 r .0, ltb-false i (countIn first (length s)) (tests .0 r .1)), λ c. entry-25 (c .0) (c .1))
 
 -- ---- the payload as rows behind a header
 
@@ -140,10 +123,6 @@ module _ (h : Head) (os : List Observation) where
         (ap (λ (s : List ℕ). entryAt s i) (payload-rows h os)
         ∙ row-back first observation refl (headBytes h) headed os i d within (held, settled (getD os i d) held))
 
-    -- and there are no more
-    pub reads-25 : (i : ℕ) → length os ≤ i → readEntry (obsPayload h os) i ≡ refused 25
-    reads-25 i past = entry-25 (obsPayload h os) i fitting-payload (rw count-payload past)
-
   -- all of them together
   pub reads-entries : (d : Observation) → ((i : ℕ) → i < length os → HeldRow (observation .fields) (observation .row (getD os i d)))
       → entriesFrom (length os) 0 (obsPayload h os) ≡ os
@@ -155,7 +134,7 @@ module _ (h : Head) (os : List Observation) where
 -- ---- read and written
 
 -- the header in a payload
-abbrev pub headIn : List ℕ → Head
+abbrev headIn : List ℕ → Head
 headIn s = head .make (decode (head .fields) s 0)
 
 module _ (s : List ℕ) (bytes : Bytes s) where
@@ -167,7 +146,7 @@ module _ (s : List ℕ) (bytes : Bytes s) where
       ap (encode (head .fields)) front ∙ encode-decode (head .fields) (take 7 s) (bytes-take 7 s bytes) long
 
   -- what a payload of a right length reads as, written again, is the payload
-  pub fitting-back : fitting first (length s) ≡ true → obsPayload (headIn s) (entriesFrom (countIn first (length s)) 0 s) ≡ s
+  fitting-back : fitting first (length s) ≡ true → obsPayload (headIn s) (entriesFrom (countIn first (length s)) 0 s) ≡ s
   fitting-back e =
       let n = countIn first (length s) in
       let size : length s ≡ 7 + n * 16 = whole first (length s) e .0 in

@@ -8,16 +8,16 @@ use lib.Bits.{bitAnd, and-mask}
 use lib.Dec.{T, lit<, lit≤}
 use lib.IntN.{ℤ, pos, negsuc, natAbs, _+ℤ_, _*ℤ_, +ℤ-idr}
 use lib.Signed.{mag, mag-shr, ltZ, nonNeg, shrZ}
-use borrow.Author.Tests.{lt-ltb, le-ltb, ltb-true, ltb-false}
+use borrow.Author.Tests.{ltb-true, ltb-false, le-leb, lt-leb}
 use mir.Syntax.{w8, w32, w64}
 use mir.Val.{Fits, SFits, toZ, ofZ}
 use mir.ValLaws.{toZ-ofZ, toZ-pos, sfits-le}
 use Rattle.wire.specs.Message.{given, refused}
 use Rattle.wire.proofs.Signed.{came-back, widened}
-use Rattle.observation.specs.Phase.{phaseOf, partsOf, readPhase}
+use Rattle.observation.specs.Phase.{phaseOf, inPhase, partsOf, readPhase}
 use Rattle.observation.specs.declared.phase.Phase.{Phase}
 use Rattle.wire.proofs.Answers.{passed, failed}
-use Rattle.observation.proofs.Phases.{phase-lt, parts-lt}
+use Rattle.observation.proofs.Phases.{last, in-range, phase-lt, parts-in}
 
 -- ---- a pair put together
 
@@ -82,17 +82,13 @@ between : (b : ℕ) (z : ℤ) → ltZ z (negsuc b) ≡ false → ltZ (pos b) z �
 between b (pos n) low high = ltb-false b n high
 between b (negsuc n) low high = ltb-false b n low
 
--- the last phase; the first is -1 - last
-abbrev last : ℕ
-last = 549755813887
-
 module _ (z : ℤ) (fits : SFits w64 z) where
   same : toZ w64 (ofZ w64 z) ≡ z
   same = toZ-ofZ w64 z fits
 
   outside : last < mag z → refused 33 ≡ readPhase z
   unfolding readPhase
-  outside h = sym (failed (partsOf z) 33 (le-ltb (mag z) _ h))
+  outside h = sym (failed (partsOf z) 33 (in-range z ∙ lt-leb (mag z) last h))
 
   pub gives-33-low : ltZ (toZ w64 (ofZ w64 z)) (negsuc last) ≡ true → refused 33 ≡ readPhase z
   gives-33-low e = outside (too-low last z (rw same at e))
@@ -101,11 +97,11 @@ module _ (z : ℤ) (fits : SFits w64 z) where
   gives-33-high e = outside (too-high last z (rw same at e))
 
   module _ (low : ltZ (toZ w64 (ofZ w64 z)) (negsuc last) ≡ false) (high : ltZ (pos last) (toZ w64 (ofZ w64 z)) ≡ false) where
-    inside : mag z ≤ last
-    inside = between last z (rw same at low) (rw same at high)
+    inside : inPhase z ≡ true
+    inside = in-range z ∙ le-leb (mag z) last (between last z (rw same at low) (rw same at high))
 
     held : (mag (partsOf z .«l_i») < 2 ^ 31) × (partsOf z .«l_f» < 256)
-    held = parts-lt z (omega (arith, inside))
+    held = parts-in z inside
 
     shift : shiftOf z ≡ partsOf z .«l_i»
     shift =
@@ -128,4 +124,4 @@ module _ (z : ℤ) (fits : SFits w64 z) where
     unfolding readPhase
     gives-parts =
         (λ j. given (record { «l_i» = came-back w32 (shift-fits .sfits) shift j; «l_f» = natAbs (mask j) }))
-        ∙ sym (passed (partsOf z) 33 (lt-ltb (mag z) _ (omega (arith, inside))))
+        ∙ sym (passed (partsOf z) 33 inside)

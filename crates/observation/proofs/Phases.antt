@@ -1,16 +1,14 @@
 -- The carrier phase and its pair, each the other's inverse over the whole range. Assumes nothing.
-use mathlib.Core.Path.{_≡_, sym, ap, _∙_}
-use mathlib.Core.Bool.{cond, true, false}
-use mathlib.Core.Logic.{_↔_}
+use mathlib.Core.Path.{_≡_, refl, sym, ap, _∙_}
+use mathlib.Core.Bool.{cond, true, and-true}
 use Prim.Native.Nat.{ℕ, suc, _+_, _-_, _*_, _/_, _%_, _^_, _<_}
 use native.Mathlib.Omega.{arith}
+use lib.Dec.{leb}
 use lib.IntN.{ℤ, pos, negsuc, negℤ, _+ℤ_}
 use lib.Signed.{mag}
-use borrow.Author.Tests.{lt-ltb, ltb-true}
-use Rattle.wire.specs.Message.{refused}
-use Rattle.observation.specs.Phase.{phaseOf, inPhase, partsOf, readPhase}
+use borrow.Author.Tests.{lt-ltb, le-leb, leb-true}
+use Rattle.observation.specs.Phase.{phaseOf, inPhase, partsOf}
 use Rattle.observation.specs.declared.phase.Phase.{Phase}
-use Rattle.wire.proofs.Answers.{exactly-failed}
 
 abbrev pair : ℤ → ℕ → Phase
 pair i f = record { «l_i» = i; «l_f» = f }
@@ -35,7 +33,7 @@ phase-parts (negsuc n) =
     let back : 256 * (n / 256) + (255 - (255 - n % 256)) ≡ n = omega arith in
     below-zero (n / 256) (255 - n % 256) low ∙ ap negsuc back
 
--- a pair put together and taken apart
+-- a pair put together and taken apart, so no phase has two pairs
 pair-back : (i : ℤ) (f : ℕ) → f < 256 → partsOf (phaseOf (pair i f)) ≡ pair i f
 pair-back (pos a) f h =
     let high : (256 * a + f) / 256 ≡ a = omega arith in
@@ -50,11 +48,15 @@ pair-back (negsuc a) f h =
 pub parts-phase : (p : Phase) → p .«l_f» < 256 → partsOf (phaseOf p) ≡ p
 parts-phase p h = pair-back (p .«l_i») (p .«l_f») h
 
--- so no phase has two pairs
-pub one-pair : (p q : Phase) → p .«l_f» < 256 → q .«l_f» < 256 → phaseOf p ≡ phaseOf q → p ≡ q
-one-pair p q hp hq e = sym (parts-phase p hp) ∙ ap partsOf e ∙ parts-phase q hq
-
 -- ---- the range
+
+-- the last phase; the first is -1 - last
+abbrev pub last : ℕ
+last = 549755813887
+
+pub in-range : (z : ℤ) → inPhase z ≡ leb (mag z) last
+in-range (pos n) = refl
+in-range (negsuc n) = and-true (leb n last)
 
 pair-lt : (i : ℤ) (f : ℕ) → mag i < 2 ^ 31 → f < 256 → mag (phaseOf (pair i f)) < 2 ^ 39
 pair-lt (pos a) f hi hf = omega arith
@@ -65,17 +67,9 @@ pub phase-lt : (p : Phase) → mag (p .«l_i») < 2 ^ 31 → p .«l_f» < 256 �
 phase-lt p hi hf = pair-lt (p .«l_i») (p .«l_f») hi hf
 
 pub phase-in : (p : Phase) → mag (p .«l_i») < 2 ^ 31 → p .«l_f» < 256 → inPhase (phaseOf p) ≡ true
-phase-in p hi hf = lt-ltb (mag (phaseOf p)) _ (omega (arith, phase-lt p hi hf))
+phase-in p hi hf = in-range (phaseOf p) ∙ le-leb (mag (phaseOf p)) last (omega (arith, phase-lt p hi hf))
 
 -- and an observation has the pair of a phase in the range
-pub parts-lt : (z : ℤ) → mag z < 2 ^ 39 → (mag (partsOf z .«l_i») < 2 ^ 31) × (partsOf z .«l_f» < 256)
-parts-lt (pos n) h = omega arith
-parts-lt (negsuc n) h = omega arith
-
 pub parts-in : (z : ℤ) → inPhase z ≡ true → (mag (partsOf z .«l_i») < 2 ^ 31) × (partsOf z .«l_f» < 256)
-parts-in z e = parts-lt z (omega (arith, ltb-true (mag z) _ e))
-
--- 33 exactly outside it
-pub exactly-33 : (z : ℤ) → (readPhase z ≡ refused 33) ↔ (inPhase z ≡ false)
-unfolding readPhase
-exactly-33 z = exactly-failed (partsOf z) 33 (inPhase z)
+parts-in (pos n) e = omega (arith, leb-true n last e)
+parts-in (negsuc n) e = omega (arith, leb-true n last (sym (in-range (negsuc n)) ∙ e))

@@ -1,12 +1,12 @@
 -- OBS written: a header and up to 15 observations. Assumes nothing.
-use Prim.Native.Nat.{ℕ, _+_, _*_}
+use Prim.Native.Nat.{ℕ}
 use mathlib.Core.Bool.{cond}
 use mathlib.Core.List.{List}
 use lib.Dec.{leb}
 use lib.ListN.{take}
 use Rattle.wire.specs.Message.{Answer, refused}
 use Rattle.frames.specs.Writer.{planned, framed}
-use Rattle.observation.specs.Layout.{first}
+use Rattle.observation.specs.Layout.{first, startOf}
 use Rattle.observation.specs.Obs.{Head, obsPayload}
 use Rattle.observation.specs.declared.entry.Observation.{Observation}
 use Rattle.observation.specs.declared.obs.Obs.{Obs}
@@ -18,9 +18,9 @@ headOf o = record { tow = o .tow; wn = o .wn; nObs = o .«n_obs» }
 abbrev pub payloadFor : Obs → List Observation → List ℕ
 payloadFor o entries = obsPayload (headOf o) (take (o .count) entries)
 
--- 31 for over 15 observations, then 32
+-- 31 for over 15 observations, then 32: a payload of k observations ends where observation k would begin
 unfoldable pub obsWriteAnswer : Obs → ℕ → Answer ℕ
-obsWriteAnswer o room = cond (leb (o .count) 15) (planned (7 + o .count * 16) room) (refused 31)
+obsWriteAnswer o room = cond (leb (o .count) (first .most)) (planned (startOf first (o .count)) room) (refused 31)
 
 unfoldable pub obsWritten : ℕ → Obs → List Observation → List ℕ → List ℕ
-obsWritten sender o entries buf = cond (leb (o .count) 15) (framed (first .kind) sender (payloadFor o entries) buf) buf
+obsWritten sender o entries buf = cond (leb (o .count) (first .most)) (framed (first .kind) sender (payloadFor o entries) buf) buf

@@ -1,9 +1,8 @@
 -- The carrier phase in 1/256 cycle: 256 × L.i + L.f, signed. Assumes nothing.
 use Prim.Native.Nat.{_-_, _/_, _%_}
-use mathlib.Core.Bool.{Bool, cond}
-use lib.Dec.{ltb}
-use lib.IntN.{ℤ, pos, negsuc, _+ℤ_, _*ℤ_}
-use lib.Signed.{mag}
+use mathlib.Core.Bool.{Bool, _&&_, cond}
+use lib.IntN.{ℤ, pos, negsuc, negℤ, _+ℤ_, _*ℤ_}
+use lib.Signed.{leZ}
 use Rattle.wire.specs.Message.{Answer, given, refused}
 use Rattle.observation.specs.declared.phase.Phase.{Phase}
 use Rattle.observation.specs.declared.phase.PhaseParts.{PhaseParts}
@@ -14,7 +13,7 @@ phaseOf p = pos 256 *ℤ p .«l_i» +ℤ pos (p .«l_f»)
 
 -- from -549755813888 to 549755813887
 abbrev pub inPhase : ℤ → Bool
-inPhase z = ltb (mag z) 549755813888
+inPhase z = leZ (negℤ (pos 549755813888)) z && leZ z (pos 549755813887)
 
 -- the one pair: L.i rounds down, so that L.f is never negative
 abbrev pub partsOf : ℤ → Phase
