@@ -10,6 +10,7 @@ use lib.Seq.{take-all}
 use borrow.Author.Tests.{le-leb, leb-true}
 use Rattle.wire.specs.Number.{Bytes}
 use Rattle.wire.specs.Message.{given}
+use Rattle.wire.proofs.Ordered.{exactly-all}
 use Rattle.frames.specs.Writer.{framed}
 use Rattle.observation.specs.Layout.{first}
 use Rattle.observation.specs.Obs.{obsIn, readObs, obsPayload, entriesFrom}
@@ -21,7 +22,7 @@ use Rattle.system.specs.Log.{logKind, logIn, readLog, logPayload, textIn}
 use Rattle.system.specs.declared.log.Log.{Log}
 use Rattle.system.proofs.Logs.{log-writes-back}
 use Rattle.demands.specs.Order.{readingObs, readingLog}
-use Rattle.demands.proofs.Order.{exactly-all, reads-obs-ordered, reads-log-ordered}
+use Rattle.demands.proofs.Order.{reads-obs-ordered, reads-log-ordered}
 
 entries-length : (n i : ℕ) (s : List ℕ) → length (entriesFrom n i s) ≡ n
 unfolding entriesFrom

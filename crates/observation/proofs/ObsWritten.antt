@@ -34,7 +34,7 @@ module _ (o : Obs) (room : ℕ) where
   unfolding obsWriteAnswer
   answer-31 many = rw (lt-leb (o .count) 15 many)
 
-  answer-planned : o .count ≤ 15 → obsWriteAnswer o room ≡ planned (sizeFor o) room
+  pub answer-planned : o .count ≤ 15 → obsWriteAnswer o room ≡ planned (sizeFor o) room
   unfolding obsWriteAnswer
   answer-planned few = rw (le-leb (o .count) 15 few)
 
