@@ -9,7 +9,7 @@ use lib.ListN.{length}
 use borrow.Author.Tests.{not-false}
 use Rattle.frames.specs.Step.{ends}
 use Rattle.frames.specs.Reading.{stops, steps, framesIn, framesOf, countsOf}
-use Rattle.frames.specs.Cursors.{countsIn, over, passes, ended, nextOf, after, Honest, Told, Led, start, more}
+use Rattle.frames.specs.Cursors.{countsIn, over, passes, ended, nextOf, after, remaining, Told, Led, start, more}
 use Rattle.frames.specs.declared.step.Step.{Step}
 use Rattle.frames.specs.declared.step.Step.the-variants.{Finished, Junk, Short, Bad, Found}
 use Rattle.frames.specs.declared.step.Frame.{Frame}
@@ -17,7 +17,7 @@ use Rattle.frames.specs.declared.cursor.Cursor.{Cursor}
 use Rattle.frames.specs.declared.cursor.Next as Next
 use Rattle.frames.proofs.Steps.{at-end, past-end}
 use Rattle.frames.proofs.Readings.{steps-stop, steps-go}
-use Rattle.frames.proofs.Cursors.{here, passed-on, over-ends, over-further, by-next, honest-begun, honest-over, honest-counts}
+use Rattle.frames.proofs.Cursors.{here, Answered, pass, end, Honest, passed-on, over-ends, over-further, answered, honest-begun, honest-over, honest-counts}
 
 passed-no-frame : (growing : Bool) (x : Step) (fs : List Frame) → passes growing x ≡ true → framesIn x fs ≡ fs
 passed-no-frame growing Finished fs e = refl
@@ -30,30 +30,21 @@ module _ (s : List ℕ) (small : length s < 2 ^ 64) (growing : Bool) where
   -- ---- the counts
 
   -- every answer's cursor is honest again
-  pub honest-next : (c : Cursor) → Honest growing s c → Honest growing s (after (nextOf s c))
-  honest-next = by-next s small (λ (c : Cursor) (n : Next.Next). Honest growing s c → Honest growing s (after n)) pass end
+  honest-after : {c : Cursor} {n : Next.Next} → Answered growing s c n → Honest growing s c → Honest growing s (after n)
+  honest-after (pass {c = c} e rest) h = honest-after rest (honest-over s small growing c h (passed-on growing (here s c) e))
+  honest-after (end {c = c} e) h = at (here s c) refl
     where
-      pass : (c : Cursor) (n : Next.Next) → passes (c .growing) (here s c) ≡ true → (Honest growing s (over c (here s c)) → Honest growing s (after n)) → Honest growing s c → Honest growing s (after n)
-      pass c n e rest h = rest (honest-over s small growing c h (passed-on growing (here s c) (subst (λ (g : Bool). passes g (here s c) ≡ true) (h .mode) e)))
-
-      at : (c : Cursor) → Honest growing s c → (x : Step) → here s c ≡ x → Honest growing s (after (ended c x))
-      at c h Finished q = h
-      at c h Junk q = h
-      at c h (Short n) q = h
-      at c h Bad q = h
-      at c h (Found f) q = subst (λ (x : Step). Honest growing s (over c x)) q (honest-over s small growing c h (ap (stops growing) q))
-
-      end : (c : Cursor) → passes (c .growing) (here s c) ≡ false → Honest growing s c → Honest growing s (after (ended c (here s c)))
-      end c e h = at c h (here s c) refl
+      at : (x : Step) → here s c ≡ x → Honest growing s (after (ended c x))
+      at Finished q = h
+      at Junk q = h
+      at (Short n) q = h
+      at Bad q = h
+      at (Found f) q = subst (λ (x : Step). Honest growing s (over c x)) q (honest-over s small growing c h (ap (stops growing) q))
 
   -- ---- the answers of a cursor
 
-  -- the frames that are left
-  abbrev remaining : Cursor → List Frame
-  remaining c = framesOf (steps growing s (c .at))
-
-  -- a step that is passed over leaves them as they are
-  remaining-over : (c : Cursor) → passes growing (here s c) ≡ true → remaining c ≡ remaining (over c (here s c))
+  -- a step that is passed over leaves the frames that are left as they are
+  remaining-over : (c : Cursor) → passes growing (here s c) ≡ true → remaining growing s c ≡ remaining growing s (over c (here s c))
   unfolding framesOf
   remaining-over c e =
       let goes = passed-on growing (here s c) e in
@@ -61,57 +52,51 @@ module _ (s : List ℕ) (small : length s < 2 ^ 64) (growing : Bool) where
       ∙ passed-no-frame growing (here s c) (framesOf (steps growing s (ends s (c .at)))) e
       ∙ ap (λ (p : ℕ). framesOf (steps growing s p)) (sym (over-ends s small growing c goes))
 
-  pub told : (c : Cursor) → c .growing ≡ growing → c .at ≤ length s → Told growing s (framesOf (steps growing s (c .at))) (nextOf s c)
+  told-by : {c : Cursor} {n : Next.Next} → Answered growing s c n → c .at ≤ length s → Told growing s (remaining growing s c) n
   unfolding framesOf
-  told = by-next s small (λ (c : Cursor) (n : Next.Next). c .growing ≡ growing → c .at ≤ length s → Told growing s (remaining c) n) pass end
+  told-by (pass {c = c} {n = n} e rest) h =
+      subst⁻¹ (λ (fs : List Frame). Told growing s fs n) (remaining-over c e) (told-by rest (over-further s small growing c (passed-on growing (here s c) e) .1))
+  told-by (end {c = c} e) h = at (here s c) refl e
     where
-      pass : (c : Cursor) (n : Next.Next) → passes (c .growing) (here s c) ≡ true
-          → (over c (here s c) .growing ≡ growing → over c (here s c) .at ≤ length s → Told growing s (remaining (over c (here s c))) n)
-          → c .growing ≡ growing → c .at ≤ length s → Told growing s (remaining c) n
-      pass c n e rest m h =
-          let on = subst (λ (g : Bool). passes g (here s c) ≡ true) m e in
-          let goes = passed-on growing (here s c) on in
-          subst⁻¹ (λ (fs : List Frame). Told growing s fs n) (remaining-over c on) (rest m (over-further s small growing c goes .1))
-
-      at : (c : Cursor) → c .at ≤ length s → (x : Step) → here s c ≡ x → passes growing x ≡ false → Told growing s (remaining c) (ended c x)
-      at c h Finished q e = (ap framesOf (steps-stop growing s (c .at) (ap (stops growing) q)), omega (arith, at-end s (c .at) (ap (stops false) q)))
-      at c h Junk q e = absurd (true≢false e)
-      at c h (Short n) q e =
+      at : (x : Step) → here s c ≡ x → passes growing x ≡ false → Told growing s (remaining growing s c) (ended c x)
+      at Finished q e = (ap framesOf (steps-stop growing s (c .at) (ap (stops growing) q)), omega (arith, at-end s (c .at) (ap (stops false) q)))
+      at Junk q e = absurd (true≢false e)
+      at (Short n) q e =
           let open-reading = not-false growing e in
           (ap framesOf (steps-stop growing s (c .at) (ap (stops growing) q ∙ open-reading)), q, open-reading)
-      at c h Bad q e = absurd (true≢false e)
-      at c h (Found f) q e =
+      at Bad q e = absurd (true≢false e)
+      at (Found f) q e =
           let goes = ap (stops growing) q in
           ap framesOf (steps-go growing s (c .at) goes)
           ∙ ap₂ (λ (x : Step) (p : ℕ). framesIn x (framesOf (steps growing s p))) q (sym (over-ends s small growing c goes) ∙ ap (λ (x : Step). over c x .at) q)
 
-      end : (c : Cursor) → passes (c .growing) (here s c) ≡ false → c .growing ≡ growing → c .at ≤ length s → Told growing s (remaining c) (ended c (here s c))
-      end c e m h = at c h (here s c) refl (subst (λ (g : Bool). passes g (here s c) ≡ false) m e)
+  pub told : (c : Cursor) → c .growing ≡ growing → c .at ≤ length s → Told growing s (remaining growing s c) (nextOf s c)
+  told c m h = told-by (answered s small growing c m) h
 
   -- ---- both, of what next answered
 
-  said : {c : Cursor} {n : Next.Next} → Honest growing s c → nextOf s c ≡ n → Told growing s (remaining c) n × Honest growing s (after n)
-  said {c} h e = (subst (Told growing s (remaining c)) e (told c (h .mode) (h .inside)), subst (λ (n : Next.Next). Honest growing s (after n)) e (honest-next c h))
+  pub said : {c : Cursor} {n : Next.Next} → Honest growing s c → nextOf s c ≡ n → Told growing s (remaining growing s c) n × Honest growing s (after n)
+  said {c} h e = (subst (Told growing s (remaining growing s c)) e (told c (h .mode) (h .inside)), subst (λ (n : Next.Next). Honest growing s (after n)) e (honest-after (answered s small growing c (h .mode)) h))
 
   -- when no frame is left the counts are those of the whole reading
   pub honest-end : {c d : Cursor} → Honest growing s c → nextOf s c ≡ Next.the-variants.End d → countsIn d ≡ countsOf (steps growing s 0)
   honest-end {d = d} h e = let all = said h e in honest-counts s small growing d (all .1) (past-end s (d .at) growing (omega (arith, all .0 .1)))
 
-  pub honest-needs : {c d : Cursor} {n : ℕ} → Honest growing s c → nextOf s c ≡ Next.the-variants.Needs n d → countsIn d ≡ countsOf (steps growing s 0)
+  honest-needs : {c d : Cursor} {n : ℕ} → Honest growing s c → nextOf s c ≡ Next.the-variants.Needs n d → countsIn d ≡ countsOf (steps growing s 0)
   honest-needs {d = d} h e = let all = said h e in honest-counts s small growing d (all .1) (ap (stops growing) (all .0 .1) ∙ all .0 .2)
 
   -- ---- calls of next from the start on
 
   -- the frames handed out and those left are the frames of the whole reading
-  pub led : {fs : List Frame} {c : Cursor} → Led growing s fs c → Honest growing s c × (fs ++ framesOf (steps growing s (c .at)) ≡ framesOf (steps growing s 0))
+  pub led : {fs : List Frame} {c : Cursor} → Led growing s fs c → Honest growing s c × (fs ++ remaining growing s c ≡ framesOf (steps growing s 0))
   led start = (honest-begun s small growing, refl)
   led (more {fs = fs} {d = d} {f = f} l e) =
       let before = led l in
       let now = said (before .0) e in
-      (now .1, append-assoc fs (f ∷ []) (remaining d) ∙ ap (λ (gs : List Frame). fs ++ gs) (sym (now .0)) ∙ before .1)
+      (now .1, append-assoc fs (f ∷ []) (remaining growing s d) ∙ ap (λ (gs : List Frame). fs ++ gs) (sym (now .0)) ∙ before .1)
 
   -- when none is left, all were handed out
-  all-handed : {fs : List Frame} {c : Cursor} → Led growing s fs c → remaining c ≡ [] → fs ≡ framesOf (steps growing s 0)
+  all-handed : {fs : List Frame} {c : Cursor} → Led growing s fs c → remaining growing s c ≡ [] → fs ≡ framesOf (steps growing s 0)
   all-handed {fs} l none = sym (append-nil fs) ∙ ap (λ (gs : List Frame). fs ++ gs) (sym none) ∙ led l .1
 
   pub led-end : {fs : List Frame} {c d : Cursor} → Led growing s fs c → nextOf s c ≡ Next.the-variants.End d

@@ -1,6 +1,6 @@
 -- A cursor that goes on: what it passes over changes no answer, and its counts stay those of the steps behind it. What the loops of `next` and
 -- `totals` keep. Assumes nothing.
-use mathlib.Core.Path.{_≡_, refl, sym, ap, ap₂, _∙_, subst⁻¹}
+use mathlib.Core.Path.{_≡_, refl, sym, ap, ap₂, _∙_, subst, subst⁻¹}
 use mathlib.Core.Bool.{Bool, true, false, false≢true}
 use mathlib.Core.List.{List, []}
 use Prim.Native.Nat.{ℕ, zero, suc, _+_, _^_, _≤_, _<_}
@@ -9,7 +9,7 @@ use native.Mathlib.Omega.{arith}
 use lib.ListN.{length}
 use Rattle.frames.specs.Step.{stepAt, passed, ends}
 use Rattle.frames.specs.Reading.{Placed, stops, steps, counted, countsOf, sumOf, added}
-use Rattle.frames.specs.Cursors.{begun, countsIn, plus, over, passes, ended, answer, nextOf, Honest}
+use Rattle.frames.specs.Cursors.{begun, countsIn, plus, over, passes, ended, answer, nextOf}
 use Rattle.frames.specs.declared.step.Step.{Step}
 use Rattle.frames.specs.declared.step.Step.the-variants.{Finished, Junk, Short, Bad, Found}
 use Rattle.frames.specs.declared.cursor.Counts.{Counts}
@@ -21,6 +21,18 @@ use Rattle.frames.proofs.Tiling.{counted-sum, added-sum}
 -- the step where a cursor stands
 abbrev pub here : List ℕ → Cursor → Step
 here s c = stepAt s (c .at)
+
+-- how a reading comes to an answer: past the steps that it passes over, to one that it does not
+pub data Answered (growing : Bool) (s : List ℕ) : Cursor → Next.Next → Type 0 where
+  pass : {c : Cursor} {n : Next.Next} → passes growing (here s c) ≡ true → Answered growing s (over c (here s c)) n → Answered growing s c n
+  end : {c : Cursor} → passes growing (here s c) ≡ false → Answered growing s c (ended c (here s c))
+
+-- a cursor that stands in the capture; its counts are those of the bytes behind it, and with those of the steps left they make the reading's
+pub record Honest (growing : Bool) (s : List ℕ) (c : Cursor) : Type 0 where
+  pub mode : c .growing ≡ growing
+  pub inside : c .at ≤ length s
+  pub every : sumOf (countsIn c) ≡ c .at
+  pub whole : added (countsIn c) (countsOf (steps growing s (c .at))) ≡ countsOf (steps growing s 0)
 
 -- ---- past a step
 
@@ -92,7 +104,7 @@ module _ (s : List ℕ) (small : length s < 2 ^ 64) where
       ∙ sym (next-is (over c (here s c)))
 
   -- at any other the reading to the next frame ends
-  pub next-ended : (c : Cursor) → passes (c .growing) (here s c) ≡ false → nextOf s c ≡ ended c (here s c)
+  next-ended : (c : Cursor) → passes (c .growing) (here s c) ≡ false → nextOf s c ≡ ended c (here s c)
   unfolding answer
   next-ended c e = next-is c ∙ by (stops (c .growing) (here s c)) refl
     where
@@ -116,26 +128,23 @@ module _ (s : List ℕ) (small : length s < 2 ^ 64) where
       comes-further growing e =
           subst⁻¹ (λ (k : Cursor). (c .at < k .at) × (k .at ≤ length s)) past-here (over-further growing c (ap (stops growing) (sym step) ∙ e))
 
-  -- so that what holds of each is held by every answer
-  module _ (P : Cursor → Next.Next → Type 0)
-      (pass : (c : Cursor) (n : Next.Next) → passes (c .growing) (here s c) ≡ true → P (over c (here s c)) n → P c n)
-      (end : (c : Cursor) → passes (c .growing) (here s c) ≡ false → P c (ended c (here s c)))
+  -- so that every answer comes about by them
+  turn : (c : Cursor) → (c .at < over c (here s c) .at → over c (here s c) .at ≤ length s → Answered (c .growing) s (over c (here s c)) (nextOf s (over c (here s c)))) → Answered (c .growing) s c (nextOf s c)
+  turn c rest = by (passes (c .growing) (here s c)) refl
     where
-      turn : (c : Cursor) → (c .at < over c (here s c) .at → over c (here s c) .at ≤ length s → P (over c (here s c)) (nextOf s (over c (here s c)))) → P c (nextOf s c)
-      turn c rest = by (passes (c .growing) (here s c)) refl
-        where
-          by : (t : Bool) → passes (c .growing) (here s c) ≡ t → P c (nextOf s c)
-          by true e =
-              let further = over-further (c .growing) c (passed-on (c .growing) (here s c) e) in
-              subst⁻¹ (P c) (next-over c e) (pass c (nextOf s (over c (here s c))) e (rest (further .0) (further .1)))
-          by false e = subst⁻¹ (P c) (next-ended c e) (end c e)
+      by : (t : Bool) → passes (c .growing) (here s c) ≡ t → Answered (c .growing) s c (nextOf s c)
+      by true e =
+          let further = over-further (c .growing) c (passed-on (c .growing) (here s c) e) in
+          subst⁻¹ (Answered (c .growing) s c) (next-over c e) (pass e (rest (further .0) (further .1)))
+      by false e = subst⁻¹ (Answered (c .growing) s c) (next-ended c e) (end e)
 
-      by-fuel : (n : ℕ) (c : Cursor) → length s ≤ c .at + n → P c (nextOf s c)
-      by-fuel zero c h = turn c (λ l r. absurd (omega arith))
-      by-fuel (suc n) c h = turn c (λ l r. by-fuel n (over c (here s c)) (omega arith))
+  -- where no more than n bytes are left
+  answered-within : (n : ℕ) (c : Cursor) → length s ≤ c .at + n → Answered (c .growing) s c (nextOf s c)
+  answered-within zero c h = turn c (λ further within. absurd (omega arith))
+  answered-within (suc n) c h = turn c (λ further within. answered-within n (over c (here s c)) (omega arith))
 
-      pub by-next : (c : Cursor) → P c (nextOf s c)
-      by-next c = by-fuel (length s) c (omega arith)
+  pub answered : (growing : Bool) (c : Cursor) → c .growing ≡ growing → Answered growing s c (nextOf s c)
+  answered growing c m = subst (λ (g : Bool). Answered g s c (nextOf s c)) m (answered-within (length s) c (omega arith))
 
   module _ (growing : Bool) where
     -- ---- the counts of a cursor
@@ -167,7 +176,7 @@ module _ (s : List ℕ) (small : length s < 2 ^ 64) where
     -- the same by calls
     module _ (c : Cursor) (h : Honest growing s c) {x : Step} (step : x ≡ here s c) where
       pub honest-past : {d : Cursor} → d ≡ over c x → stops growing x ≡ false → Honest growing s d
-      honest-past past e = subst⁻¹ (Honest growing s) (past ∙ ap (over c) step) (honest-over c h (ap (stops growing) (sym step) ∙ e))
+      honest-past past e = subst⁻¹ (Honest growing s) (past-here c step past) (honest-over c h (ap (stops growing) (sym step) ∙ e))
 
       pub honest-given : {k : Counts} → k ≡ countsIn c → stops growing x ≡ true → k ≡ countsOf (steps growing s 0)
       honest-given given e = given ∙ honest-counts c h (ap (stops growing) (sym step) ∙ e)

@@ -98,10 +98,6 @@ module _ (s : List ℕ) (p : ℕ) {f : Frame} (e : stepAt s p ≡ Found f) where
   pub found-fits : p + f .length + 8 ≤ length s
   found-fits = let n : f .length ≡ size s p = ap (λ (g : Frame). g .length) (as-found .0) in omega (arith, as-found .2)
 
-  pub payload-length : length (payloadIn s f) ≡ f .length
-  unfolding payloadIn
-  payload-length = length-take-le (f .length) (drop (f .at + 6) s) (rw length-drop (omega (arith, found-at, found-fits)))
-
   module _ (h : Bytes s) where
     pub found-numbers : (f .kind < 65536) × (f .sender < 65536) × (f .length < 256)
     found-numbers =

@@ -63,48 +63,42 @@ module _ {R : Type 0} (m : Message R) (sender : ℕ) (r : R) (buf : List ℕ) wh
   frame-written e = rw e
 
   module _ {n : ℕ} (k : m .kind < 65536) (s : sender < 65536) (g : writeAnswer m r (length buf) ≡ given n) where
-    bytes : List ℕ
+    abbrev bytes : List ℕ
     bytes = encode (m .fields) (m .row r)
 
     few : length bytes ≤ 255
-    unfolding bytes
     few = rw length-encode (fits (size (m .fields)) (length buf) (written-when g .1) .0)
 
     room : length bytes + 8 ≤ length buf
-    unfolding bytes
     room = rw length-encode (fits (size (m .fields)) (length buf) (written-when g .1) .1)
 
     -- a frame written is found where it was written
-    pub found-through : stepAt (writtenAs m sender r buf) 0 ≡ Found (frameWritten m sender)
-    unfolding bytes
+    found-through : stepAt (writtenAs m sender r buf) 0 ≡ Found (frameWritten m sender)
     found-through =
         ap (λ (t : List ℕ). stepAt t 0) (frame-written (written-when g .0))
         ∙ framed-reads-back (m .kind) sender bytes buf k s few room
         ∙ ap (λ (l : ℕ). Found (record { at = 0; kind = m .kind; sender = sender; length = l })) (length-encode (m .fields) (m .row r))
 
     payload-through : payloadIn (writtenAs m sender r buf) (frameWritten m sender) ≡ bytes
-    unfolding bytes
     payload-through =
         ap₂ (λ (t : List ℕ) (l : ℕ). payloadIn t (record { at = 0; kind = m .kind; sender = sender; length = l }))
         (frame-written (written-when g .0)) (sym (length-encode (m .fields) (m .row r)))
         ∙ framed-payload-back (m .kind) sender bytes buf k s few room
 
     -- and its payload gives the record back bit for bit
-    pub reads-through : HeldRow (m .fields) (m .row r)
+    reads-through : HeldRow (m .fields) (m .row r)
         → (q : R) × (readAs m (payloadIn (writtenAs m sender r buf) (frameWritten m sender)) ≡ given q) × (rowBits (m .fields) (m .row q) ≡ rowBits (m .fields) (m .row r))
-    unfolding bytes
     reads-through h =
         let back = reads-back m r bytes h (payload-given m r (written-when g .0)) in
         (back .0, ap (readAs m) payload-through ∙ back .1, back .2)
 
     -- the very record, where it is such as reading makes
-    pub reads-through-same : HeldRow (m .fields) (m .row r) → SettledRow (m .fields) (m .row r)
+    reads-through-same : HeldRow (m .fields) (m .row r) → SettledRow (m .fields) (m .row r)
         → readAs m (payloadIn (writtenAs m sender r buf) (frameWritten m sender)) ≡ given r
-    unfolding bytes
     reads-through-same h e = ap (readAs m) payload-through ∙ reads-same m r bytes h (payload-given m r (written-when g .0)) e
 
 -- an accepted payload written again gives a frame of the same bytes
-pub writes-through : {R : Type 0} (m : Message R) (sender : ℕ) (r : R) (buf s : List ℕ) → Bytes s → readAs m s ≡ given r
+writes-through : {R : Type 0} (m : Message R) (sender : ℕ) (r : R) (buf s : List ℕ) → Bytes s → readAs m s ≡ given r
     → writtenAs m sender r buf ≡ framed (m .kind) sender s buf
 unfolding writtenAs
 writes-through m sender r buf s h g = let w = written m r s (writes-back m s r h g) in rw (w .0) (ap (λ (b : List ℕ). framed (m .kind) sender b buf) (sym (w .1)))

@@ -1,6 +1,6 @@
--- Readings by position: a reading is the step at its place and then the reading from where that step ends, unless it stops there. And the
--- one induction by which every fact of whole readings is shown. Assumes nothing.
-use mathlib.Core.Path.{_≡_, refl, ap, _∙_, subst⁻¹}
+-- Readings by position: a reading is the step at its place and then the reading from where that step ends, unless it stops there.
+-- Assumes nothing.
+use mathlib.Core.Path.{_≡_, refl, ap, _∙_}
 use mathlib.Core.Bool.{Bool, true, false, true≢false, cond}
 use mathlib.Core.List.{List, [], _∷_}
 use Prim.Native.Nat.{ℕ, zero, suc, pred, _+_, _≤_, _<_}
@@ -16,14 +16,14 @@ use Rattle.frames.proofs.Steps.{within}
 
 module _ (growing : Bool) where
   -- skipping k bytes is reading from k further on
-  pub skipped : (k p : ℕ) (t : List ℕ) → readFrom growing k p t ≡ readFrom growing 0 (p + k) (drop k t)
+  skipped : (k p : ℕ) (t : List ℕ) → readFrom growing k p t ≡ readFrom growing 0 (p + k) (drop k t)
   unfolding readFrom
   skipped zero p t = rw add-zero
   skipped (suc k) p [] = refl
   skipped (suc k) p (b ∷ t) = skipped k (suc p) t ∙ rw (suc-add, add-suc)
 
   -- a step that a reading goes on by passes some bytes
-  pub passes-some : (x : Step) → stops growing x ≡ false → 0 < passed x
+  passes-some : (x : Step) → stops growing x ≡ false → 0 < passed x
   passes-some Finished e = absurd (true≢false e)
   passes-some Junk e = omega arith
   passes-some (Short n) e = omega arith
@@ -62,24 +62,3 @@ module _ (growing : Bool) (s : List ℕ) where
   -- a step that a reading goes on by ends further on, and within the capture
   pub goes-on : (p : ℕ) → stops growing (stepAt s p) ≡ false → (p < ends s p) × (ends s p ≤ length s)
   goes-on p e = (omega (arith, passes-some growing (stepAt s p) e), within s p growing e)
-
-  module _ (P : ℕ → List Placed → Type 0)
-      (stop : (p : ℕ) → stops growing (stepAt s p) ≡ true → P p [])
-      (go : (p : ℕ) → stops growing (stepAt s p) ≡ false → p < ends s p → ends s p ≤ length s → P (ends s p) (steps growing s (ends s p)) → P p (placed s p ∷ steps growing s (ends s p)))
-    where
-      turn : (p : ℕ) → (p < ends s p → ends s p ≤ length s → P (ends s p) (steps growing s (ends s p))) → P p (steps growing s p)
-      turn p rest = by (stops growing (stepAt s p)) refl
-        where
-          by : (t : Bool) → stops growing (stepAt s p) ≡ t → P p (steps growing s p)
-          by true e = subst⁻¹ (P p) (steps-stop p e) (stop p e)
-          by false e =
-              let on = goes-on p e in
-              subst⁻¹ (P p) (steps-go p e) (go p e (on .0) (on .1) (rest (on .0) (on .1)))
-
-      by-fuel : (n p : ℕ) → length s ≤ p + n → P p (steps growing s p)
-      by-fuel zero p h = turn p (λ l r. absurd (omega arith))
-      by-fuel (suc n) p h = turn p (λ l r. by-fuel n (ends s p) (omega arith))
-
-      -- what holds where a reading stops, and of a step if it holds from where the step ends, holds of every reading
-      pub by-steps : (p : ℕ) → P p (steps growing s p)
-      by-steps p = by-fuel (length s) p (omega arith)

@@ -7,16 +7,16 @@ use native.Mathlib.Nat.{add-zero, add-assoc, mod-add-mod, mod-eq-of-lt}
 use native.Mathlib.Omega.{arith}
 use lib.Dec.{eqb, leb}
 use lib.ListN.{length, getD, drop, length-drop}
-use lib.Seq.{drop-drop, getD-drop}
+use lib.Seq.{drop-drop, drop-cons, getD-drop}
 use borrow.Author.Tests.{ne-eqb, eqb-true, eqb-false, le-leb, lt-leb, leb-true, leb-false}
 use Rattle.frames.specs.Reading.{stops}
-use Rattle.frames.specs.Cursors.{plus, over, passes, nextOf, Honest}
+use Rattle.frames.specs.Cursors.{plus, over, passes, nextOf}
 use Rattle.frames.specs.Junk.{junkRun, overJunk, pastJunk}
 use Rattle.frames.specs.declared.step.Step.{Step}
 use Rattle.frames.specs.declared.step.Step.the-variants.{Junk}
 use Rattle.frames.specs.declared.cursor.Cursor.{Cursor}
 use Rattle.frames.proofs.Steps.{junk, decides}
-use Rattle.frames.proofs.Cursors.{here, next-over, honest-over}
+use Rattle.frames.proofs.Cursors.{here, Honest, next-over, honest-over}
 
 -- ---- how long a run is
 
@@ -37,7 +37,7 @@ run-none : junkRun [] ≡ 0
 unfolding junkRun
 run-none = refl
 
-pub run-length : (t : List ℕ) → junkRun t ≤ length t
+run-length : (t : List ℕ) → junkRun t ≤ length t
 run-length [] = omega (arith, run-none)
 run-length (b ∷ t) = by (front b t) (run-length t)
   where
@@ -45,36 +45,8 @@ run-length (b ∷ t) = by (front b t) (run-length t)
     by (mark e r) rest = omega (arith, r)
     by (pass n r) rest = omega (arith, r)
 
--- it goes on over a byte that is not 0x55
-pub run-more : (k : ℕ) (t : List ℕ) → k ≤ junkRun t → k < length t → (getD t k 0 ≡ 0x55 → ⊥) → suc k ≤ junkRun t
-run-more k [] h l n = absurd (omega arith)
-run-more zero (b ∷ t) h l n = by (front b t)
-  where
-    by : Front b t → 1 ≤ junkRun (b ∷ t)
-    by (mark e r) = absurd (n e)
-    by (pass _ r) = omega (arith, r)
-run-more (suc k) (b ∷ t) h l n = by (front b t) (λ g. run-more k t g (omega arith) n)
-  where
-    by : Front b t → (k ≤ junkRun t → suc k ≤ junkRun t) → suc (suc k) ≤ junkRun (b ∷ t)
-    by (mark e r) rest = absurd (omega (arith, r))
-    by (pass _ r) rest = omega (arith, r, rest (omega (arith, r)))
-
--- and ends at one that is
-pub run-stop : (k : ℕ) (t : List ℕ) → k < length t → getD t k 0 ≡ 0x55 → junkRun t ≤ k
-run-stop k [] l e = absurd (omega arith)
-run-stop zero (b ∷ t) l e = by (front b t)
-  where
-    by : Front b t → junkRun (b ∷ t) ≤ 0
-    by (mark _ r) = omega (arith, r)
-    by (pass n r) = absurd (n e)
-run-stop (suc k) (b ∷ t) l e = by (front b t) (run-stop k t (omega arith) e)
-  where
-    by : Front b t → junkRun t ≤ k → junkRun (b ∷ t) ≤ suc k
-    by (mark _ r) rest = omega (arith, r)
-    by (pass n r) rest = omega (arith, r)
-
 -- what is left of it after a part
-pub run-split : (k : ℕ) (t : List ℕ) → k ≤ junkRun t → junkRun t ≡ k + junkRun (drop k t)
+run-split : (k : ℕ) (t : List ℕ) → k ≤ junkRun t → junkRun t ≡ k + junkRun (drop k t)
 run-split zero t h = omega arith
 run-split (suc k) [] h = absurd (omega (arith, run-none))
 run-split (suc k) (b ∷ t) h = by (front b t) (run-split k t)
@@ -83,14 +55,25 @@ run-split (suc k) (b ∷ t) h = by (front b t) (run-split k t)
     by (mark e r) rest = absurd (omega (arith, r))
     by (pass n r) rest = omega (arith, r, rest (omega (arith, r)))
 
+-- after k bytes of it: it goes on over a byte that is not 0x55
+run-more : (k : ℕ) (t : List ℕ) → k ≤ junkRun t → k < length t → (getD t k 0 ≡ 0x55 → ⊥) → suc k ≤ junkRun t
+run-more k t h l n = by (front (getD t k 0) (drop (suc k) t))
+  where
+    by : Front (getD t k 0) (drop (suc k) t) → suc k ≤ junkRun t
+    by (mark e r) = absurd (n e)
+    by (pass _ r) = omega (arith, run-split k t h, ap junkRun (drop-cons t k 0 l), r)
+
+-- and ends at one that is
+run-stop : (k : ℕ) (t : List ℕ) → k ≤ junkRun t → k < length t → getD t k 0 ≡ 0x55 → junkRun t ≡ k
+run-stop k t h l e = by (front (getD t k 0) (drop (suc k) t))
+  where
+    by : Front (getD t k 0) (drop (suc k) t) → junkRun t ≡ k
+    by (mark _ r) = omega (arith, run-split k t h, ap junkRun (drop-cons t k 0 l), r)
+    by (pass n r) = absurd (n e)
+
 -- a run that is not empty begins with junk
 run-begins : (t : List ℕ) → 1 ≤ junkRun t → (0 < length t) × (getD t 0 0 ≡ 0x55 → ⊥)
-run-begins [] h = absurd (omega (arith, run-none))
-run-begins (b ∷ t) h = by (front b t)
-  where
-    by : Front b t → (0 < length (b ∷ t)) × (b ≡ 0x55 → ⊥)
-    by (mark e r) = absurd (omega (arith, r))
-    by (pass n r) = (omega arith, n)
+run-begins t h = let some : 0 < length t = omega (arith, run-length t) in (some, λ e. absurd (omega (arith, h, run-stop 0 t (omega arith) some e)))
 
 -- whether a byte among the first i ends it, found byte by byte
 abbrev pub Hit : List ℕ → ℕ → Bool
@@ -103,7 +86,8 @@ pub hit-more : (t : List ℕ) (i : ℕ) → i < length t → cond (eqb (getD t i
 hit-more t i l = by (eqb (getD t i 0) 0x55) refl (leb i (junkRun t)) refl
   where
     by : (x : Bool) → eqb (getD t i 0) 0x55 ≡ x → (y : Bool) → leb i (junkRun t) ≡ y → cond (eqb (getD t i 0) 0x55) true (Hit t i) ≡ Hit t (i + 1)
-    by true e y g = rw (e, lt-leb (i + 1) (junkRun t) (omega (arith, run-stop i t l (eqb-true (getD t i 0) 0x55 e))))
+    by true e true g = rw (e, lt-leb (i + 1) (junkRun t) (omega (arith, run-stop i t (leb-true i (junkRun t) g) l (eqb-true (getD t i 0) 0x55 e))))
+    by true e false g = rw (e, lt-leb (i + 1) (junkRun t) (omega (arith, leb-false i (junkRun t) g)))
     by false e true g = rw (e, g, le-leb (i + 1) (junkRun t) (omega (arith, run-more i t (leb-true i (junkRun t) g) l (eqb-false (getD t i 0) 0x55 e))))
     by false e false g = rw (e, g, lt-leb (i + 1) (junkRun t) (omega (arith, leb-false i (junkRun t) g)))
 
@@ -138,7 +122,7 @@ module _ (s : List ℕ) (at to : ℕ) (h : Reaches s at to) where
   pub reaches-mark : to < length s → getD s to 0 ≡ 0x55 → to - at ≡ junkRun (drop at s)
   reaches-mark l e =
       let size = length-drop at s in
-      omega (arith, h .2, run-stop (to - at) (drop at s) (omega (arith, h .0, l, size)) (byte ∙ e))
+      sym (run-stop (to - at) (drop at s) (h .2) (omega (arith, h .0, l, size)) (byte ∙ e))
 
   pub reaches-end : length s ≤ to → to - at ≡ junkRun (drop at s)
   reaches-end l = omega (arith, h .1, h .2, l, run-length (drop at s), length-drop at s)

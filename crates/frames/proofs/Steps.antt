@@ -35,7 +35,7 @@ number-one s at = go (leb (length s) at) refl
     go false e = sym (number-byte s at (leb-false (length s) at e))
 
 module _ (s : List ℕ) (p : ℕ) where
-  -- how many bytes are left, the payload length that is stated, the CRC over them, the CRC that was sent, and the frame
+  -- at p: the bytes that are left, the payload length that is stated, the CRC over type through payload, the CRC that was sent, the frame
   abbrev pub left : ℕ
   left = length s - p
 
@@ -75,7 +75,7 @@ module _ (s : List ℕ) (p : ℕ) where
   unfolding stepOf
   in-place = simp (length-drop, number-from, number-one, getD-drop, drop-drop, add-zero, ← add-assoc)
 
-  -- the bytes that the CRC covers, as the part from first to last
+  -- the bytes that the CRC covers, as `step_by` lends them: from first to end
   abbrev part : List ℕ
   part = take (p + size + 6 - (p + 1)) (drop (p + 1) s)
 

@@ -1,10 +1,10 @@
--- Whole readings tile the capture. Each step stands where the one before ended and is the capture's own there; closed reading goes on to the
--- end, open reading to the end or a short; no other steps tile the capture so; every position lies in exactly one step, and the counts add up.
+-- Closed reading tiles the capture: each step stands where the one before ended and is the capture's own there, from 0 to the end. No other
+-- steps tile it so; every position lies in exactly one step, and the counts add up. Open reading is that up to the first short.
 -- Assumes nothing.
-use mathlib.Core.Path.{_≡_, refl, sym, ap, _∙_}
+use mathlib.Core.Path.{_≡_, refl, sym, ap, _∙_, subst, subst⁻¹}
 use mathlib.Core.Bool.{Bool, true, false, _||_}
 use mathlib.Core.List.{List, [], _∷_}
-use Prim.Native.Nat.{ℕ, _+_, _≤_, _<_}
+use Prim.Native.Nat.{ℕ, zero, suc, _+_, _≤_, _<_}
 use native.Mathlib.Omega.{arith}
 use lib.Dec.{ltb}
 use lib.ListN.{length}
@@ -15,7 +15,7 @@ use Rattle.frames.specs.declared.step.Step.{Step}
 use Rattle.frames.specs.declared.step.Step.the-variants.{Finished, Junk, Short, Bad, Found}
 use Rattle.frames.specs.declared.cursor.Counts.{Counts}
 use Rattle.frames.proofs.Steps.{at-end, past-end}
-use Rattle.frames.proofs.Readings.{steps-stop, steps-go, by-steps}
+use Rattle.frames.proofs.Readings.{steps-stop, steps-go, goes-on}
 
 -- a step counts the bytes that it passes
 pub counted-sum : (x : Step) → sumOf (counted x) ≡ passed x
@@ -31,17 +31,13 @@ added-sum a b = omega arith
 module _ (s : List ℕ) where
   -- ---- what tiles a part
 
-  tiled-le : {p e : ℕ} {xs : List Placed} → Tiled s p e xs → p ≤ e
-  tiled-le done = omega arith
-  tiled-le (then l t) = omega arith
-
   -- no position before the part lies in a step, and each within it lies in one
   held-before : (i : ℕ) {p e : ℕ} {xs : List Placed} → Tiled s p e xs → i < p → holding i xs ≡ 0
   unfolding holding
   held-before i done h = refl
   held-before i (then {p = p} l t) h = rw (lt-leb p i h) (omega (arith, held-before i t (omega arith)))
 
-  pub held-once : (i : ℕ) {p e : ℕ} {xs : List Placed} → Tiled s p e xs → p ≤ i → i < e → holding i xs ≡ 1
+  held-once : (i : ℕ) {p e : ℕ} {xs : List Placed} → Tiled s p e xs → p ≤ i → i < e → holding i xs ≡ 1
   unfolding holding
   held-once i done h l = absurd (omega arith)
   held-once i (then {p = p} {xs = xs} l t) h r = by (ltb i (ends s p)) refl (λ q. held-once i t q r)
@@ -51,37 +47,32 @@ module _ (s : List ℕ) where
       by false e rest = rw (le-leb p i h, e) (omega (arith, rest (ltb-false i (ends s p) e)))
 
   -- the counts of its steps are its length
-  pub counted-length : {p e : ℕ} {xs : List Placed} → Tiled s p e xs → sumOf (countsOf xs) + p ≡ e
+  counted-length : {p e : ℕ} {xs : List Placed} → Tiled s p e xs → sumOf (countsOf xs) + p ≡ e
   unfolding countsOf
   counted-length done = omega arith
   counted-length (then {p = p} {xs = xs} l t) = omega (arith, added-sum (counted (stepAt s p)) (countsOf xs), counted-sum (stepAt s p), counted-length t)
 
-  -- ---- readings tile
+  -- ---- closed reading tiles
 
-  abbrev Reached : Bool → ℕ → List Placed → Type 0
-  Reached growing p xs = p ≤ length s → (e : ℕ) × Tiled s p e xs × (e ≤ length s) × (stops growing (stepAt s e) ≡ true)
-
-  -- from a position to where the reading stops
-  pub tiled : (growing : Bool) (p : ℕ) → p ≤ length s → (e : ℕ) × Tiled s p e (steps growing s p) × (e ≤ length s) × (stops growing (stepAt s e) ≡ true)
-  tiled growing = by-steps growing s (Reached growing) stop go
+  -- from a position to the end, if so from where its step ends
+  turn : (p : ℕ) → p ≤ length s → (p < ends s p → ends s p ≤ length s → Tiled s (ends s p) (length s) (steps false s (ends s p))) → Tiled s p (length s) (steps false s p)
+  turn p h rest = by (stops false (stepAt s p)) refl
     where
-      stop : (p : ℕ) → stops growing (stepAt s p) ≡ true → Reached growing p []
-      stop p e h = (p, done, h, e)
+      by : (t : Bool) → stops false (stepAt s p) ≡ t → Tiled s p (length s) (steps false s p)
+      by true e =
+          let end : p ≡ length s = omega (arith, at-end s p e) in
+          subst⁻¹ (Tiled s p (length s)) (steps-stop false s p e) (subst (λ (e : ℕ). Tiled s p e []) end done)
+      by false e =
+          let on = goes-on false s p e in
+          subst⁻¹ (Tiled s p (length s)) (steps-go false s p e) (then (omega (arith, on)) (rest (on .0) (on .1)))
 
-      go : (p : ℕ) → stops growing (stepAt s p) ≡ false → p < ends s p → ends s p ≤ length s → Reached growing (ends s p) (steps growing s (ends s p)) → Reached growing p (placed s p ∷ steps growing s (ends s p))
-      go p e l r rest h =
-          let on = rest r in
-          let further : p < on .0 = omega (arith, tiled-le (on .1)) in
-          (on .0, then further (on .1), on .2, on .3)
+  -- where no more than n bytes are left
+  tiled : (n p : ℕ) → p ≤ length s → length s ≤ p + n → Tiled s p (length s) (steps false s p)
+  tiled zero p h l = turn p h (λ further within. absurd (omega arith))
+  tiled (suc n) p h l = turn p h (λ further within. tiled n (ends s p) within (omega arith))
 
   pub closed-tiled : Tiled s 0 (length s) (closedSteps s)
-  closed-tiled =
-      let all = tiled false 0 (omega arith) in
-      let end : all .0 ≡ length s = omega (arith, at-end s (all .0) (all .3), all .2) in
-      rw end at (all .1)
-
-  pub open-tiled : (e : ℕ) × Tiled s 0 e (openSteps s) × (e ≤ length s) × (stops true (stepAt s e) ≡ true)
-  open-tiled = tiled true 0 (omega arith)
+  closed-tiled = tiled (length s) 0 (omega arith) (omega arith)
 
   -- ---- no other steps tile the capture
 
@@ -118,22 +109,14 @@ module _ (s : List ℕ) where
   opens Bad = refl
   opens (Found f) = refl
 
-  abbrev Same : ℕ → List Placed → Type 0
-  Same p xs = steps true s p ≡ beforeShort xs
-
-  open-steps : (p : ℕ) → steps true s p ≡ beforeShort (steps false s p)
+  open-to : {p e : ℕ} {xs : List Placed} → Tiled s p e xs → e ≡ length s → steps true s p ≡ beforeShort xs
   unfolding beforeShort
-  open-steps = by-steps false s Same stop go
+  open-to (done {p = p}) q = steps-stop true s p (past-end s p true (omega arith))
+  open-to (then {p = p} {xs = xs} l t) q = by (isShort (stepAt s p)) refl (goes-before-end p (omega arith)) (open-to t q)
     where
-      stop : (p : ℕ) → stops false (stepAt s p) ≡ true → Same p []
-      stop p e = steps-stop true s p (opens (stepAt s p) ∙ rw e)
-
-      go : (p : ℕ) → stops false (stepAt s p) ≡ false → p < ends s p → ends s p ≤ length s → Same (ends s p) (steps false s (ends s p)) → Same p (placed s p ∷ steps false s (ends s p))
-      go p e l r rest = by (isShort (stepAt s p)) refl
-        where
-          by : (t : Bool) → isShort (stepAt s p) ≡ t → Same p (placed s p ∷ steps false s (ends s p))
-          by true h = steps-stop true s p (opens (stepAt s p) ∙ rw (e, h)) ∙ rw h
-          by false h = steps-go true s p (opens (stepAt s p) ∙ rw (e, h)) ∙ rw (h, rest)
+      by : (t : Bool) → isShort (stepAt s p) ≡ t → stops false (stepAt s p) ≡ false → steps true s (ends s p) ≡ beforeShort xs → steps true s p ≡ beforeShort (placed s p ∷ xs)
+      by true h e rest = steps-stop true s p (opens (stepAt s p) ∙ rw (e, h)) ∙ rw h
+      by false h e rest = steps-go true s p (opens (stepAt s p) ∙ rw (e, h)) ∙ rw (h, rest)
 
   pub open-closed : openSteps s ≡ beforeShort (closedSteps s)
-  open-closed = open-steps 0
+  open-closed = open-to closed-tiled refl

@@ -6,17 +6,17 @@ use mathlib.Core.List.{List, [], _∷_}
 use Prim.Native.Nat.{ℕ, _^_, _<_}
 use native.Mathlib.Omega.{arith}
 use lib.ListN.{length}
-use Rattle.frames.specs.Reading.{steps, closedSteps, framesOf, countsOf}
-use Rattle.frames.specs.Cursors.{begun, countsIn, nextOf, after, Honest, Told}
+use Rattle.frames.specs.Reading.{closedSteps, framesOf, countsOf}
+use Rattle.frames.specs.Cursors.{begun, countsIn, nextOf, remaining}
 use Rattle.frames.specs.declared.step.Frame.{Frame}
 use Rattle.frames.specs.declared.cursor.Cursor.{Cursor}
 use Rattle.frames.specs.declared.cursor.Next as Next
-use Rattle.frames.proofs.Cursors.{honest-begun}
-use Rattle.frames.proofs.Answers.{told, honest-next, honest-end}
+use Rattle.frames.proofs.Cursors.{Honest, honest-begun}
+use Rattle.frames.proofs.Answers.{said, honest-end}
 
--- the frames that a cursor has left
+-- the frames that a cursor of a closed reading has left
 abbrev pub left : List ℕ → Cursor → List Frame
-left s c = framesOf (steps false s (c .at))
+left s c = remaining false s c
 
 -- an honest cursor, and R of the frames that it has left
 pub record Walking (s : List ℕ) (R : List Frame → Type 0) (c : Cursor) : Type 0 where
@@ -28,29 +28,26 @@ module _ (s : List ℕ) (small : length s < 2 ^ 64) where
   walking-begun R r e = subst (Walking s R) (sym e) (record { honest = honest-begun s small false; rest = r })
 
   module _ {c : Cursor} (honest : Honest false s c) where
-    said : {n : Next.Next} → nextOf s c ≡ n → Told false s (left s c) n
-    said e = subst (Told false s (left s c)) e (told s small false c (honest .mode) (honest .inside))
-
     -- a frame is the first of those left
-    pub left-frame : {f : Frame} {d : Cursor} → nextOf s c ≡ Next.the-variants.Frame f d → left s c ≡ f ∷ left s d
-    left-frame e = said e
+    left-frame : {f : Frame} {d : Cursor} → nextOf s c ≡ Next.the-variants.Frame f d → left s c ≡ f ∷ left s d
+    left-frame e = said s small false honest e .0
 
     pub left-fewer : {f : Frame} {d : Cursor} → nextOf s c ≡ Next.the-variants.Frame f d → length (left s d) < length (left s c)
-    left-fewer e = omega (arith, ap length (said e))
+    left-fewer e = omega (arith, ap length (left-frame e))
 
-    pub left-honest : {f : Frame} {d : Cursor} → nextOf s c ≡ Next.the-variants.Frame f d → Honest false s d
-    left-honest e = subst (λ (n : Next.Next). Honest false s (after n)) e (honest-next s small false c honest)
+    left-honest : {f : Frame} {d : Cursor} → nextOf s c ≡ Next.the-variants.Frame f d → Honest false s d
+    left-honest e = said s small false honest e .1
 
     -- at the end there are none, and the counts are those of the whole reading
     pub left-none : {d : Cursor} → nextOf s c ≡ Next.the-variants.End d → left s c ≡ []
-    left-none e = said e .0
+    left-none e = said s small false honest e .0 .0
 
     pub end-counts : {d : Cursor} → nextOf s c ≡ Next.the-variants.End d → countsIn d ≡ countsOf (closedSteps s)
     end-counts e = honest-end s small false honest e
 
     -- a closed reading needs nothing
     pub never-needs : {n : ℕ} {d : Cursor} → nextOf s c ≡ Next.the-variants.Needs n d → ⊥
-    never-needs e = false≢true (said e .2)
+    never-needs e = false≢true (said s small false honest e .0 .2)
 
   -- from what holds of the frames left before a frame to what holds after it
   pub walking-on : {R : List Frame → Type 0} {Q : List Frame → Type 0} {c d : Cursor} {f : Frame} → Walking s R c → nextOf s c ≡ Next.the-variants.Frame f d

@@ -42,7 +42,7 @@ sets-seam a b vs n e h =
     ∙ ap₂ (λ (x y : List ℕ). x ++ vs ++ y) (take-append-seam a b) (drop-append-add a b (length vs))
 
 -- the n payload bytes that stand in a buffer at 6
-pub length-payload : (n : ℕ) (buf : List ℕ) → n + 8 ≤ length buf → length (take n (drop 6 buf)) ≡ n
+length-payload : (n : ℕ) (buf : List ℕ) → n + 8 ≤ length buf → length (take n (drop 6 buf)) ≡ n
 length-payload n buf room = length-take-le n (drop 6 buf) (rw length-drop (omega arith))
 
 payload-split : (n : ℕ) (buf : List ℕ) → drop 6 buf ≡ take n (drop 6 buf) ++ drop (n + 6) buf
@@ -66,7 +66,7 @@ module _ (kind sender n : ℕ) (buf : List ℕ) where
         (length-covered kind sender (take n (drop 6 buf)) ∙ omega (arith, length-payload n buf room))
 
     -- and goes after the payload
-    pub sealing : storedAt 2 (crcFrom 0 (take (n + 6 - 1) (drop 1 (headed kind sender n buf)))) (headed kind sender n buf) (n + 6)
+    sealing : storedAt 2 (crcFrom 0 (take (n + 6 - 1) (drop 1 (headed kind sender n buf)))) (headed kind sender n buf) (n + 6)
         ≡ frameBytes kind sender (take n (drop 6 buf)) ++ drop (n + 8) buf
     unfolding frameBytes
     sealing =
@@ -81,7 +81,7 @@ module _ (kind sender n : ℕ) (buf : List ℕ) where
         (drop-on (length (bytesOf 2 sum)) (n + 6) (n + 8) buf (rw length-bytesOf (omega arith)))
 
   -- what the writer leaves, where the frame fits and where not
-  pub sealed-fits : n ≤ 255 → n + 8 ≤ length buf → sealed kind sender n buf ≡ frameBytes kind sender (take n (drop 6 buf)) ++ drop (n + 8) buf
+  sealed-fits : n ≤ 255 → n + 8 ≤ length buf → sealed kind sender n buf ≡ frameBytes kind sender (take n (drop 6 buf)) ++ drop (n + 8) buf
   unfolding sealed
   sealed-fits h room = rw (fitting-true n (length buf) h room)
 
@@ -111,7 +111,7 @@ module _ (kind sender : ℕ) (payload buf : List ℕ) where
   framed-unfit r = rw (unfit (length payload) (length buf) r)
 
   -- a payload stored at 6 and sealed is the frame
-  pub sealed-framed : length payload ≤ 255 → length payload + 8 ≤ length buf → sealed kind sender (length payload) (sets buf 6 payload) ≡ framed kind sender payload buf
+  sealed-framed : length payload ≤ 255 → length payload + 8 ≤ length buf → sealed kind sender (length payload) (sets buf 6 payload) ≡ framed kind sender payload buf
   sealed-framed h room =
       let n = length payload in
       let six : length (take 6 buf) ≡ 6 = length-take-le 6 buf (omega arith) in

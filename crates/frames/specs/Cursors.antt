@@ -1,11 +1,11 @@
--- What a cursor answers, and what that has to do with the whole reading. Assumes nothing.
-use Prim.Native.Nat.{ℕ, _+_, _%_, _^_, _≤_}
+-- What a cursor answers, and what that tells of the whole reading. Assumes nothing.
+use Prim.Native.Nat.{ℕ, _+_, _%_, _^_}
 use mathlib.Core.Path.{_≡_}
 use mathlib.Core.Bool.{Bool, true, false, not, cond}
 use mathlib.Core.List.{List, [], _∷_, _++_}
 use lib.ListN.{length}
 use Rattle.frames.specs.Step.{stepAt, passed}
-use Rattle.frames.specs.Reading.{Placed, readFrom, steps, framesOf, counted, added, countsOf, sumOf}
+use Rattle.frames.specs.Reading.{Placed, readFrom, steps, framesOf, counted}
 use Rattle.frames.specs.declared.step.Frame.{Frame}
 use Rattle.frames.specs.declared.step.Step.{Step}
 use Rattle.frames.specs.declared.step.Step.the-variants.{Finished, Junk, Short, Bad, Found}
@@ -63,18 +63,15 @@ after (Next.the-variants.Frame f c) = c
 after (Next.the-variants.End c) = c
 after (Next.the-variants.Needs n c) = c
 
--- ---- what a cursor has to do with the whole reading
+-- ---- what that tells of the whole reading
 
--- it stands in the capture, its counts are those of the bytes behind it, and with those of the steps left they make the reading's
-pub record Honest (growing : Bool) (s : List ℕ) (c : Cursor) : Type 0 where
-  pub mode : c .growing ≡ growing
-  pub inside : c .at ≤ length s
-  pub every : sumOf (countsIn c) ≡ c .at
-  pub whole : added (countsIn c) (countsOf (steps growing s (c .at))) ≡ countsOf (steps growing s 0)
+-- the frames that a cursor has left
+abbrev pub remaining : Bool → List ℕ → Cursor → List Frame
+remaining growing s c = framesOf (steps growing s (c .at))
 
 -- what an answer tells, where fs are the frames that were left: the first of them and a cursor from which the others are left, or that there are none
 abbrev pub Told : Bool → List ℕ → List Frame → Next.Next → Type 0
-Told growing s fs (Next.the-variants.Frame f c) = fs ≡ f ∷ framesOf (steps growing s (c .at))
+Told growing s fs (Next.the-variants.Frame f c) = fs ≡ f ∷ remaining growing s c
 Told growing s fs (Next.the-variants.End c) = (fs ≡ []) × (c .at ≡ length s)
 Told growing s fs (Next.the-variants.Needs n c) = (fs ≡ []) × (stepAt s (c .at) ≡ Short n) × (growing ≡ true)
 

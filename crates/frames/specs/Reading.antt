@@ -61,7 +61,6 @@ unfoldable pub holding : ℕ → List Placed → ℕ
 holding i [] = 0
 holding i (x ∷ xs) = cond (holds i x) 1 0 + holding i xs
 
--- the steps before the first short
 abbrev pub isShort : Step → Bool
 isShort Finished = false
 isShort Junk = false
@@ -69,6 +68,7 @@ isShort (Short n) = true
 isShort Bad = false
 isShort (Found f) = false
 
+-- the steps before the first short
 unfoldable pub beforeShort : List Placed → List Placed
 beforeShort [] = []
 beforeShort (x ∷ xs) = cond (isShort (x .step)) [] (x ∷ beforeShort xs)

@@ -60,7 +60,7 @@ fn tally(framed: usize, junk: usize, bad: usize, short: usize) -> Counts
     }
 }
 
-// What a step counts: those bytes, under its kind.
+// What a step counts: the bytes that it passes, under its kind.
 fn counted(step: Step) -> Counts
     ensures { λ r. ⌜ r ≡ counted step ⌝ }
 {

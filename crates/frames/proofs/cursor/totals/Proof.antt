@@ -6,8 +6,7 @@ use Prim.Native.Nat.{_-_}
 use native.Mathlib.Omega.{arith}
 use borrow.Author.Needs.{needs}
 use lib.ListN.{length}
-use Rattle.frames.specs.Cursors.{Honest}
-use Rattle.frames.proofs.Cursors.{comes-further, honest-begun, honest-past, honest-given}
+use Rattle.frames.proofs.Cursors.{Honest, comes-further, honest-begun, honest-past, honest-given}
 use Rattle.frames.proofs.Runs.{past-junk-honest, past-junk-further}
 use Rattle.frames.proofs.cursor.totals.Statement.{statement}
 use Rattle.frames.proofs.cursor.totals.Tie as tie
