@@ -14,7 +14,7 @@ enum {
     SBP_LIST_MAX = 4 * SBP_INPUT_MAX + 64
 };
 
-/* Bytes passed over, by reason. */
+/* The bytes in frames, and those passed over by reason. */
 struct sbp_counts {
     size_t frame_bytes;
     size_t junk;

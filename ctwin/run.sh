@@ -19,7 +19,8 @@ differ=0
 at=$seed
 while [ "$at" -lt $((seed + count)) ]; do
     # One capture, without its length of four bytes.
-    "$bin/twingen" "$at" 1 | tail -c +5 >"$work/capture"
+    "$bin/twingen" "$at" 1 >"$work/generated"
+    tail -c +5 "$work/generated" >"$work/capture"
     "$bin/twinlist" <"$work/capture" >"$work/rust"
     "$work/clist" <"$work/capture" >"$work/c"
     if cmp -s "$work/rust" "$work/c"; then

@@ -19,14 +19,15 @@ baselineEcef = record {
   make-row = λ r. refl;
 }
 
+-- record and row as above
 abbrev pub velEcef : Message EcefVector
 velEcef = record {
   kind = 0x0204;
   fields = any u32 ∷ any s32 ∷ any s32 ∷ any s32 ∷ any u16 ∷ any u8 ∷ any u8 ∷ [];
-  row = λ r. (r .tow, (r .x, (r .y, (r .z, (r .accuracy, (r .«n_sats», (r .flags, tt)))))));
-  make = λ v. record { tow = v .0; x = v .1 .0; y = v .1 .1 .0; z = v .1 .1 .1 .0; accuracy = v .1 .1 .1 .1 .0; «n_sats» = v .1 .1 .1 .1 .1 .0; flags = v .1 .1 .1 .1 .1 .1 .0 };
-  row-make = λ v. refl;
-  make-row = λ r. refl;
+  row = baselineEcef .row;
+  make = baselineEcef .make;
+  row-make = baselineEcef .row-make;
+  make-row = baselineEcef .make-row;
 }
 
 abbrev pub answerOf : EcefVectorRead → Answer EcefVector

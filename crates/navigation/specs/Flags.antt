@@ -1,5 +1,5 @@
--- What the flags of a position, a baseline and the heading mean (003, tables 6.2.4 to 6.2.25). Each message has its own table.
--- Assumes nothing.
+-- What the flags of a position, a baseline and the heading mean (003, section 6.2, Status flags). The fix modes of the two positions differ;
+-- those of the baselines and the heading are alike. Assumes nothing.
 use Prim.Native.Nat.{ℕ, _%_}
 use mathlib.Core.Bool.{Bool, cond}
 use lib.Dec.{eqb}

@@ -19,14 +19,15 @@ baselineNed = record {
   make-row = λ r. refl;
 }
 
+-- record and row as above
 abbrev pub velNed : Message NedVector
 velNed = record {
   kind = 0x0205;
   fields = any u32 ∷ any s32 ∷ any s32 ∷ any s32 ∷ any u16 ∷ any u16 ∷ any u8 ∷ any u8 ∷ [];
-  row = λ r. (r .tow, (r .n, (r .e, (r .d, (r .«h_accuracy», (r .«v_accuracy», (r .«n_sats», (r .flags, tt))))))));
-  make = λ v. record { tow = v .0; n = v .1 .0; e = v .1 .1 .0; d = v .1 .1 .1 .0; «h_accuracy» = v .1 .1 .1 .1 .0; «v_accuracy» = v .1 .1 .1 .1 .1 .0; «n_sats» = v .1 .1 .1 .1 .1 .1 .0; flags = v .1 .1 .1 .1 .1 .1 .1 .0 };
-  row-make = λ v. refl;
-  make-row = λ r. refl;
+  row = baselineNed .row;
+  make = baselineNed .make;
+  row-make = baselineNed .row-make;
+  make-row = baselineNed .make-row;
 }
 
 abbrev pub answerOf : NedVectorRead → Answer NedVector

@@ -1,4 +1,4 @@
-// What the flags of a position, a baseline and the heading mean. Each message has its own table of fix modes.
+// What the flags of a position, a baseline and the heading mean. The fix modes of the two positions differ.
 ghost use mathlib.Core.Path.{_≡_};
 ghost use Rattle.navigation.specs.Flags.{chosen, ecefFix, llhFix, baselineFix, raimAvailable, raimRepaired, llhAboveSea, llhRaimAvailable, llhRaimRepaired};
 

@@ -1,13 +1,13 @@
 -- A type's payloads read as its typed reader reads them: the number under which a message is written finds its own line of the table,
 -- whose length and ranges are the message's. Assumes nothing.
 use mathlib.Core.Path.{_≡_, refl, _∙_}
-use mathlib.Core.Bool.{Bool, true, false, _&&_, cond}
+use mathlib.Core.Bool.{Bool, true, false, _&&_, cond, and-true}
 use mathlib.Core.List.{List}
 use Prim.Native.Nat.{ℕ}
 use lib.Dec.{eqb}
 use lib.ListN.{length}
 use Rattle.wire.specs.Field.{Row, size, decode, allowedRow}
-use Rattle.wire.specs.Message.{Answer, given, refused, readAs}
+use Rattle.wire.specs.Message.{given, refused, readAs}
 use Rattle.wire.specs.Message as wire
 use Rattle.navigation.specs.Dops.{dops}
 use Rattle.navigation.specs.Ecef.{baselineEcef, velEcef}
@@ -26,15 +26,10 @@ use Rattle.system.specs.Heartbeat.{heartbeat}
 use Rattle.system.specs.Log.{logKind, logLength, logIn, readLog}
 use Rattle.system.specs.ReadByIndexReq.{readByIndexReq}
 use Rattle.system.specs.Startup.{startup}
-use Rattle.payloads.specs.Table.{named, line, exactly, inside, any, readLine, lookUp, numberOf}
+use Rattle.payloads.specs.Table.{named, line, exactly, inside, any, readLine, lookUp}
 use Rattle.payloads.specs.declared.Message.{Message}
 use Rattle.payloads.specs.declared.Message.the-variants as M
 use Rattle.payloads.proofs.Lines.{Typed}
-
--- a message's name changes no answer
-pub named-number : {R : Type 0} (name : R → Message) (a : Answer R) → numberOf (named name a) ≡ numberOf a
-named-number name (given r) = refl
-named-number name (refused n) = refl
 
 -- two tests, and the name inside or outside of them
 behind : {R : Type 0} (name : R → Message) (r : R) (t u : Bool) → cond t (cond u (given (name r)) (refused 23)) (refused 22) ≡ named name (cond t (cond u (given r) (refused 23)) (refused 22))
@@ -42,18 +37,13 @@ behind name r false u = refl
 behind name r true false = refl
 behind name r true true = refl
 
--- the last of some tests
-last : (t : Bool) → t && true ≡ t
-last true = refl
-last false = refl
-
 module _ {R : Type 0} (m : wire.Message R) (name : R → Message) (ranges : R → Bool) where
   -- a line with the message's type, length and ranges reads as the message's reader
   by-line : ((v : Row (m .fields)) → allowedRow (m .fields) v ≡ ranges (m .make v) && true) → (s : List ℕ)
       → readLine (line (m .kind) (exactly (size (m .fields))) (inside m) ranges name) s ≡ named name (readAs m s)
   unfolding readLine wire.judged readAs
   by-line same s =
-      rw (same (decode (m .fields) s 0) ∙ last (ranges (inside m s)))
+      rw (same (decode (m .fields) s 0) ∙ and-true (ranges (inside m s)))
       (behind name (inside m s) (eqb (length s) (size (m .fields))) (ranges (inside m s)))
 
 pub gps-time : Typed (gpsTime .kind) (λ r. M.GpsTime r) (readAs gpsTime)

@@ -1,5 +1,5 @@
--- A type's line of the table is found, and a type with no line is 21. And what a typed reader answered, under the message's name.
--- Assumes nothing.
+-- What the proofs of the readings cite: a typed reader's answer under its message's name, a reading at the type that was met, and 21 where
+-- no line of the table has the type. Assumes nothing.
 use mathlib.Core.Path.{_≡_, refl, sym, ap, _∙_}
 use mathlib.Core.List.{List, [], _∷_}
 use Prim.Native.Nat.{ℕ}
@@ -12,6 +12,7 @@ use Rattle.payloads.specs.declared.Message.{Message}
 pub as-met : {R E : Type 0} (answer : E → Answer R) {e x : E} {a : Answer R} → answer e ≡ a → e ≡ x → answer x ≡ a
 as-met answer p q = sym (ap answer q) ∙ p
 
+-- the same, under the message's name
 pub under-name : {R E : Type 0} (name : R → Message) (answer : E → Answer R) {e x : E} {a : Answer R} → answer e ≡ a → e ≡ x → named name (answer x) ≡ named name a
 under-name name answer p q = ap (named name) (as-met answer p q)
 
@@ -19,6 +20,7 @@ under-name name answer p q = ap (named name) (as-met answer p q)
 abbrev pub Typed : {R : Type 0} → ℕ → (R → Message) → (List ℕ → Answer R) → Type 0
 Typed kind name reads = (s : List ℕ) → readFor kind s ≡ named name (reads s)
 
+-- what a type's payloads are read as, at a type that was met as equal to it
 pub at-kind : (s : List ℕ) {k kind : ℕ} {a b : Answer Message} → readFor k s ≡ b → a ≡ b → kind ≡ k → a ≡ readFor kind s
 at-kind s typed p q = p ∙ sym typed ∙ sym (ap (λ (k : ℕ). readFor k s) q)
 

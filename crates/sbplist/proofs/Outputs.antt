@@ -18,7 +18,11 @@ use Rattle.listing.specs.Roster.{rosterIn}
 use Rattle.listing.specs.Listing.{textOf, listAnswer, listedAs, listed, output}
 use Rattle.listing.proofs.Sizes.{text-size}
 
--- what is put, and how long it is
+-- `R 11` and a line's end
+abbrev refusal : List ℕ
+refusal = 0x52 ∷ 0x20 ∷ 0x31 ∷ 0x31 ∷ 0x0a ∷ []
+
+-- n bytes were put at the start of the text, and they are the output
 abbrev pub Put : List ℕ → ℕ → List ℕ → Type 0
 Put s n text = (n ≡ length (output s)) × ((take n text ≡ output s) × (n ≤ length text))
 
@@ -54,9 +58,6 @@ module _ (s : List ℕ) where
           let fits = le-leb (length (textOf s)) room (omega (arith, most, short, h)) in
           absurd (never-both {x = length (textOf s)} (rw (e, fits)) r)
       by false e = leb-false (length s) 65536 e
-
-  abbrev pub refusal : List ℕ
-  refusal = 0x52 ∷ 0x20 ∷ 0x31 ∷ 0x31 ∷ 0x0a ∷ []
 
   pub puts-refusal : (buf : List ℕ) → Bytes s → {n : ℕ} {same : List ℕ} → 524320 ≤ length buf → listAnswer s (length buf) ≡ refused n → same ≡ listed s buf → Put s 5 (sets same 0 refusal)
   unfolding digitsOf line

@@ -1,26 +1,23 @@
--- LOG: its refusal exactly when its case holds, and both round trips. Assumes nothing.
+-- LOG: what its reader answers, and both round trips. Assumes nothing.
 use mathlib.Core.Path.{_≡_, refl, sym, ap, _∙_}
-use mathlib.Core.Bool.{Bool, true, false}
 use mathlib.Core.List.{List, [], _∷_}
-use mathlib.Core.Logic.{_↔_, _⊎_, inl, inr}
 use Prim.Native.Nat.{ℕ, suc, _-_, _≤_, _<_}
 use native.Mathlib.Nat.{le-of-suc-le-suc}
 use native.Mathlib.Omega.{arith}
-use lib.Dec.{leb, lit<}
+use lib.Dec.{lit<}
 use lib.ListN.{length, take, drop, length-drop}
 use lib.Seq.{sets, take-all}
-use borrow.Author.Tests.{le-leb, lt-leb, leb-true, leb-false}
+use borrow.Author.Tests.{le-leb, lt-leb}
 use Rattle.wire.specs.Number.{numberAt}
 use Rattle.wire.specs.Message.{given, refused}
 use Rattle.wire.proofs.Numbers.{number-byte}
-use Rattle.wire.proofs.Answers.{never-both}
 use Rattle.frames.specs.Step.{stepAt, payloadIn}
 use Rattle.frames.specs.Writer.{planned, framed}
 use Rattle.frames.specs.declared.step.Frame.{Frame}
 use Rattle.frames.specs.declared.step.Step.the-variants.{Found}
 use Rattle.frames.proofs.WrittenPlan.{fits}
 use Rattle.frames.proofs.WrittenRead.{framed-reads-back, framed-payload-back}
-use Rattle.system.specs.Log.{logKind, readLog, logPayload, textIn}
+use Rattle.system.specs.Log.{logKind, textIn, logIn, readLog, logPayload}
 
 pub log-empty : (s : List ℕ) → length s < 1 → readLog s ≡ refused 22
 unfolding readLog
@@ -30,7 +27,7 @@ pub log-long : (s : List ℕ) → 255 < length s → readLog s ≡ refused 22
 unfolding readLog
 log-long s h = rw (le-leb 1 (length s) (omega arith), lt-leb (length s) 255 h)
 
-pub log-given : (s : List ℕ) → 1 ≤ length s → length s ≤ 255 → readLog s ≡ given (record { level = numberAt 1 s 0; length = length s - 1 })
+pub log-given : (s : List ℕ) → 1 ≤ length s → length s ≤ 255 → readLog s ≡ given (logIn s)
 unfolding readLog
 log-given s l h = rw (le-leb 1 (length s) l, le-leb (length s) 255 h)
 
@@ -88,25 +85,3 @@ module _ (sender level : ℕ) (text buf : List ℕ) {n : ℕ} (s : sender < 6553
 
   pub text-back : textIn (payloadIn (framed logKind sender (logPayload level text) buf) logFrame) ≡ text
   text-back = ap textIn payload-back
-
--- 22 exactly when there is no byte, or more than 255
-pub exactly-22 : (s : List ℕ) → (readLog s ≡ refused 22) ↔ ((length s < 1) ⊎ (255 < length s))
-exactly-22 s = (only, either)
-  where
-    either : (length s < 1) ⊎ (255 < length s) → readLog s ≡ refused 22
-    either (inl h) = log-empty s h
-    either (inr h) = log-long s h
-
-    inside : readLog s ≡ refused 22 → 1 ≤ length s → length s ≤ 255 → ⊥
-    inside r l h = never-both (log-given s l h) r
-
-    upper : readLog s ≡ refused 22 → 1 ≤ length s → (t : Bool) → leb (length s) 255 ≡ t → (length s < 1) ⊎ (255 < length s)
-    upper r l true e = absurd (inside r l (leb-true (length s) 255 e))
-    upper r l false e = inr (leb-false (length s) 255 e)
-
-    lower : readLog s ≡ refused 22 → (t : Bool) → leb 1 (length s) ≡ t → (length s < 1) ⊎ (255 < length s)
-    lower r true e = upper r (leb-true 1 (length s) e) (leb (length s) 255) refl
-    lower r false e = inl (leb-false 1 (length s) e)
-
-    only : readLog s ≡ refused 22 → (length s < 1) ⊎ (255 < length s)
-    only r = lower r (leb 1 (length s)) refl

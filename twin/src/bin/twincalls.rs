@@ -49,6 +49,13 @@ fn lent(room: usize, front: &[u8]) -> Vec<u8> {
     buf
 }
 
+/// A reply: an answer, and the hash of what a lent buffer holds after it.
+fn told(number: u8, buf: &[u8]) -> Vec<u8> {
+    let mut reply = vec![number];
+    reply.extend(hash(buf).to_le_bytes());
+    reply
+}
+
 /// Rooms around the right one.
 fn room(rng: &mut Rng, right: usize) -> usize {
     match rng.below(6) {
@@ -85,21 +92,20 @@ impl Asked {
         }
     }
 
-    /// One call; whether the reply is the one expected.
-    fn call(&mut self, name: &str, request: &[u8], expected: &[u8]) -> bool {
-        let reply = self.reply(request, expected.len());
+    /// One call, whose reply is known.
+    fn call(&mut self, name: &str, request: &[u8], expected: &[u8]) {
         let number = if name == "crc" { 0 } else { expected[0] };
-        *self.counts.entry(format!("{name} {number}")).or_default() += 1;
-        let same = reply == expected;
-        if !same {
+        let reply = self.reply(name, number, request, expected.len());
+        if reply != expected {
             self.failed += 1;
             let hex: String = request.iter().map(|b| format!("{b:02x}")).collect();
             println!("{name}: {reply:x?} and not {expected:x?} for {hex}");
         }
-        same
     }
 
-    fn reply(&mut self, request: &[u8], size: usize) -> Vec<u8> {
+    /// The reply to a call, which is counted under the answer expected.
+    fn reply(&mut self, name: &str, number: u8, request: &[u8], size: usize) -> Vec<u8> {
+        *self.counts.entry(format!("{name} {number}")).or_default() += 1;
         let mut reply = vec![0; size];
         self.to.write_all(request).expect("it is asked");
         self.to.flush().expect("it is asked");
@@ -207,9 +213,7 @@ fn ask_next(asked: &mut Asked, rng: &mut Rng, bytes: &[u8]) {
         let (number, row) = next_from(bytes, at, growing);
         (number, lent(room, &row))
     };
-    let mut expected = vec![number];
-    expected.extend(hash(&buf).to_le_bytes());
-    asked.call("next", &with_bytes(request, bytes), &expected);
+    asked.call("next", &with_bytes(request, bytes), &told(number, &buf));
 }
 
 fn ask_totals(asked: &mut Asked, rng: &mut Rng, bytes: &[u8]) {
@@ -224,9 +228,7 @@ fn ask_totals(asked: &mut Asked, rng: &mut Rng, bytes: &[u8]) {
         let row: Vec<u8> = row.iter().flat_map(|&n| (n as u64).to_le_bytes()).collect();
         (0, lent(room, &row))
     };
-    let mut expected = vec![number];
-    expected.extend(hash(&buf).to_le_bytes());
-    asked.call("totals", &with_bytes(request, bytes), &expected);
+    asked.call("totals", &with_bytes(request, bytes), &told(number, &buf));
 }
 
 fn ask_list(asked: &mut Asked, rng: &mut Rng, bytes: &[u8]) {
@@ -242,8 +244,7 @@ fn ask_list(asked: &mut Asked, rng: &mut Rng, bytes: &[u8]) {
     } else {
         (0, lent(room, text.as_bytes()), text.len() as u64)
     };
-    let mut expected = vec![number];
-    expected.extend(hash(&buf).to_le_bytes());
+    let mut expected = told(number, &buf);
     expected.extend(size.to_le_bytes());
     asked.call("list", &with_bytes(request, bytes), &expected);
 }
@@ -277,11 +278,7 @@ fn ask_collator(asked: &mut Asked, rng: &mut Rng) -> u64 {
         Ok(_) => 0,
     };
     // What a state's bytes are is not the twin's to know: only that a refusal leaves them.
-    let reply = asked.reply(&request, 9);
-    *asked
-        .counts
-        .entry(format!("collator {number}"))
-        .or_default() += 1;
+    let reply = asked.reply("collator", number, &request, 9);
     let mut state = u64::from_le_bytes(reply[1..].try_into().expect("eight bytes"));
     if reply[0] != number || (number != 0 && state != hash(&lent(room, &[]))) {
         asked.failed += 1;
@@ -351,11 +348,10 @@ fn ask_collator(asked: &mut Asked, rng: &mut Rng) -> u64 {
                 }
             }
         };
-        let reply = asked.reply(&request, 17);
-        *asked.counts.entry(format!("feed {number}")).or_default() += 1;
+        let reply = asked.reply("feed", number, &request, 17);
         let after = u64::from_le_bytes(reply[1..9].try_into().expect("eight bytes"));
-        let kept = number > 1 && part == room && after != state;
-        if reply[0] != number || reply[9..] != hash(&lent(report, &front)).to_le_bytes() || kept {
+        let moved = number > 1 && part == room && after != state;
+        if reply[0] != number || reply[9..] != hash(&lent(report, &front)).to_le_bytes() || moved {
             asked.failed += 1;
             println!("feed: {reply:x?} and not {number} of {kind} {sender} {bytes:x?}");
         }

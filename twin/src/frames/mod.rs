@@ -7,13 +7,14 @@ mod write;
 
 pub use closed::{closed, Closed};
 pub use open::{open, Open};
-pub use step::{step, Frame, Step, PREAMBLE};
-pub use write::{write, DEFAULT_SENDER};
+use step::PREAMBLE;
+pub use step::{step, Frame, Step};
+pub use write::write;
 
 /// Header of 6 bytes and CRC of 2 around every payload.
-pub const AROUND: usize = 8;
+const AROUND: usize = 8;
 
-/// Bytes passed over, by reason.
+/// The bytes in frames, and those passed over by reason.
 #[derive(Clone, Copy, Debug, Default, PartialEq, Eq)]
 pub struct Counts {
     pub frame_bytes: usize,

@@ -3,7 +3,7 @@
 use super::AROUND;
 use crate::crc::crc;
 
-pub const PREAMBLE: u8 = 0x55;
+pub(super) const PREAMBLE: u8 = 0x55;
 
 /// Preamble, type, sender and length: what must be there to know N.
 const HEADER: usize = 6;

@@ -5,7 +5,7 @@ use crate::crc::crc;
 use crate::numbers::{No, BUFFER_TOO_SHORT, PAYLOAD_TOO_LONG};
 
 /// The sender 003 says clients use.
-pub const DEFAULT_SENDER: u16 = 0x42;
+const DEFAULT_SENDER: u16 = 0x42;
 
 /// Writes a frame at the start of `out` and gives its size. Refusals (31,
 /// then 32) come before the first byte is written.

@@ -9,6 +9,39 @@ use crate::messages::answer;
 use std::collections::BTreeMap;
 use std::fmt::Write;
 
+/// What the captures of a comparison have to reach.
+const WANTED: [&str; 29] = [
+    "step frame",
+    "step junk",
+    "step bad",
+    "step short, 6 needed",
+    "step short, N + 8 needed",
+    "open reading finished",
+    "open reading stopped",
+    "answer 00",
+    "answer 21",
+    "answer 22",
+    "answer 23",
+    "capture too long (11)",
+    "capture of length 0",
+    "capture of length 1",
+    "capture of length 65535",
+    "capture of length 65536",
+    "roster of 0",
+    "roster of 8",
+    "feed taken",
+    "feed epoch",
+    "feed refused 22",
+    "feed refused 43",
+    "feed refused 44",
+    "feed refused 45",
+    "feed refused 46",
+    "epoch of n 01",
+    "epoch of n 15",
+    "epoch of sender 0",
+    "epoch of sender 65535",
+];
+
 #[derive(Default)]
 pub struct Stats {
     /// Counts by name, in the order of the names.
@@ -20,12 +53,8 @@ impl Stats {
         *self.counts.entry(name.to_string()).or_default() += more;
     }
 
-    pub fn get(&self, name: &str) -> usize {
-        self.counts.get(name).copied().unwrap_or(0)
-    }
-
     /// Counts what one capture reaches.
-    pub fn take(&mut self, bytes: &[u8]) {
+    fn take(&mut self, bytes: &[u8]) {
         self.add("capture", 1);
         self.add("capture bytes", bytes.len());
         match bytes.len() {
@@ -91,6 +120,13 @@ impl Stats {
                 }
             }
         }
+    }
+
+    /// What is wanted and was not reached.
+    pub fn missing(&self) -> Vec<&'static str> {
+        let mut missing = WANTED.to_vec();
+        missing.retain(|&name| !self.counts.contains_key(name));
+        missing
     }
 
     /// One line for each count.

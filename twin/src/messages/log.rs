@@ -12,7 +12,7 @@ pub struct Log<'a> {
 
 impl<'a> Log<'a> {
     pub const TYPE: u16 = 0x0401;
-    pub const MAX_TEXT: usize = 254;
+    const MAX_TEXT: usize = 254;
 
     pub fn read(payload: &'a [u8]) -> Result<Log<'a>, No> {
         if payload.is_empty() || payload.len() > 255 {

@@ -24,7 +24,7 @@ pub use navigation::{
 };
 pub use obs::{
     observation, observation_count, read_obs_header, write_obs, ObsHeader, ObsReader, Observation,
-    MAX_OBSERVATIONS, OBS_TYPE,
+    OBS_TYPE,
 };
 pub use phase::{phase_from_parts, phase_to_parts, PHASE_MAX, PHASE_MIN};
 pub use settings::{SettingsReadByIndexDone, SettingsReadByIndexReq, SettingsSave};

@@ -5,7 +5,7 @@ use crate::frames;
 use crate::numbers::{No, LENGTH_WRONG, NO_SUCH_OBSERVATION, PAYLOAD_TOO_LONG};
 
 pub const OBS_TYPE: u16 = 0x0049;
-pub const MAX_OBSERVATIONS: usize = 15;
+const MAX_OBSERVATIONS: usize = 15;
 const HEADER: usize = 7;
 const EACH: usize = 16;
 

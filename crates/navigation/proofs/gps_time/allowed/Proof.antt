@@ -1,10 +1,9 @@
 -- `navigation::gps_time::allowed` meets its contract.
-use mathlib.Core.Path.{sym, ap, _∙_}
+use mathlib.Core.Path.{refl, sym, ap, _∙_}
 use mathlib.Core.Bool.{and-true}
 use borrow.Author.Needs.{needs}
 use mir.Syntax.{w32}
 use Rattle.wire.proofs.Signed.{came-back}
-use mathlib.Core.Path.{refl}
 use Rattle.navigation.specs.Range.{inNs}
 use Rattle.navigation.proofs.gps_time.allowed.Statement.{statement}
 use Rattle.navigation.proofs.gps_time.allowed.Tie as tie

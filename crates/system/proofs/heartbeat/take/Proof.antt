@@ -1,4 +1,4 @@
--- `system::heartbeat::take` meets its contract, field by field.
+-- `system::heartbeat::take` meets its contract, which is that of its one read.
 use borrow.Author.Needs.{needs}
 use Rattle.system.proofs.heartbeat.take.Statement.{statement}
 use Rattle.system.proofs.heartbeat.take.Tie as tie

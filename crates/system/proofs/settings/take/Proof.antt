@@ -1,4 +1,4 @@
--- `system::settings::take` meets its contract, field by field.
+-- `system::settings::take` meets its contract, which is that of its one read.
 use borrow.Author.Needs.{needs}
 use Rattle.system.proofs.settings.take.Statement.{statement}
 use Rattle.system.proofs.settings.take.Tie as tie

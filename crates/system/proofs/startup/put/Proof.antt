@@ -1,4 +1,4 @@
--- `system::startup::put` meets its contract: one store after the other.
+-- `system::startup::put` meets its contract, which is that of its one store.
 use borrow.Author.Needs.{needs}
 use Rattle.system.proofs.startup.put.Statement.{statement}
 use Rattle.system.proofs.startup.put.Tie as tie
@@ -10,9 +10,7 @@ same-length : tie.Need-same-length
 same-length c = search needs
 
 returns : tie.Need-returns
-returns c =
-    let k1 = c .before .before in
-    k1 .store-u32 .ensures
+returns c = c .before .before .store-u32 .ensures
 
 pub put-spec : {M : Type 1} → statement M
 put-spec = tie.close (tie.spec store-u32-requires same-length returns)

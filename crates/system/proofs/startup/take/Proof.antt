@@ -1,4 +1,4 @@
--- `system::startup::take` meets its contract, field by field.
+-- `system::startup::take` meets its contract, which is that of its one read.
 use borrow.Author.Needs.{needs}
 use Rattle.system.proofs.startup.take.Statement.{statement}
 use Rattle.system.proofs.startup.take.Tie as tie
