@@ -8,6 +8,7 @@ use Rattle.wire.specs.Message.{Answer, given, refused}
 use Rattle.frames.specs.Step.{payloadIn}
 use Rattle.frames.specs.Reading.{closedSteps, framesOf, countsOf}
 use Rattle.frames.specs.declared.step.Frame.{Frame}
+use Rattle.frames.specs.declared.cursor.Counts.{Counts}
 use Rattle.payloads.specs.Table.{answerFor}
 use Rattle.epochs.specs.Collator.{made}
 use Rattle.epochs.specs.Epoch.{fedItem, itemIn}
@@ -19,18 +20,22 @@ use Rattle.text.specs.Line.{line}
 use Rattle.listing.specs.Roster.{rosterIn}
 
 -- `F` offset type sender length payload-answer
+abbrev pub frameShown : Frame → ℕ → List ℕ
+frameShown f answer = line 0x46 (f .at ∷ f .kind ∷ f .sender ∷ f .length ∷ answer ∷ [])
+
 abbrev pub frameLine : List ℕ → Frame → List ℕ
-frameLine s f = line 0x46 (f .at ∷ f .kind ∷ f .sender ∷ f .length ∷ answerFor (f .kind) (payloadIn s f) ∷ [])
+frameLine s f = frameShown f (answerFor (f .kind) (payloadIn s f))
 
 -- `E` sender wn tow n observations
 abbrev pub epochLine : Report → List ℕ
 epochLine e = line 0x45 (e .sender ∷ e .wn ∷ e .tow ∷ e .n ∷ e .observations ∷ [])
 
 -- `T` length, frame bytes, junk, bad, short
+abbrev pub totalsShown : ℕ → Counts → List ℕ
+totalsShown n c = line 0x54 (n ∷ c .framed ∷ c .junk ∷ c .bad ∷ c .short ∷ [])
+
 abbrev pub totalsLine : List ℕ → List ℕ
-totalsLine s =
-    let c = countsOf (closedSteps s) in
-    line 0x54 (length s ∷ c .framed ∷ c .junk ∷ c .bad ∷ c .short ∷ [])
+totalsLine s = totalsShown (length s) (countsOf (closedSteps s))
 
 -- what stands after a frame's line: the epoch that it ends
 abbrev pub told : Happened → List ℕ
