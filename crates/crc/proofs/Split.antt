@@ -1,5 +1,5 @@
 -- What n single-bit steps make of a register: its low part, of which nothing falls out, moves up, and the rest goes by itself.
--- One law over n and the split, `split`: a table of 256 cites it at 8 and 8, one of 16 at 4 and 12. Assumes nothing.
+-- One law over n and the split, `split`; the table of 256 cites it at 8 and 8. Assumes nothing.
 use mathlib.Core.Path.{_≡_, refl, sym, ap, ap₂, _∙_}
 use Prim.Native.Nat.{ℕ, zero, suc, _+_, _*_, _/_, _%_, _^_, _≤_, _<_}
 use native.Mathlib.Nat.{zero-mul, mul-assoc, mul-comm, mul-one, pow-suc, lt-of-lt-of-le}
@@ -30,7 +30,7 @@ step-linear : (a b : ℕ) → bitStep (bitXor a b) ≡ bitXor (bitStep a) (bitSt
 unfolding bitStep
 step-linear a b = ap₂ bitXor (moved-linear a b) (out-linear _ a b) ∙ xor-swap (a * 2 % 65536) (b * 2 % 65536) _ _
 
-pub steps-linear : (n a b : ℕ) → bitSteps n (bitXor a b) ≡ bitXor (bitSteps n a) (bitSteps n b)
+steps-linear : (n a b : ℕ) → bitSteps n (bitXor a b) ≡ bitXor (bitSteps n a) (bitSteps n b)
 unfolding bitSteps
 steps-linear zero a b = refl
 steps-linear (suc n) a b = ap (bitSteps n) (step-linear a b) ∙ steps-linear n (bitStep a) (bitStep b)

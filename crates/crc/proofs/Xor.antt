@@ -36,7 +36,7 @@ lowest a b = xor-mod a b 1
 by-halves : {a b : ℕ} → a / 2 ≡ b / 2 → a % 2 ≡ b % 2 → a ≡ b
 by-halves h l = omega arith
 
-pub xor-assoc : (a b c : ℕ) → bitXor (bitXor a b) c ≡ bitXor a (bitXor b c)
+xor-assoc : (a b c : ℕ) → bitXor (bitXor a b) c ≡ bitXor a (bitXor b c)
 xor-assoc =
     bin-ind (λ (a : ℕ). (b c : ℕ) → bitXor (bitXor a b) c ≡ bitXor a (bitXor b c)) (λ b c. refl)
     (λ a ih b c. by-halves (simp half (ih (b / 2) (c / 2))) (simp lowest (bits-assoc (bit a) (bit b) (bit c))))

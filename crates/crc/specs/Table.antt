@@ -8,7 +8,7 @@ use lib.ListN.{getD}
 use Rattle.crc.specs.Crc.{bitSteps}
 
 -- f at 0, 1, .., n of them
-unfoldable pub listed : (ℕ → ℕ) → ℕ → List ℕ
+unfoldable pub listed : {A : Type 0} → (ℕ → A) → ℕ → List A
 listed f zero = []
 listed f (suc n) = f zero ∷ listed (λ k. f (suc k)) n
 

@@ -4,11 +4,10 @@ use mathlib.Core.List.{List, [], _∷_, _++_, append-assoc}
 use Prim.Native.Nat.{ℕ, suc, _+_, _*_, _%_, _^_, _≤_, _<_}
 use native.Mathlib.Omega.{arith}
 use lib.ListN.{length, getD, set, drop, length-append, drop-of-length-le}
-use lib.Seq.{sets, drop-cons}
-use borrow.Author.Tests.{lt-leb}
+use lib.Seq.{sets, drop-cons, length-sets}
 use Rattle.text.specs.Decimal.{decimal}
 use Rattle.text.specs.Line.{fields, line, laid}
-use Rattle.text.proofs.Pending.{Pending, pending-sets, laid-fits}
+use Rattle.text.proofs.Pending.{Pending, pending-sets, laid-fits, laid-unfit}
 
 pub length-fields : (n : ℕ) (ns : List ℕ) → length (fields (n ∷ ns)) ≡ length (decimal n) + 1 + length (fields ns)
 unfolding fields
@@ -26,7 +25,7 @@ line-stored letter ns buf at = refl
 abbrev pub left : List ℕ → ℕ → List ℕ
 left ns i = fields (drop i ns) ++ 10 ∷ []
 
-pub left-next : (ns : List ℕ) (i : ℕ) → i < length ns → left ns i ≡ (32 ∷ decimal (getD ns i 0)) ++ left ns (suc i)
+left-next : (ns : List ℕ) (i : ℕ) → i < length ns → left ns i ≡ (32 ∷ decimal (getD ns i 0)) ++ left ns (suc i)
 unfolding fields
 left-next ns i h =
     ap (λ (r : List ℕ). fields r ++ 10 ∷ []) (drop-cons ns i 0 h)
@@ -48,7 +47,9 @@ module _ {P : Type 0} {goal : List ℕ} {end : ℕ} {buf : List ℕ} {to : ℕ} 
   left-more {after} {next} h q e =
       let one : suc i ≡ i + 1 = omega arith in
       let more = subst (Pending P goal end buf to) (left-next ns i h) k in
-      subst (λ (j : ℕ). Pending P goal end after next (left ns j)) one (pending-sets (32 ∷ decimal (getD ns i 0)) (left ns (suc i)) more e (omega (arith, q)))
+      let piece : List ℕ = 32 ∷ decimal (getD ns i 0) in
+      subst (λ (j : ℕ). Pending P goal end after next (left ns j)) one
+      (pending-sets piece (left ns (suc i)) more (ap length e ∙ length-sets buf to piece) (λ p. e) (omega (arith, q)))
 
   -- the line's end has room, and is put
   pub last-room : length ns ≤ i → end ≤ length goal → to < length buf
@@ -93,8 +94,7 @@ module _ (letter : ℕ) (ns buf : List ℕ) (at : ℕ) {n end : ℕ} (size : n �
   ended = past ∙ ap (λ (k : ℕ). (at + k) % 2 ^ 64) long
 
   pub line-unfit : length buf < at + n → Put buf
-  unfolding laid
-  line-unfit h = (ended, rw (lt-leb (at + length (line letter ns)) (length buf) (omega (arith, h, long))))
+  line-unfit h = (ended, sym (laid-unfit buf at (line letter ns) (omega (arith, h, long))))
 
   pub line-fits : {after : List ℕ} → at + n ≤ length buf → after ≡ sets (set buf at letter) (at + 1) (fields ns ++ 10 ∷ []) → Put after
   line-fits h e =

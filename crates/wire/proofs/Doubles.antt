@@ -21,11 +21,8 @@ nan-is : isNan nan ≡ true
 unfolding isNan
 nan-is = refl
 
-pub no-nan : (x : Float) → isNan x ≡ false → T (not (isNan x))
-no-nan x e = rw e tt
-
-pub no-nan-pattern : (n : ℕ) → nanBits binary64 n ≡ false → T (not (nanBits binary64 n))
-no-nan-pattern n e = rw e tt
+pub fails : {t : Bool} → t ≡ false → T (not t)
+fails e = rw e tt
 
 -- the test x == x tells a NaN from a number
 pub equals-itself : (x : Float) → eq x x ≡ true → isNan x ≡ false
@@ -36,7 +33,7 @@ equals-itself (fin s m k) e = refl
 
 pub differs-from-self : (x : Float) → eq x x ≡ false → isNan x ≡ true
 unfolding ne
-differs-from-self x e = ap isNan (differs-from-itself x (rw e tt)) ∙ nan-is
+differs-from-self x e = ap isNan (differs-from-itself x (fails e)) ∙ nan-is
 
 pub of-nan : (n : ℕ) → nanBits binary64 n ≡ true → doubleOf n ≡ record { value = nan; nan = n }
 unfolding doubleOf
@@ -65,7 +62,7 @@ bits-doubleOf n h = go (nanBits binary64 n) refl
   where
     go : (t : Bool) → nanBits binary64 n ≡ t → doubleBits (doubleOf n) ≡ n
     go true e = ap doubleBits (of-nan n e) ∙ bits-of-nan (record { value = nan; nan = n }) nan-is e
-    go false e = ap doubleBits (of-number n e) ∙ bits-of-number (record { value = ofBits binary64 n; nan = 0 }) (sym (nanBits-is binary64 n) ∙ e) ∙ toBits-ofBits binary64 n h (no-nan (ofBits binary64 n) (sym (nanBits-is binary64 n) ∙ e))
+    go false e = ap doubleBits (of-number n e) ∙ bits-of-number (record { value = ofBits binary64 n; nan = 0 }) (sym (nanBits-is binary64 n) ∙ e) ∙ toBits-ofBits binary64 n h (fails (sym (nanBits-is binary64 n) ∙ e))
 
 -- every double has 64 bits
 pub doubleBits-lt : (d : Double) → T (fits binary64 (d .value)) → d .nan < 2 ^ 64 → doubleBits d < 2 ^ 64

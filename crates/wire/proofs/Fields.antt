@@ -28,25 +28,22 @@ places w64 = refl
 places w128 = refl
 
 -- a value's bits fit its bytes
-pub bits-lt : (k : Kind) (v : Value k) → Held k v → bitsOf k v < 256 ^ width k
+bits-lt : (k : Kind) (v : Value k) → Held k v → bitsOf k v < 256 ^ width k
 bits-lt (unsigned w) n h = rw (← places w) (h .fits)
 bits-lt (signed w) z h = rw (← places w) (ofZ-fits w z h .fits)
 bits-lt double d h = doubleBits-lt d (h .0) (h .1)
 
 -- bits that are read come back
-pub bits-value : (k : Kind) (n : ℕ) → n < 256 ^ width k → bitsOf k (valueOf k n) ≡ n
+bits-value : (k : Kind) (n : ℕ) → n < 256 ^ width k → bitsOf k (valueOf k n) ≡ n
 bits-value (unsigned w) n h = refl
 bits-value (signed w) n h = ofZ-toZ w n (record { fits = rw places h })
 bits-value double n h = bits-doubleOf n h
 
--- whole numbers are settled, and so is whatever is read
-pub unsigned-settled : (w : Width) (n : ℕ) → Settled (unsigned w) n
-unsigned-settled w n = refl
-
+-- whole numbers are settled, unsigned ones by computation, and so is whatever is read
 pub signed-settled : (w : Width) (z : ℤ) → SFits w z → Settled (signed w) z
 signed-settled w z h = toZ-ofZ w z h
 
-pub value-settled : (k : Kind) (n : ℕ) → n < 256 ^ width k → Settled k (valueOf k n)
+value-settled : (k : Kind) (n : ℕ) → n < 256 ^ width k → Settled k (valueOf k n)
 value-settled k n h = ap (valueOf k) (bits-value k n h)
 
 -- ---- rows

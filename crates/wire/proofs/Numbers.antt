@@ -6,11 +6,11 @@ use mathlib.Core.List.{List, [], _∷_, _++_, append-nil}
 use Prim.Native.Nat.{ℕ, zero, suc, _+_, _-_, _*_, _/_, _%_, _^_, _≤_, _<_}
 use native.Mathlib.Nat.{zero-add, add-zero, suc-add, add-suc, one-mul, mul-zero, pow-suc, pow-succ', mul-assoc, div-div-eq-div-mul, div-one, mod-eq-of-lt, not-suc-le-zero, le-of-suc-le-suc}
 use native.Mathlib.Omega.{arith}
-use lib.Dec.{leb, ltb, lit<}
+use lib.Dec.{leb, lit<}
 use lib.Arith.{mod-mul}
 use lib.ListN.{length, getD, take, drop, set, length-drop, drop-of-length-le}
 use lib.Seq.{sets, drop-drop, drop-cons, take-nil, take-all, getD-drop, set-out, length-sets}
-use borrow.Author.Tests.{le-leb, lt-leb, leb-true, leb-false, ltb-true, ltb-false}
+use borrow.Author.Tests.{le-leb, lt-leb, leb-true, leb-false}
 use Rattle.wire.specs.Number.{Bytes, little, bytesOf, numberAt, storedAt}
 
 -- ---- lists of bytes
@@ -81,7 +81,7 @@ unfolding bytesOf
 length-bytesOf zero n = refl
 length-bytesOf (suc w) n = ap suc (length-bytesOf w (n / 256))
 
-pub bytes-halves : (a b n : ℕ) → bytesOf (a + b) n ≡ bytesOf a n ++ bytesOf b (n / 256 ^ a)
+bytes-halves : (a b n : ℕ) → bytesOf (a + b) n ≡ bytesOf a n ++ bytesOf b (n / 256 ^ a)
 unfolding bytesOf
 bytes-halves zero b n = rw (zero-add, div-one)
 bytes-halves (suc a) b n =
@@ -89,7 +89,7 @@ bytes-halves (suc a) b n =
     rw suc-add (ap (λ (t : List ℕ). n % 256 ∷ t) (bytes-halves a b (n / 256) ∙ ap (λ (x : ℕ). bytesOf a (n / 256) ++ bytesOf b x) places))
 
 -- only the lowest w places of the number count
-pub bytes-mod : (w n : ℕ) → bytesOf w (n % 256 ^ w) ≡ bytesOf w n
+bytes-mod : (w n : ℕ) → bytesOf w (n % 256 ^ w) ≡ bytesOf w n
 unfolding bytesOf
 bytes-mod zero n = refl
 bytes-mod (suc w) n =
@@ -119,25 +119,22 @@ bytesOf-little (b ∷ s) h =
 
 -- ---- storing
 
-pub stored-past : (w n : ℕ) (s : List ℕ) (at : ℕ) → length s < at + w → storedAt w n s at ≡ s
+pub stored-nowhere : (w n : ℕ) (s : List ℕ) (at : ℕ) → leb (at + w) (length s) ≡ false → s ≡ storedAt w n s at
 unfolding storedAt
-stored-past w n s at h = rw (lt-leb (at + w) (length s) h)
+stored-nowhere w n s at e = rw e
 
 pub stored-sets : (w n : ℕ) (s : List ℕ) (at : ℕ) → at + w ≤ length s → storedAt w n s at ≡ sets s at (bytesOf w n)
 unfolding storedAt
 stored-sets w n s at h = rw (le-leb (at + w) (length s) h)
 
-pub stored-byte : (v : ℕ) (s : List ℕ) (at : ℕ) → v < 256 → at < length s → set s at v ≡ storedAt 1 v s at
-unfolding bytesOf
-stored-byte v s at b h = sym (stored-sets 1 v s at (omega arith) ∙ ap (set s at) (mod-eq-of-lt b))
-
 -- one byte stored, or nothing where there is no such place
 pub set-byte : (v : ℕ) (s : List ℕ) (at : ℕ) → v < 256 → storedAt 1 v s at ≡ set s at v
-set-byte v s at b = go (ltb at (length s)) refl
+unfolding bytesOf
+set-byte v s at b = go (leb (at + 1) (length s)) refl
   where
-    go : (t : Bool) → ltb at (length s) ≡ t → storedAt 1 v s at ≡ set s at v
-    go true e = sym (stored-byte v s at b (ltb-true at (length s) e))
-    go false e = let past : length s ≤ at = ltb-false at (length s) e in stored-past 1 v s at (omega arith) ∙ sym (set-out s at v past)
+    go : (t : Bool) → leb (at + 1) (length s) ≡ t → storedAt 1 v s at ≡ set s at v
+    go true e = stored-sets 1 v s at (leb-true (at + 1) (length s) e) ∙ ap (set s at) (mod-eq-of-lt b)
+    go false e = sym (stored-nowhere 1 v s at e) ∙ sym (set-out s at v (omega (arith, leb-false (at + 1) (length s) e)))
 
 pub length-stored : (w n : ℕ) (s : List ℕ) (at : ℕ) → length (storedAt w n s at) ≡ length s
 unfolding storedAt
@@ -153,7 +150,7 @@ sets-append s i [] ys = rw add-zero
 sets-append s i (x ∷ xs) ys = sets-append (set s i x) (suc i) xs ys ∙ rw (add-suc, suc-add)
 
 -- a run of stores in what stands from n on
-pub sets-part : (n : ℕ) (s : List ℕ) (i : ℕ) (vs : List ℕ) → n ≤ length s → take n s ++ sets (drop n s) i vs ≡ sets s (n + i) vs
+sets-part : (n : ℕ) (s : List ℕ) (i : ℕ) (vs : List ℕ) → n ≤ length s → take n s ++ sets (drop n s) i vs ≡ sets s (n + i) vs
 sets-part zero s i vs h = rw zero-add
 sets-part (suc n) [] i vs h = absurd (not-suc-le-zero h)
 sets-part (suc n) (x ∷ s) i vs h = ap (λ (t : List ℕ). x ∷ t) (sets-part n s i vs (le-of-suc-le-suc h)) ∙ rw suc-add (later x s (n + i) vs)
@@ -187,9 +184,6 @@ pub stored-halves : (a b n : ℕ) (s : List ℕ) (at : ℕ) {t u : List ℕ} →
     → t ≡ storedAt a (n % 256 ^ a) s at → u ≡ storedAt b (n / 256 ^ a) t (at + a) → u ≡ storedAt (a + b) n s at
 stored-halves a b n s at e p q =
     q ∙ ap (λ (t : List ℕ). storedAt b (n / 256 ^ a) t (at + a)) p ∙ halves-stored a b n s at (leb-true (at + (a + b)) (length s) e)
-
-pub stored-nowhere : (w n : ℕ) (s : List ℕ) (at : ℕ) → leb (at + w) (length s) ≡ false → s ≡ storedAt w n s at
-stored-nowhere w n s at e = sym (stored-past w n s at (leb-false (at + w) (length s) e))
 
 -- the test of room, made without a sum that could wrap
 pub room-left : (w at n : ℕ) → at ≤ n → leb w (n - at) ≡ leb (at + w) n

@@ -1,7 +1,7 @@
 -- Tests in order: a refusal is given exactly when its own test is the first to fail, once for every list of tests. Assumes nothing.
 use mathlib.Core.Path.{_≡_, refl, sym, ap, _∙_}
 use mathlib.Core.Bool.{Bool, true, false, cond}
-use mathlib.Core.List.{List, [], _∷_}
+use mathlib.Core.List.{[], _∷_}
 use mathlib.Core.Logic.{_↔_, inl, inr}
 use Prim.Native.Nat.{ℕ}
 use Rattle.wire.specs.Message.{given, refused}

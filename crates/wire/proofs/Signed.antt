@@ -23,6 +23,9 @@ negative w z = ltZ (toZ w (ofZ w z)) (pos 0)
 abbrev pub turned : Width → ℕ → ℕ
 turned w n = 2 ^ bits w - 1 - n
 
+pub turned-twice : (w : Width) (n : ℕ) → Fits w n → turned w (turned w n) ≡ n
+turned-twice w n f = sub-sub-self (le-ones (bits w) (f .fits))
+
 -- where bits stand for the same number unsigned, the cast to the unsigned type keeps them
 pub kept : (w : Width) (n : ℕ) → toZ w n ≡ pos n → Fits w n → T (nonNeg (toZ w n)) × Fits w (natAbs (toZ w n))
 kept w n e f = rw e (tt, f)
@@ -46,11 +49,7 @@ over w (negsuc n) f e =
 
 -- turned over, cast and turned over again
 pub over-twice : (w : Width) (z : ℤ) → SFits w z → negative w z ≡ true → turned w (natAbs (toZ w (turned w (ofZ w z)))) ≡ ofZ w z
-over-twice w z f e = ap (λ (x : ℤ). turned w (natAbs x)) (over w z f e) ∙ sub-sub-self (le-ones (bits w) (ofZ-fits w z f .fits))
-
--- a signed result made of bits that were read
-pub made-of : (w : Width) (z : ℤ) {m n : ℕ} → SFits w z → z ≡ toZ w m → m ≡ n → toZ w (ofZ w z) ≡ toZ w n
-made-of w z f p q = toZ-ofZ w z f ∙ p ∙ ap (toZ w) q
+over-twice w z f e = ap (λ (x : ℤ). turned w (natAbs x)) (over w z f e) ∙ turned-twice w (ofZ w z) (ofZ-fits w z f)
 
 -- a cast to a wider signed type
 pub widened : (w v : Width) (z : ℤ) → hbits w ≤ hbits v → SFits w z → SFits v (toZ w (ofZ w z))

@@ -41,7 +41,7 @@ pub fn read_u64(s: &[u8], at: usize) -> u64
     (read_u32(s, at) as u64) + 0x1_0000_0000 * (read_u32(s, at + 4) as u64)
 }
 
-// Two's complement: from the half on, a number stands for the negative one whose bits are its own turned over.
+// Two's complement: from the half on, bits stand for the number that they are once turned over, turned over again.
 fn signed_16(n: u16) -> i16
     ensures { λ r. ⌜ r ≡ toZ w16 n ⌝ }
 {

@@ -1,11 +1,9 @@
 -- `wire::read::signed_32` meets its contract: bits turned over twice are the bits.
 use mathlib.Core.Path.{ap}
-use Prim.Native.Nat.{_≤_}
-use native.Mathlib.Omega.{arith}
 use borrow.Author.Needs.{needs}
-use lib.Arith.{sub-sub-self}
 use mir.Syntax.{w32}
 use mir.Val.{toZ}
+use Rattle.wire.proofs.Signed.{turned-twice}
 use Rattle.wire.proofs.read.signed_32.Statement.{statement}
 use Rattle.wire.proofs.read.signed_32.Tie as tie
 
@@ -19,7 +17,7 @@ returns : tie.Need-returns
 returns c = search needs
 
 returns-2 : tie.Need-returns-2
-returns-2 c = let fits : c .before .args .n ≤ 4294967295 = omega arith in ap (toZ w32) (sub-sub-self fits)
+returns-2 c = ap (toZ w32) (turned-twice w32 (c .before .args .n) (c .before .fits .n))
 
 pub signed-32-spec : {M : Type 1} → statement M
 signed-32-spec = tie.close (tie.spec cast-result cast-result-2 returns returns-2)

@@ -1,12 +1,12 @@
 -- `wire::double::Double::bits` meets its contract, by cases on the value and on the pattern beside it.
 use mathlib.Core.Path.{sym, _∙_}
 use borrow.Author.Needs.{needs}
-use Rattle.wire.proofs.Doubles.{equals-itself, differs-from-self, no-nan, bits-of-number, bits-of-nan, bits-of-other-nan}
+use Rattle.wire.proofs.Doubles.{equals-itself, differs-from-self, fails, bits-of-number, bits-of-nan, bits-of-other-nan}
 use Rattle.wire.proofs.double.Double.bits.Statement.{statement}
 use Rattle.wire.proofs.double.Double.bits.Tie as tie
 
 float-to-bits-result : tie.Need-float-to-bits-result
-float-to-bits-result c = no-nan (c .before .args .self .value) (equals-itself (c .before .args .self .value) (c .if1 .taken))
+float-to-bits-result c = fails (equals-itself (c .before .args .self .value) (c .if1 .taken))
 
 returns : tie.Need-returns
 returns c = sym (bits-of-number (c .before .args .self) (equals-itself (c .before .args .self .value) (c .if1 .taken)))

@@ -2,7 +2,7 @@
 use mathlib.Core.Path.{sym, _∙_}
 use borrow.Author.Needs.{needs}
 use lib.Ieee.{div, ofBits}
-use Rattle.wire.proofs.Doubles.{of-nan, of-number, no-nan-pattern}
+use Rattle.wire.proofs.Doubles.{of-nan, of-number, fails}
 use Rattle.wire.proofs.double.Double.of_bits.Statement.{statement}
 use Rattle.wire.proofs.double.Double.of_bits.Tie as tie
 
@@ -15,7 +15,7 @@ unfolding div ofBits
 returns c = sym (of-nan (c .before .before .args .n) (sym (c .before .is-nan-pattern .ensures) ∙ c .if1 .taken))
 
 float-from-bits-t4 : tie.Need-float-from-bits-t4
-float-from-bits-t4 c = no-nan-pattern (c .before .before .args .n) (sym (c .before .is-nan-pattern .ensures) ∙ c .if1 .left)
+float-from-bits-t4 c = fails (sym (c .before .is-nan-pattern .ensures) ∙ c .if1 .left)
 
 returns-2 : tie.Need-returns-2
 returns-2 c = sym (of-number (c .before .before .args .n) (sym (c .before .is-nan-pattern .ensures) ∙ c .if1 .left))
