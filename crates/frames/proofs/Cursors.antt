@@ -112,23 +112,7 @@ module _ (s : List ℕ) (small : length s < 2 ^ 64) where
       by true h = ap (answer s c) (steps-stop (c .growing) s (c .at) h)
       by false h = ap (answer s c) (steps-go (c .growing) s (c .at) h) ∙ rw e
 
-  -- what a loop keeps that goes on by calls: x is the step at c, and d the cursor past it
-  module _ (c : Cursor) {x : Step} (step : x ≡ here s c) where
-    pub next-given : {n : Next.Next} → passes (c .growing) x ≡ false → n ≡ ended c x → n ≡ nextOf s c
-    next-given e given = given ∙ ap (ended c) step ∙ sym (next-ended c (ap (passes (c .growing)) (sym step) ∙ e))
-
-    module _ {d : Cursor} (past : d ≡ over c x) where
-      past-here : d ≡ over c (here s c)
-      past-here = past ∙ ap (over c) step
-
-      pub next-kept : passes (c .growing) x ≡ true → nextOf s d ≡ nextOf s c
-      next-kept e = ap (nextOf s) past-here ∙ sym (next-over c (ap (passes (c .growing)) (sym step) ∙ e))
-
-      pub comes-further : (growing : Bool) → stops growing x ≡ false → (c .at < d .at) × (d .at ≤ length s)
-      comes-further growing e =
-          subst⁻¹ (λ (k : Cursor). (c .at < k .at) × (k .at ≤ length s)) past-here (over-further growing c (ap (stops growing) (sym step) ∙ e))
-
-  -- so that every answer comes about by them
+  -- and by these two every answer comes about
   turn : (c : Cursor) → (c .at < over c (here s c) .at → over c (here s c) .at ≤ length s → Answered (c .growing) s (over c (here s c)) (nextOf s (over c (here s c)))) → Answered (c .growing) s c (nextOf s c)
   turn c rest = by (passes (c .growing) (here s c)) refl
     where
@@ -145,6 +129,22 @@ module _ (s : List ℕ) (small : length s < 2 ^ 64) where
 
   pub answered : (growing : Bool) (c : Cursor) → c .growing ≡ growing → Answered growing s c (nextOf s c)
   answered growing c m = subst (λ (g : Bool). Answered g s c (nextOf s c)) m (answered-within (length s) c (omega arith))
+
+  -- what a loop keeps that goes on by calls: x is the step at c, and d the cursor past it
+  module _ (c : Cursor) {x : Step} (step : x ≡ here s c) where
+    pub next-given : {n : Next.Next} → passes (c .growing) x ≡ false → n ≡ ended c x → n ≡ nextOf s c
+    next-given e given = given ∙ ap (ended c) step ∙ sym (next-ended c (ap (passes (c .growing)) (sym step) ∙ e))
+
+    module _ {d : Cursor} (past : d ≡ over c x) where
+      past-here : d ≡ over c (here s c)
+      past-here = past ∙ ap (over c) step
+
+      pub next-kept : passes (c .growing) x ≡ true → nextOf s d ≡ nextOf s c
+      next-kept e = ap (nextOf s) past-here ∙ sym (next-over c (ap (passes (c .growing)) (sym step) ∙ e))
+
+      pub comes-further : (growing : Bool) → stops growing x ≡ false → (c .at < d .at) × (d .at ≤ length s)
+      comes-further growing e =
+          subst⁻¹ (λ (k : Cursor). (c .at < k .at) × (k .at ≤ length s)) past-here (over-further growing c (ap (stops growing) (sym step) ∙ e))
 
   module _ (growing : Bool) where
     -- ---- the counts of a cursor

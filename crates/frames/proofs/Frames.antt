@@ -108,7 +108,7 @@ module _ (s : List ℕ) (p : ℕ) {f : Frame} (e : stepAt s p ≡ Found f) where
     unfolding payloadIn
     payload-bytes = bytes-take (f .length) (drop (f .at + 6) s) (bytes-drop (f .at + 6) s h)
 
-    -- its bytes are those of a frame with its type, sender and payload
+    -- its bytes are those of a frame with its type, sender and payload: written again, it is the same bytes
     pub found-bytes : take (f .length + 8) (drop p s) ≡ frameBytes (f .kind) (f .sender) (payloadIn s f)
     unfolding payloadIn
     found-bytes =

@@ -17,7 +17,7 @@ use Rattle.frames.proofs.Written.{length-frame, length-frame-then}
 use Rattle.frames.proofs.WrittenRead.{reads-back, payload-back-at}
 
 -- past a written frame the reading goes on after it
-past-written : (p : ℕ) (m : Outgoing) (rest : List ℕ) → Sendable m
+pub past-written : (p : ℕ) (m : Outgoing) (rest : List ℕ) → Sendable m
     → readFrom false 0 p (frameOf m ++ rest)
     ≡ record { at = p; step = Found (asRead p m) } ∷ readFrom false 0 (p + (length (m .payload) + 8)) rest
 past-written p m rest h =

@@ -6,6 +6,7 @@ ghost use lib.Dec.{eqb, leb};
 ghost use lib.ListN.{length, drop};
 ghost use Rattle.frames.specs.Junk.{junkRun};
 
+// Whether a 0x55 was seen, before or now.
 fn marked(before: bool, b: u8) -> bool
     ensures { λ r. ⌜ r ≡ cond (eqb b 0x55) true before ⌝ }
 {
