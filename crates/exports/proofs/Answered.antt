@@ -1,75 +1,41 @@
--- What each exported function answers, from the answers of those it calls. Assumes nothing.
-use mathlib.Core.Path.{_≡_, refl, sym, ap, _∙_}
-use mathlib.Core.Bool.{Bool}
+-- A row stored at the start of a lent buffer, or 32 where it has no room; and what `sbp_next` tells of a reading. Assumes nothing.
+use mathlib.Core.Path.{_≡_, refl, ap, _∙_}
+use mathlib.Core.Bool.{Bool, true, false, cond}
 use mathlib.Core.List.{List}
 use Prim.Native.Nat.{ℕ, _^_, _≤_, _<_}
-use native.Mathlib.Omega.{arith}
+use lib.Dec.{leb}
 use lib.ListN.{length}
 use borrow.Author.Tests.{le-leb, lt-leb}
-use Rattle.wire.specs.Field.{HeldRow, decode, rowStored}
-use Rattle.wire.specs.Message.{Answer}
-use Rattle.frames.specs.Reading.{steps, framesOf, closedSteps, countsOf}
+use Rattle.wire.specs.Field.{Field, Row, size, rowStored}
+use Rattle.frames.specs.Reading.{steps, framesOf}
 use Rattle.frames.specs.Cursors.{nextOf, Told}
-use Rattle.frames.specs.Writer.{writtenAnswer}
-use Rattle.frames.specs.declared.cursor.Counts.{Counts}
-use Rattle.frames.specs.declared.cursor.Next as Next
-use Rattle.frames.specs.declared.write.Written.{Written}
 use Rattle.frames.proofs.Answers.{told}
-use Rattle.exports.specs.Rows.{atFront}
-use Rattle.exports.specs.Found.{foundFields, foundRow, startAt, foundIn, numberIn, nextAnswer, nextStored}
-use Rattle.exports.specs.Totals.{countsFields, countsRow, totalsAnswer, totalsStored}
-use Rattle.exports.specs.declared.reading.Found.{Found}
-use Rattle.exports.proofs.Parts.{stored-front, decode-stored}
+use Rattle.exports.specs.Rows.{atFront, rowAnswer, rowLaid}
+use Rattle.exports.specs.Found.{startAt}
+use Rattle.exports.proofs.Parts.{stored-front}
 
--- ---- the next frame
+module _ (fs : List Field) (n : ℕ) (v : Row fs) (buf : List ℕ) where
+  pub row-32 : length buf < size fs → (32 ≡ rowAnswer fs n (length buf)) × (buf ≡ rowLaid fs v buf)
+  unfolding rowAnswer rowLaid
+  row-32 h = (rw (lt-leb (size fs) (length buf) h), rw (lt-leb (size fs) (length buf) h))
 
-module _ (s : List ℕ) (at : ℕ) (growing : Bool) (buf : List ℕ) where
-  pub next-32 : length buf < 53 → (32 ≡ nextAnswer s at growing (length buf)) × (buf ≡ nextStored s at growing buf)
-  unfolding nextAnswer nextStored
-  next-32 h = (rw (lt-leb 53 (length buf) h), rw (lt-leb 53 (length buf) h))
+  pub row-put : {m : ℕ} {w : Row fs} {t : List ℕ} → size fs ≤ length buf → m ≡ n → w ≡ v → t ≡ rowStored fs w buf 0
+      → (m ≡ rowAnswer fs n (length buf)) × (t ≡ rowLaid fs v buf)
+  unfolding rowAnswer rowLaid
+  row-put h p q e = (
+    p ∙ rw (le-leb (size fs) (length buf) h),
+    e ∙ ap (λ (w : Row fs). rowStored fs w buf 0) q ∙ stored-front fs v buf h ∙ rw (le-leb (size fs) (length buf) h),
+  )
 
-  pub next-told : {x : Next.Next} {n : ℕ} → 53 ≤ length buf → x ≡ nextOf s (startAt at growing) → n ≡ numberIn x → n ≡ nextAnswer s at growing (length buf)
-  unfolding nextAnswer
-  next-told h p q = q ∙ ap numberIn p ∙ rw (le-leb 53 (length buf) h)
-
-  pub next-put : {x : Next.Next} {f : Found} {t : List ℕ} → 53 ≤ length buf → x ≡ nextOf s (startAt at growing) → f ≡ foundIn x
-      → t ≡ rowStored foundFields (foundRow f) buf 0 → t ≡ nextStored s at growing buf
-  unfolding nextStored
-  next-put {f = f} h p q e =
-      e
-      ∙ stored-front foundFields (foundRow f) buf h
-      ∙ ap (λ (f : Found). atFront foundFields (foundRow f) buf) (q ∙ ap foundIn p)
-      ∙ rw (le-leb 53 (length buf) h)
-
--- a row that its fields hold is read back
-pub next-back : (s : List ℕ) (at : ℕ) (growing : Bool) (buf : List ℕ) → 53 ≤ length buf → HeldRow foundFields (foundRow (foundIn (nextOf s (startAt at growing))))
-    → decode foundFields (nextStored s at growing buf) 0 ≡ foundRow (foundIn (nextOf s (startAt at growing)))
-next-back s at growing buf h held =
-    let v = foundRow (foundIn (nextOf s (startAt at growing))) in
-    ap (λ (t : List ℕ). decode foundFields t 0) (sym (next-put s at growing buf h refl refl refl))
-    ∙ decode-stored foundFields v buf 0 (omega arith) held (refl, (refl, (refl, (refl, (refl, (refl, (refl, (refl, (refl, tt)))))))))
+  -- where 32 is no answer it says that nothing was stored
+  pub row-keeps : (n ≡ 32 → ⊥) → rowAnswer fs n (length buf) ≡ 32 → rowLaid fs v buf ≡ buf
+  unfolding rowAnswer rowLaid
+  row-keeps other = by (leb (size fs) (length buf))
+    where
+      by : (t : Bool) → cond t n 32 ≡ 32 → cond t (atFront fs v buf) buf ≡ buf
+      by true e = absurd (other e)
+      by false e = refl
 
 -- from a position on it tells the first frame that is left of the reading there, and where the others are left; or that there is none
 pub next-left : (s : List ℕ) → length s < 2 ^ 64 → (at : ℕ) (growing : Bool) → at ≤ length s → Told growing s (framesOf (steps growing s at)) (nextOf s (startAt at growing))
 next-left s small at growing h = told s small growing (startAt at growing) refl h
-
--- ---- the counts of a capture
-
-module _ (s buf : List ℕ) where
-  pub totals-32 : length buf < 32 → (32 ≡ totalsAnswer (length buf)) × (buf ≡ totalsStored s buf)
-  unfolding totalsAnswer totalsStored
-  totals-32 h = (rw (lt-leb 32 (length buf) h), rw (lt-leb 32 (length buf) h))
-
-  pub totals-put : {c : Counts} {t : List ℕ} → 32 ≤ length buf → c ≡ countsOf (closedSteps s) → t ≡ rowStored countsFields (countsRow c) buf 0
-      → (0 ≡ totalsAnswer (length buf)) × (t ≡ totalsStored s buf)
-  unfolding totalsAnswer totalsStored
-  totals-put {c} h p e = (
-    rw (le-leb 32 (length buf) h),
-    e ∙ stored-front countsFields (countsRow c) buf h ∙ ap (λ (c : Counts). atFront countsFields (countsRow c) buf) p ∙ rw (le-leb 32 (length buf) h),
-  )
-
--- ---- the listing
-
--- w is what a writer returned, and x the case of it that was met
-pub met : {w x : Written} {a : Answer ℕ} → writtenAnswer w ≡ a → w ≡ x → writtenAnswer x ≡ a
-met p q = sym (ap writtenAnswer q) ∙ p

@@ -3,7 +3,6 @@
 use mathlib.Core.Path.{_≡_, refl, sym, ap, _∙_, subst}
 use mathlib.Core.List.{List}
 use Prim.Native.Nat.{ℕ, _≤_, _<_}
-use native.Mathlib.Nat.{zero-add}
 use native.Mathlib.Omega.{arith}
 use lib.ListN.{length, getD, set, length-take}
 use borrow.Author.Tests.{le-leb, lt-leb}
@@ -25,14 +24,10 @@ use Rattle.epochs.proofs.Judgements.{judged-below, judged-formed, judged-n, jud
 use Rattle.epochs.proofs.Reports.{SmallIn, Small, report-small}
 use Rattle.exports.specs.Rows.{upTo}
 use Rattle.exports.specs.State.{placeIn, placeStored, stateIn}
-use Rattle.exports.specs.Feed.{reportFields, reportRow, happenedNumber, happenedStored, FedIn, cameOut, takenIn, actedIn, fedIn}
+use Rattle.exports.specs.Feed.{reportFields, reportRow, happenedNumber, happenedStored, FedIn, untouched, cameOut, takenIn, actedIn, fedIn}
 use Rattle.exports.proofs.Parts.{stored-front, decode-stored}
 use Rattle.exports.proofs.Tables.{upTo-at}
 use Rattle.exports.proofs.States.{SmallPacket, stepped-small, state-place}
-
--- nothing is done
-abbrev pub untouched : List ℕ → List ℕ → FedIn
-untouched s report = record { state = s; report = report; answer = 32 }
 
 module _ (s : List ℕ) (kind sender : ℕ) (payload report : List ℕ) where
   -- an answer, a state and a report as they have to be
@@ -73,9 +68,9 @@ module _ (s : List ℕ) (kind sender : ℕ) (payload report : List ℕ) where
             (r ∙ out .1 .0, w ∙ ap (λ (x : Ended). happenedStored (told sender p x) report) q ∙ out .1 .1),
           )
 
-  -- the place of a packet is one of the eight
-  pub eight : {i : ℕ} {p : Packet} → judged (rosterOf (stateIn s)) kind sender payload ≡ J.For i p → i < 8
-  eight e = omega (arith, simp length-take at (judged-below (rosterOf (stateIn s)) kind sender payload e))
+-- the place of a packet is one of the eight
+pub eight : (s : List ℕ) (kind sender : ℕ) (payload : List ℕ) {i : ℕ} {p : Packet} → judged (rosterOf (stateIn s)) kind sender payload ≡ J.For i p → i < 8
+eight s kind sender payload e = omega (arith, simp length-take at (judged-below (rosterOf (stateIn s)) kind sender payload e))
 
 -- ---- tied to the collator
 
@@ -102,9 +97,9 @@ module _ (s : List ℕ) (kind sender : ℕ) (payload report : List ℕ) (long : 
       by : (j : Judged) → judged (rosterOf (stateIn s)) kind sender payload ≡ j → Tied (actedIn s report sender j) (acted (stateIn s) sender j) report
       by (J.Refused n) e = record { state = refl; answer = refl; reported = refl }
       by (J.For i p) e =
-          let h : i < 8 = eight s kind sender payload report e in
+          let h : i < 8 = eight s kind sender payload e in
           let c = stateIn s in
-          let own : getD (upTo 8 0 (placeIn s)) i idle ≡ placeIn s i = upTo-at 8 0 (placeIn s) i idle h ∙ ap (placeIn s) (zero-add i) in
+          let own : getD (upTo 8 (placeIn s)) i idle ≡ placeIn s i = upTo-at 8 (placeIn s) i idle h in
           let same : stepped (placeIn s i) p ≡ stepped (getD (c .places) i idle) p = ap (λ (q : Place). stepped q p) (sym own) in
           record {
             state =

@@ -1,5 +1,5 @@
 -- A collator in bytes from its making on: after any frames the bytes stand for the collator that the same frames lead to, and `sbp_feed` answers
--- 1 exactly where a frame ends an epoch. Assumes nothing.
+-- 1, with the report, exactly where a frame ends an epoch. Assumes nothing.
 use mathlib.Core.Path.{_≡_, refl, sym, ap, _∙_, subst}
 use mathlib.Core.List.{List, [], _∷_}
 use mathlib.Core.Logic.{_↔_}
@@ -7,6 +7,7 @@ use Prim.Native.Nat.{ℕ, _≤_, _<_}
 use native.Mathlib.Omega.{arith}
 use lib.ListN.{length, getD}
 use Rattle.wire.specs.Number.{Bytes}
+use Rattle.wire.specs.Field.{decode}
 use Rattle.wire.proofs.Fields.{length-row}
 use Rattle.epochs.specs.Packet.{judged, Verdict, otherKind, wrongLength, unlisted, noPackets, pastTheLast, wellFormed}
 use Rattle.epochs.specs.Collator.{idle, stepped, told, acted, rosterOf, fed, made}
@@ -20,12 +21,12 @@ use Rattle.epochs.specs.declared.collating.Collator.{Collator}
 use Rattle.epochs.specs.declared.collating.Report.{Report}
 use Rattle.epochs.specs.declared.collating.Happened.{Happened}
 use Rattle.epochs.specs.declared.collating.Happened.the-variants as H
-use Rattle.epochs.proofs.Judgements.{exactly-judged}
+use Rattle.epochs.proofs.Judgements.{exactly-judged, never-for}
 use Rattle.epochs.proofs.Collations.{epoch-told}
 use Rattle.exports.specs.State.{slotFields, slotRow, slotOf, slotAt, placeIn, stateIn}
 use Rattle.exports.specs.Feed.{reportFields, reportRow, happenedNumber, happenedStored, FedIn, actedIn, fedIn, afterIn, madeStored}
 use Rattle.exports.proofs.Parts.{stored-front}
-use Rattle.exports.proofs.Feeds.{Tied, fed-acted, feeds}
+use Rattle.exports.proofs.Feeds.{Tied, fed-acted, feeds, report-back}
 use Rattle.exports.proofs.Makes.{makes, length-made}
 
 -- ---- lent bytes keep their length
@@ -74,16 +75,13 @@ refusal-above roster kind sender payload {n} e = by (exactly-judged roster kind 
     same : {m : ℕ} → J.Refused m ≡ J.Refused n → m ≡ n
     same q = cc
 
-    never : {i : ℕ} {p : Packet} → J.For i p ≡ J.Refused n → ⊥
-    never q = let z : _≡_ {A = ℕ} 0 1 = cc in omega arith
-
     by : {j : Judged} → Verdict roster kind sender payload j → j ≡ J.Refused n → 22 ≤ n
     by (otherKind k) q = omega (arith, same q)
     by (wrongLength k r) q = omega (arith, same q)
     by (unlisted k r s) q = omega (arith, same q)
     by (noPackets f z) q = omega (arith, same q)
     by (pastTheLast f z h) q = omega (arith, same q)
-    by (wellFormed f h) q = absurd (never q)
+    by (wellFormed f h) q = absurd (never-for (sym q))
 
 one-told : (c : Collator) (kind sender : ℕ) (payload : List ℕ) → happenedNumber (fed c kind sender payload .happened) ≡ 1
     → (e : Report) × (fed c kind sender payload .happened ≡ H.Epoch e)
@@ -128,3 +126,10 @@ module _ (roster : List ℕ) (ok : made roster .number ≡ 0) (senders : (i : �
 
         back : (e : Report) × EndsEpoch roster xs x e → fedIn (afterIn (madeStored roster s) report xs) (x .kind) (x .sender) (x .payload) lent .answer ≡ 1
         back w = comes-out .answer ∙ ap happenedNumber (epoch-told roster ok xs x (w .0) .1 (w .1))
+
+    -- and its report is read back from the lent bytes
+    pub epoch-row : {e : Report} → x .sender < 65536 → EndsEpoch roster xs x e
+        → decode reportFields (fedIn (afterIn (madeStored roster s) report xs) (x .kind) (x .sender) (x .payload) lent .report) 0 ≡ reportRow e
+    epoch-row {e} h w =
+        report-back (afterIn (madeStored roster s) report xs) (x .kind) (x .sender) (x .payload) lent (led .1) enough byte h
+        (ap (λ (c : Collator). fedItem c x .happened) stands ∙ epoch-told roster ok xs x e .1 w)

@@ -1,5 +1,5 @@
 -- A refusal writes nothing and moves no state: of every exported function that is lent something to write. Assumes nothing.
-use mathlib.Core.Path.{_≡_, refl, sym, ap}
+use mathlib.Core.Path.{_≡_, refl, ap}
 use mathlib.Core.Bool.{Bool, true, false, _&&_, cond}
 use mathlib.Core.List.{List}
 use Prim.Native.Nat.{ℕ, _≤_}
@@ -23,29 +23,20 @@ use Rattle.exports.specs.Found.{foundFields, startAt, numberIn, nextAnsw
 use Rattle.exports.specs.Totals.{countsFields, totalsAnswer, totalsStored}
 use Rattle.exports.specs.Text.{sizeAfter}
 use Rattle.exports.specs.State.{placeIn, stateIn}
-use Rattle.exports.specs.Feed.{stateSize, reportFields, happenedNumber, madeAnswer, madeStored, FedIn, actedIn, fedIn}
+use Rattle.exports.specs.Feed.{stateSize, reportFields, happenedNumber, madeAnswer, madeStored, FedIn, untouched, actedIn, fedIn}
+use Rattle.exports.proofs.Answered.{row-keeps}
 
--- a number that no answer but a refusal has
-small : (x : Next.Next) → 32 ≡ numberIn x → ⊥
-small (Next.the-variants.Frame f c) e = absurd (omega (arith, e))
-small (Next.the-variants.End c) e = absurd (omega (arith, e))
-small (Next.the-variants.Needs n c) e = absurd (omega (arith, e))
+-- what comes next is told by 0, 1 or 2
+never-32 : (x : Next.Next) → numberIn x ≡ 32 → ⊥
+never-32 (Next.the-variants.Frame f c) e = absurd (omega (arith, e))
+never-32 (Next.the-variants.End c) e = absurd (omega (arith, e))
+never-32 (Next.the-variants.Needs n c) e = absurd (omega (arith, e))
 
 pub next-keeps : (s : List ℕ) (at : ℕ) (growing : Bool) (buf : List ℕ) → nextAnswer s at growing (length buf) ≡ 32 → nextStored s at growing buf ≡ buf
-unfolding nextAnswer nextStored
-next-keeps s at growing buf = by (leb (size foundFields) (length buf)) _
-  where
-    by : (t : Bool) (stored : List ℕ) → cond t (numberIn (nextOf s (startAt at growing))) 32 ≡ 32 → cond t stored buf ≡ buf
-    by true stored e = absurd (small (nextOf s (startAt at growing)) (sym e))
-    by false stored e = refl
+next-keeps s at growing buf = row-keeps foundFields _ _ buf (never-32 (nextOf s (startAt at growing)))
 
 pub totals-keeps : (s buf : List ℕ) → totalsAnswer (length buf) ≡ 32 → totalsStored s buf ≡ buf
-unfolding totalsAnswer totalsStored
-totals-keeps s buf = by (leb (size countsFields) (length buf)) _
-  where
-    by : (t : Bool) (stored : List ℕ) → _≡_ {A = ℕ} (cond t 0 32) 32 → cond t stored buf ≡ buf
-    by true stored e = absurd (omega (arith, e))
-    by false stored e = refl
+totals-keeps s buf = row-keeps countsFields 0 _ buf (λ e. absurd (omega (arith, e)))
 
 -- the text, and the length that is told
 pub list-keeps : (s buf : List ℕ) (before n : ℕ) → listAnswer s (length buf) ≡ refused n
@@ -74,8 +65,8 @@ feed-keeps s kind sender payload report = by (leb stateSize (length s) && leb (s
     low p Not h = absurd (omega (arith, h))
     low p (Whole total) h = absurd (omega (arith, h))
 
-    by : (t : Bool) (j : Judged) → 2 ≤ cond t (actedIn s report sender j) (record { state = s; report = report; answer = 32 }) .answer
-        → Kept (cond t (actedIn s report sender j) (record { state = s; report = report; answer = 32 }))
+    by : (t : Bool) (j : Judged) → 2 ≤ cond t (actedIn s report sender j) (untouched s report) .answer
+        → Kept (cond t (actedIn s report sender j) (untouched s report))
     by false j h = (refl, refl)
     by true (J.Refused n) h = (refl, refl)
     by true (J.For i p) h = absurd (low p (stepped (placeIn s i) p .ended) h)

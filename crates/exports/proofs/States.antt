@@ -2,24 +2,25 @@
 use mathlib.Core.Path.{_≡_, refl, sym, ap, _∙_}
 use mathlib.Core.Bool.{Bool, true, false}
 use mathlib.Core.List.{List, [], _∷_}
-use Prim.Native.Nat.{ℕ, _+_, _*_, _%_, _^_, _≤_, _<_}
-use native.Mathlib.Nat.{zero-add}
+use Prim.Native.Nat.{ℕ, _+_, _*_, _^_, _≤_, _<_}
 use native.Mathlib.Omega.{arith}
-use lib.Dec.{eqb, ltb}
+use lib.Dec.{ltb}
 use lib.ListN.{length, getD, set}
 use borrow.Author.Tests.{ltb-true, ltb-false}
 use Rattle.wire.specs.Number.{numberAt}
 use Rattle.wire.specs.Field.{any, u8, u16, HeldRow, SettledRow, rowStored, Row}
 use Rattle.wire.proofs.Fields.{length-row}
-use Rattle.epochs.specs.Collator.{idle, fits, summed, goesOn, continued, stepped}
+use Rattle.epochs.specs.Collator.{idle, stepped}
 use Rattle.epochs.specs.declared.judging.Packet.{Packet}
 use Rattle.epochs.specs.declared.placing.Part.{Part}
 use Rattle.epochs.specs.declared.placing.Run.{Run}
 use Rattle.epochs.specs.declared.placing.Run.the-variants.{Idle, Open}
 use Rattle.epochs.specs.declared.placing.Place.{Place}
+use Rattle.epochs.specs.declared.placing.Stepped.{Stepped}
 use Rattle.epochs.specs.declared.collating.Collator.{Collator}
+use Rattle.epochs.proofs.Places.{step-cases}
 use Rattle.exports.specs.Rows.{upTo}
-use Rattle.exports.specs.State.{slotFields, slotRow, slotMake, placeOf, slotFor, slotOf, slotAt, placeIn, placeStored, countIn, seatsIn, stateIn, seatsStored, collatorStored}
+use Rattle.exports.specs.State.{slotFields, slotRow, slotMake, placeOf, slotFor, slotOf, slotAt, placeIn, placeStored, countIn, seatsIn, stateIn, seatRow, seatsStored, placeRow, collatorStored}
 use Rattle.exports.proofs.Parts.{decode-stored, decode-before, decode-after}
 use Rattle.exports.proofs.Tables.{upTo-set, upTo-same, upTo-list, rows-own, rows-before, length-stored}
 
@@ -60,31 +61,10 @@ pub record SmallPacket (p : Packet) : Type 0 where
   pub n : p .key .n < 256
   pub observations : p .observations < 65536
 
-module _ (p : Packet) (small : SmallPacket p) where
-  going-small : (total : ℕ) → total < 65536 → Small (goesOn p total .place)
-  unfolding goesOn
-  going-small total h = by (eqb ((p .counter + 1) % 256) (p .key .n)) refl
-    where
-      by : (t : Bool) → eqb ((p .counter + 1) % 256) (p .key .n) ≡ t → Small (goesOn p total .place)
-      by true e = rw e tt
-      by false e = rw e (record { tow = small .tow; wn = small .wn; n = small .n; next = omega arith; total = h })
-
-  continued-small : (run : Run) → Small (continued run p .place)
-  unfolding continued
-  continued-small Idle = tt
-  continued-small (Open part) = by (fits part p) refl
-    where
-      by : (t : Bool) → fits part p ≡ t → Small (continued (Open part) p .place)
-      by true e = rw e (going-small (summed part p) (omega arith))
-      by false e = rw e tt
-
-  pub stepped-small : (place : Place) → Small (stepped place p .place)
-  unfolding stepped
-  stepped-small place = by (eqb (p .counter) 0) refl
-    where
-      by : (t : Bool) → eqb (p .counter) 0 ≡ t → Small (stepped place p .place)
-      by true e = rw e (going-small (p .observations) (small .observations))
-      by false e = rw e (continued-small (place .run))
+pub stepped-small : (p : Packet) → SmallPacket p → (place : Place) → Small (stepped place p .place)
+stepped-small p small =
+    step-cases (λ (s : Stepped). Small (s .place)) p tt (λ total h. tt)
+    (λ total h. record { tow = small .tow; wn = small .wn; n = small .n; next = omega arith; total = h (small .observations) })
 
 -- ---- one place stored
 
@@ -115,18 +95,16 @@ module _ (s : List ℕ) (long : 105 ≤ length s) (i : ℕ) (h : i < 8) (place :
 
   same-seats : seatsIn (placeStored s i place) ≡ seatsIn s
   same-seats =
-      upTo-same 8 0 (λ j. numberAt 2 (placeStored s i place) (1 + j * 2)) (λ j. numberAt 2 s (1 + j * 2))
-      λ j a b.
+      upTo-same 8 (λ j. numberAt 2 (placeStored s i place) (1 + j * 2)) (λ j. numberAt 2 s (1 + j * 2))
+      λ j b.
       ap (λ (v : Row (any u16 ∷ [])). v .0) (decode-before slotFields (slotRow (slotOf place)) s (slotAt i) room (any u16 ∷ []) (1 + j * 2) (omega arith))
 
   -- the bytes stand for the same collator with that place
   pub state-place : Small place
       → stateIn (placeStored s i place) ≡ record { places = set (stateIn s .places) i place; roster = stateIn s .roster; count = stateIn s .count }
   state-place small =
-      let at : 0 + i ≡ i = omega arith in
-      let places : upTo 8 0 (placeIn (placeStored s i place)) ≡ set (upTo 8 0 (placeIn s)) i place
-      = upTo-set 8 0 (placeIn s) (placeIn (placeStored s i place)) i h (λ k b other. other-place k (λ e. other (omega arith)))
-      ∙ ap (set (upTo 8 0 (placeIn s)) i) (ap (placeIn (placeStored s i place)) at ∙ own-place small) in
+      let places : upTo 8 (placeIn (placeStored s i place)) ≡ set (upTo 8 (placeIn s)) i place
+      = upTo-set 8 (placeIn s) (placeIn (placeStored s i place)) i h (λ k b. other-place k) ∙ ap (set (upTo 8 (placeIn s)) i) (own-place small) in
       λ k. record { places = places k; roster = same-seats k; count = same-count k }
 
 -- ---- a whole collator stored
@@ -142,15 +120,9 @@ pub record Held (c : Collator) : Type 0 where
 abbrev countStored : ℕ → List ℕ → List ℕ
 countStored n s = rowStored (any u8 ∷ []) (n, tt) s 0
 
-abbrev pub seatRow : List ℕ → ℕ → Row (any u16 ∷ [])
-seatRow roster i = (getD roster i 0, tt)
-
-abbrev pub placeRow : List Place → ℕ → Row slotFields
-placeRow places i = slotRow (slotOf (getD places i idle))
-
 pub length-collator : (c : Collator) (s : List ℕ) → length (collatorStored c s) ≡ length s
 length-collator c s =
-    length-stored slotFields (placeRow (c .places)) (seatsStored (c .roster) 8 (countStored (c .count) s)) 17 8
+    length-stored slotFields (placeRow (c .places)) (seatsStored (c .roster) (countStored (c .count) s)) 17 8
     ∙ length-stored (any u16 ∷ []) (seatRow (c .roster)) (countStored (c .count) s) 1 8
     ∙ length-row (any u8 ∷ []) (c .count, tt) s 0
 
@@ -158,14 +130,14 @@ module _ (c : Collator) (h : Held c) (s : List ℕ) (long : 105 ≤ length s) wh
   counted-long : 105 ≤ length (countStored (c .count) s)
   counted-long = omega (arith, length-row (any u8 ∷ []) (c .count, tt) s 0)
 
-  seated-long : 105 ≤ length (seatsStored (c .roster) 8 (countStored (c .count) s))
+  seated-long : 105 ≤ length (seatsStored (c .roster) (countStored (c .count) s))
   seated-long = omega (arith, counted-long, length-stored (any u16 ∷ []) (seatRow (c .roster)) (countStored (c .count) s) 1 8)
 
   count-back : countIn (collatorStored c s) ≡ c .count
   count-back =
       let first = countStored (c .count) s in
       ap (λ (v : Row (any u8 ∷ [])). v .0)
-      (rows-before slotFields (placeRow (c .places)) (seatsStored (c .roster) 8 first) 17 (any u8 ∷ []) 0 8 (omega (arith, seated-long)) (omega arith)
+      (rows-before slotFields (placeRow (c .places)) (seatsStored (c .roster) first) 17 (any u8 ∷ []) 0 8 (omega (arith, seated-long)) (omega arith)
       ∙ rows-before (any u16 ∷ []) (seatRow (c .roster)) first 1 (any u8 ∷ []) 0 8 (omega (arith, counted-long)) (omega arith)
       ∙ decode-stored (any u8 ∷ []) (c .count, tt) s 0 (omega arith) (record { fits = h .count }, tt) (refl, tt))
 
@@ -173,14 +145,14 @@ module _ (c : Collator) (h : Held c) (s : List ℕ) (long : 105 ≤ length s) wh
   seat-back j b =
       let first = countStored (c .count) s in
       ap (λ (v : Row (any u16 ∷ [])). v .0)
-      (rows-before slotFields (placeRow (c .places)) (seatsStored (c .roster) 8 first) 17 (any u16 ∷ []) (1 + j * 2) 8 (omega (arith, seated-long)) (omega arith)
+      (rows-before slotFields (placeRow (c .places)) (seatsStored (c .roster) first) 17 (any u16 ∷ []) (1 + j * 2) 8 (omega (arith, seated-long)) (omega arith)
       ∙ rows-own (any u16 ∷ []) (seatRow (c .roster)) first 1 8 (omega (arith, counted-long)) (λ k d. ((record { fits = h .senders k d }, tt), (refl, tt))) j b)
 
   place-back : (j : ℕ) → j < 8 → placeIn (collatorStored c s) j ≡ getD (c .places) j idle
   place-back j b =
       let run : ℕ → Run = λ k. getD (c .places) k idle .run in
       ap (λ (v : Row slotFields). placeOf (slotMake v))
-      (rows-own slotFields (placeRow (c .places)) (seatsStored (c .roster) 8 (countStored (c .count) s)) 17 8 (omega (arith, seated-long))
+      (rows-own slotFields (placeRow (c .places)) (seatsStored (c .roster) (countStored (c .count) s)) 17 8 (omega (arith, seated-long))
       (λ k d. (held (run k) (h .small k d), settled (run k))) j b)
       ∙ back (run j)
 
@@ -189,10 +161,8 @@ module _ (c : Collator) (h : Held c) (s : List ℕ) (long : 105 ≤ length s) wh
   state-stored =
       let t = collatorStored c s in
       let seat : ℕ → ℕ = λ j. numberAt 2 t (1 + j * 2) in
-      let seats : upTo 8 0 seat ≡ c .roster
-      = ap (λ (n : ℕ). upTo n 0 seat) (sym (h .seats))
-      ∙ upTo-list (c .roster) 0 seat 0 (λ j b. ap seat (zero-add j) ∙ seat-back j (omega (arith, h .seats))) in
-      let places : upTo 8 0 (placeIn t) ≡ c .places
-      = ap (λ (n : ℕ). upTo n 0 (placeIn t)) (sym (h .eight))
-      ∙ upTo-list (c .places) 0 (placeIn t) idle (λ j b. ap (placeIn t) (zero-add j) ∙ place-back j (omega (arith, h .eight))) in
+      let seats : upTo 8 seat ≡ c .roster
+      = ap (λ (n : ℕ). upTo n seat) (sym (h .seats)) ∙ upTo-list (c .roster) seat 0 (λ j b. seat-back j (omega (arith, h .seats))) in
+      let places : upTo 8 (placeIn t) ≡ c .places
+      = ap (λ (n : ℕ). upTo n (placeIn t)) (sym (h .eight)) ∙ upTo-list (c .places) (placeIn t) idle (λ j b. place-back j (omega (arith, h .eight))) in
       λ k. record { places = places k; roster = seats k; count = count-back k }

@@ -3,7 +3,7 @@ use mathlib.Core.Path.{_≡_, refl, sym, ap, ap₂, _∙_}
 use mathlib.Core.Bool.{Bool, true, false}
 use mathlib.Core.List.{List, [], _∷_}
 use Prim.Native.Nat.{ℕ, zero, suc, _+_, _*_, _≤_, _<_}
-use native.Mathlib.Nat.{add-zero, add-suc, suc-add, suc-mul, mul-le-mul-right}
+use native.Mathlib.Nat.{suc-mul, mul-le-mul-right}
 use native.Mathlib.Numerals.{add-one}
 use native.Mathlib.Omega.{arith}
 use lib.Dec.{eqb}
@@ -17,34 +17,29 @@ use Rattle.exports.proofs.Parts.{decode-stored, decode-before}
 -- ---- lists by index
 
 module _ {A : Type 0} where
-  pub upTo-at : (n i : ℕ) (f : ℕ → A) (j : ℕ) (d : A) → j < n → getD (upTo n i f) j d ≡ f (i + j)
-  upTo-at zero i f j d h = absurd (omega arith)
-  upTo-at (suc n) i f zero d h = ap f (sym (add-zero i))
-  upTo-at (suc n) i f (suc j) d h = upTo-at n (suc i) f j d (omega arith) ∙ ap f (suc-add i j ∙ sym (add-suc i j))
+  pub upTo-at : (n : ℕ) (f : ℕ → A) (j : ℕ) (d : A) → j < n → getD (upTo n f) j d ≡ f j
+  upTo-at zero f j d h = absurd (omega arith)
+  upTo-at (suc n) f zero d h = refl
+  upTo-at (suc n) f (suc j) d h = upTo-at n (λ k. f (suc k)) j d (omega arith)
 
-  pub upTo-same : (n i : ℕ) (f g : ℕ → A) → ((j : ℕ) → i ≤ j → j < i + n → f j ≡ g j) → upTo n i f ≡ upTo n i g
-  upTo-same zero i f g h = refl
-  upTo-same (suc n) i f g h =
-      ap₂ (λ (x : A) (xs : List A). x ∷ xs) (h i (omega arith) (omega arith)) (upTo-same n (suc i) f g (λ j a b. h j (omega arith) (omega arith)))
+  pub upTo-same : (n : ℕ) (f g : ℕ → A) → ((j : ℕ) → j < n → f j ≡ g j) → upTo n f ≡ upTo n g
+  upTo-same zero f g h = refl
+  upTo-same (suc n) f g h =
+      ap₂ (λ (x : A) (xs : List A). x ∷ xs) (h 0 (omega arith)) (upTo-same n (λ k. f (suc k)) (λ k. g (suc k)) (λ j b. h (suc j) (omega arith)))
 
   -- one index alone is another's
-  pub upTo-set : (n i : ℕ) (f g : ℕ → A) (j : ℕ) → j < n → ((k : ℕ) → k < i + n → (k ≡ i + j → ⊥) → g k ≡ f k)
-      → upTo n i g ≡ set (upTo n i f) j (g (i + j))
-  upTo-set zero i f g j h others = absurd (omega arith)
-  upTo-set (suc n) i f g zero h others =
-      ap₂ (λ (x : A) (xs : List A). x ∷ xs) (ap g (sym (add-zero i)))
-      (upTo-same n (suc i) g f (λ k a b. others k (omega arith) (λ e. omega arith)))
-  upTo-set (suc n) i f g (suc j) h others =
-      let on : suc i + j ≡ i + suc j = omega arith in
-      ap₂ (λ (x : A) (xs : List A). x ∷ xs) (others i (omega arith) (λ e. omega arith))
-      (upTo-set n (suc i) f g j (omega arith) (λ k b other. others k (omega arith) (λ e. other (omega arith)))
-      ∙ ap (λ (k : ℕ). set (upTo n (suc i) f) j (g k)) on)
+  pub upTo-set : (n : ℕ) (f g : ℕ → A) (j : ℕ) → j < n → ((k : ℕ) → k < n → (k ≡ j → ⊥) → g k ≡ f k) → upTo n g ≡ set (upTo n f) j (g j)
+  upTo-set zero f g j h others = absurd (omega arith)
+  upTo-set (suc n) f g zero h others =
+      ap (λ (xs : List A). g 0 ∷ xs) (upTo-same n (λ k. g (suc k)) (λ k. f (suc k)) (λ k b. others (suc k) (omega arith) (λ e. omega arith)))
+  upTo-set (suc n) f g (suc j) h others =
+      ap₂ (λ (x : A) (xs : List A). x ∷ xs) (others 0 (omega arith) (λ e. omega arith))
+      (upTo-set n (λ k. f (suc k)) (λ k. g (suc k)) j (omega arith) (λ k b other. others (suc k) (omega arith) (λ e. other (omega arith))))
 
-  pub upTo-list : (xs : List A) (i : ℕ) (f : ℕ → A) (d : A) → ((j : ℕ) → j < length xs → f (i + j) ≡ getD xs j d) → upTo (length xs) i f ≡ xs
-  upTo-list [] i f d h = refl
-  upTo-list (x ∷ xs) i f d h =
-      ap₂ (λ (x : A) (xs : List A). x ∷ xs) (ap f (sym (add-zero i)) ∙ h 0 (omega arith))
-      (upTo-list xs (suc i) f d (λ j b. ap f (suc-add i j ∙ sym (add-suc i j)) ∙ h (suc j) (omega arith)))
+  pub upTo-list : (xs : List A) (f : ℕ → A) (d : A) → ((j : ℕ) → j < length xs → f j ≡ getD xs j d) → upTo (length xs) f ≡ xs
+  upTo-list [] f d h = refl
+  upTo-list (x ∷ xs) f d h =
+      ap₂ (λ (x : A) (xs : List A). x ∷ xs) (h 0 (omega arith)) (upTo-list xs (λ k. f (suc k)) d (λ j b. h (suc j) (omega arith)))
 
 -- ---- rows
 

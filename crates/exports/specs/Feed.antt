@@ -58,6 +58,10 @@ pub record FedIn : Type 0 where
   pub report : List ℕ
   pub answer : ℕ
 
+-- 32: one of the two has no room, and nothing is done
+abbrev pub untouched : List ℕ → List ℕ → FedIn
+untouched state report = record { state = state; report = report; answer = 32 }
+
 abbrev pub cameOut : List ℕ → List ℕ → Happened → FedIn
 cameOut state report h = record { state = state; report = happenedStored h report; answer = happenedNumber h }
 
@@ -77,7 +81,7 @@ unfoldable pub fedIn : List ℕ → ℕ → ℕ → List ℕ → List ℕ → Fe
 fedIn state kind sender payload report =
     cond (leb stateSize (length state) && leb (size reportFields) (length report))
     (actedIn state report sender (judged (rosterOf (stateIn state)) kind sender payload))
-    (record { state = state; report = report; answer = 32 })
+    (untouched state report)
 
 -- frames fed one after the other
 unfoldable pub afterIn : List ℕ → List ℕ → List Item → List ℕ

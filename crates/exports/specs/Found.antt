@@ -1,14 +1,12 @@
 -- What `sbp_next` answers and the row that it stores. Assumes nothing.
 use Prim.Native.Nat.{ℕ}
-use mathlib.Core.Bool.{Bool, cond}
+use mathlib.Core.Bool.{Bool}
 use mathlib.Core.List.{List, [], _∷_}
-use lib.Dec.{leb}
-use lib.ListN.{length}
-use Rattle.wire.specs.Field.{Field, any, u8, u16, u64, Row, size}
+use Rattle.wire.specs.Field.{Field, any, u8, u16, u64, Row}
 use Rattle.frames.specs.Cursors.{nextOf}
 use Rattle.frames.specs.declared.cursor.Cursor.{Cursor}
 use Rattle.frames.specs.declared.cursor.Next as Next
-use Rattle.exports.specs.Rows.{atFront}
+use Rattle.exports.specs.Rows.{rowAnswer, rowLaid}
 use Rattle.exports.specs.declared.reading.Found.{Found}
 
 -- at, next, needed, junk, bad, short, kind, sender, length: 53 bytes
@@ -39,11 +37,9 @@ numberIn (Next.the-variants.Frame f c) = 0
 numberIn (Next.the-variants.End c) = 1
 numberIn (Next.the-variants.Needs n c) = 2
 
--- 32 where the row has no room
-unfoldable pub nextAnswer : List ℕ → ℕ → Bool → ℕ → ℕ
-nextAnswer s at growing room = cond (leb (size foundFields) room) (numberIn (nextOf s (startAt at growing))) 32
+-- the answer, 32 where the row has no room, and the buffer after it
+abbrev pub nextAnswer : List ℕ → ℕ → Bool → ℕ → ℕ
+nextAnswer s at growing room = rowAnswer foundFields (numberIn (nextOf s (startAt at growing))) room
 
--- the buffer after it: the row and the bytes after it as they were, or all as it was
-unfoldable pub nextStored : List ℕ → ℕ → Bool → List ℕ → List ℕ
-nextStored s at growing buf =
-    cond (leb (size foundFields) (length buf)) (atFront foundFields (foundRow (foundIn (nextOf s (startAt at growing)))) buf) buf
+abbrev pub nextStored : List ℕ → ℕ → Bool → List ℕ → List ℕ
+nextStored s at growing buf = rowLaid foundFields (foundRow (foundIn (nextOf s (startAt at growing)))) buf

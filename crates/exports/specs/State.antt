@@ -61,18 +61,24 @@ abbrev pub countIn : List ℕ → ℕ
 countIn s = numberAt 1 s 0
 
 abbrev pub seatsIn : List ℕ → List ℕ
-seatsIn s = upTo 8 0 (λ i. numberAt 2 s (1 + i * 2))
+seatsIn s = upTo 8 (λ i. numberAt 2 s (1 + i * 2))
 
 abbrev pub stateIn : List ℕ → Collator
-stateIn s = record { places = upTo 8 0 (placeIn s); roster = seatsIn s; count = countIn s }
+stateIn s = record { places = upTo 8 (placeIn s); roster = seatsIn s; count = countIn s }
 
 -- ---- a collator stored
 
-abbrev pub seatsStored : List ℕ → ℕ → List ℕ → List ℕ
-seatsStored roster n s = rowsStored (any u16 ∷ []) (λ i. (getD roster i 0, tt)) n s 1
+abbrev pub seatRow : List ℕ → ℕ → Row (any u16 ∷ [])
+seatRow roster i = (getD roster i 0, tt)
 
-abbrev pub placesStored : List Place → ℕ → List ℕ → List ℕ
-placesStored places n s = rowsStored slotFields (λ i. slotRow (slotOf (getD places i idle))) n s 17
+abbrev pub seatsStored : List ℕ → List ℕ → List ℕ
+seatsStored roster s = rowsStored (any u16 ∷ []) (seatRow roster) 8 s 1
+
+abbrev pub placeRow : List Place → ℕ → Row slotFields
+placeRow places i = slotRow (slotOf (getD places i idle))
+
+abbrev pub placesStored : List Place → List ℕ → List ℕ
+placesStored places s = rowsStored slotFields (placeRow places) 8 s 17
 
 abbrev pub collatorStored : Collator → List ℕ → List ℕ
-collatorStored c s = placesStored (c .places) 8 (seatsStored (c .roster) 8 (rowStored (any u8 ∷ []) (c .count, tt) s 0))
+collatorStored c s = placesStored (c .places) (seatsStored (c .roster) (rowStored (any u8 ∷ []) (c .count, tt) s 0))

@@ -1,7 +1,7 @@
-// The library for firmware in C or Rust: `extern "C"` functions over numbers and lent slices, none with a requires.
+// What C and Rust link: `extern "C"` functions over numbers, lent slices and, for a length, one lent number. None has a `requires`.
 // A refusal is document 01's number and writes nothing. A collator lives in 105 lent bytes.
-// Read specs/Found.antt (the row of a frame), specs/Totals.antt, specs/Text.antt, specs/State.antt (what a collator's bytes stand for)
-// and specs/Feed.antt; proofs/Feeds.antt, Makes.antt and Lives.antt tie the bytes to the collator of `epochs`.
+// Read specs/Rows.antt (rows stored), specs/Found.antt (that of a frame), specs/Totals.antt, specs/Text.antt, specs/State.antt (what a
+// collator's bytes stand for) and specs/Feed.antt; proofs/Feeds.antt, Makes.antt and Lives.antt tie the bytes to the collator of `epochs`.
 mod answering;
 mod counting;
 mod feeding;

@@ -9,7 +9,7 @@ use epochs::Collator;
 use epochs::Place;
 
 fn put_seats(s: &mut [u8], roster: [u16; 8])
-    ensures { λ _. ⌜ now (s .exit) ≡ seatsStored roster 8 (now (s .entry)) ⌝ }
+    ensures { λ _. ⌜ now (s .exit) ≡ seatsStored roster (now (s .entry)) ⌝ }
 {
     let mut i = 0;
     while i < 8 {
@@ -19,7 +19,7 @@ fn put_seats(s: &mut [u8], roster: [u16; 8])
 }
 
 fn put_places(s: &mut [u8], places: [Place; 8])
-    ensures { λ _. ⌜ now (s .exit) ≡ placesStored places 8 (now (s .entry)) ⌝ }
+    ensures { λ _. ⌜ now (s .exit) ≡ placesStored places (now (s .entry)) ⌝ }
 {
     let mut i = 0;
     while i < 8 {

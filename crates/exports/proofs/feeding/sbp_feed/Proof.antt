@@ -23,7 +23,7 @@ enum-known-verdict-2 c = search needs
 take-requires : tie.Need-take-requires
 take-requires c κs =
     let a = c .before .before .before .before .before .before .before .before .before .before .before .args in
-    eight (a .state .now) (a .kind) (a .sender) (a .payload .now) (a .report .now) (sym (c .before .before .before .before .judged-in .ensures) ∙ c .before .before .verdict2 .given .1)
+    eight (a .state .now) (a .kind) (a .sender) (a .payload .now) (sym (c .before .before .before .before .judged-in .ensures) ∙ c .before .before .verdict2 .given .1)
 
 tell-requires : tie.Need-tell-requires
 tell-requires c κs = search needs

@@ -26,7 +26,7 @@ returns c =
     let seated = c .before .before .before .before .before .before .before in
     let a = counted .before .before .before .before .args in
     c .before .before .put-places .ensures
-    ∙ ap (placesStored (a .c .places) 8) (seated .put-seats .ensures ∙ ap (seatsStored (a .c .roster) 8) (counted .store-u8 .ensures))
+    ∙ ap (placesStored (a .c .places)) (seated .put-seats .ensures ∙ ap (seatsStored (a .c .roster)) (counted .store-u8 .ensures))
 
 pub put-collator-spec : {M : Type 1} → statement M
 put-collator-spec =

@@ -6,14 +6,14 @@ use native.Mathlib.Omega.{arith}
 use borrow.Author.Needs.{needs}
 use lib.ListN.{length}
 use Rattle.wire.specs.Field.{any, u16}
-use Rattle.exports.specs.State.{seatsStored}
+use Rattle.exports.specs.Rows.{rowsStored}
+use Rattle.exports.specs.State.{seatRow}
 use Rattle.exports.proofs.Tables.{rows-none, rows-more, length-stored}
-use Rattle.exports.proofs.States.{seatRow}
 use Rattle.exports.proofs.making.put_seats.Statement.{statement}
 use Rattle.exports.proofs.making.put_seats.Tie as tie
 
 abbrev Inv-loop : tie.InvT-loop
-Inv-loop s₀ roster i₀ s i = (i ≤ 8) × (s ≡ seatsStored roster i s₀)
+Inv-loop s₀ roster i₀ s i = (i ≤ 8) × (s ≡ rowsStored (any u16 ∷ []) (seatRow roster) i s₀ 1)
 
 abbrev μ-loop : tie.MeasureT-loop
 μ-loop s₀ roster i₀ s i = 8 - i
@@ -49,7 +49,7 @@ same-length : tie.Need-same-length Inv-loop μ-loop
 same-length c = let a = c .before .before .before .args in ap length (c .before .loop .inv .1) ∙ length-stored (any u16 ∷ []) (seatRow (a .t2)) (a .s .now) 1 (c .before .loop .i)
 
 returns : tie.Need-returns Inv-loop μ-loop
-returns c = let a = c .before .before .before .args in let end : c .before .loop .i ≡ 8 = omega arith in c .before .loop .inv .1 ∙ ap (λ (n : ℕ). seatsStored (a .t2) n (a .s .now)) end
+returns c = let a = c .before .before .before .args in let end : c .before .loop .i ≡ 8 = omega arith in c .before .loop .inv .1 ∙ ap (λ (n : ℕ). rowsStored (any u16 ∷ []) (seatRow (a .t2)) n (a .s .now) 1) end
 
 pub put-seats-spec : {M : Type 1} → statement M
 put-seats-spec =

@@ -1,6 +1,6 @@
 -- `exports::placing::slot_in` meets its contract, field by field.
 use mathlib.Core.Path.{_≡_, ap, _∙_}
-use Prim.Native.Nat.{ℕ, _≤_}
+use Prim.Native.Nat.{ℕ}
 use native.Mathlib.Omega.{arith}
 use borrow.Author.Needs.{needs}
 use Rattle.wire.specs.Field.{decode}
@@ -12,24 +12,20 @@ use Rattle.exports.proofs.placing.slot_in.Tie as tie
 slot-at-requires : tie.Need-slot-at-requires
 slot-at-requires c κs = search needs
 
--- the bytes of a place lie within a state's
-within : (c : tie.After-slot-at) → c .slot-at .result ≤ 94
-within c = omega (arith, c .before .before .pre, c .slot-at .ensures)
-
 add-tow : tie.Need-add-tow
-add-tow c = omega (arith, within c)
+add-tow c = omega arith
 
 add-wn : tie.Need-add-wn
-add-wn c = omega (arith, within c)
+add-wn c = omega arith
 
 add-n : tie.Need-add-n
-add-n c = omega (arith, within c)
+add-n c = omega arith
 
 add-next : tie.Need-add-next
-add-next c = omega (arith, within c)
+add-next c = omega arith
 
 add-total : tie.Need-add-total
-add-total c = omega (arith, within c)
+add-total c = omega arith
 
 read-u8-requires : tie.Need-read-u8-requires
 read-u8-requires c κs = search needs

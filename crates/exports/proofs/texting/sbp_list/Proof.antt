@@ -2,9 +2,10 @@
 use mathlib.Core.Path.{ap}
 use Prim.Native.Nat.{ℕ}
 use Rattle.wire.specs.Message.{Answer}
+use Rattle.frames.specs.Writer.{writtenAnswer}
 use Rattle.payloads.specs.Table.{numberOf}
+use Rattle.payloads.proofs.Lines.{as-met}
 use Rattle.exports.specs.Text.{sizeAfter}
-use Rattle.exports.proofs.Answered.{met}
 use borrow.Author.Needs.{needs}
 use Rattle.exports.proofs.texting.sbp_list.Statement.{statement}
 use Rattle.exports.proofs.texting.sbp_list.Tie as tie
@@ -24,7 +25,7 @@ same-length c = search needs
 returns : tie.Need-returns
 returns c =
     let l = c .before .before .before .before .before .list .ensures in
-    let e = met (l .0) (c .before .written .given .1) in
+    let e = as-met writtenAnswer (l .0) (c .before .written .given .1) in
     (ap numberOf e, (l .1, ap (λ (a : Answer ℕ). sizeAfter a (c .before .before .before .before .before .before .before .before .before .args .size .now)) e))
 
 same-length-2 : tie.Need-same-length-2
@@ -33,7 +34,7 @@ same-length-2 c = search needs
 returns-2 : tie.Need-returns-2
 returns-2 c =
     let l = c .before .before .before .before .before .list .ensures in
-    let e = met (l .0) (c .before .written2 .given .1) in
+    let e = as-met writtenAnswer (l .0) (c .before .written2 .given .1) in
     (ap numberOf e, (l .1, ap (λ (a : Answer ℕ). sizeAfter a (c .before .before .before .before .before .before .before .before .before .args .size .now)) e))
 
 pub sbp-list-spec : {M : Type 1} → statement M
