@@ -1,5 +1,5 @@
 /* Checks what clist does not show: the published CRC values, the collator's
- * making and refusals, and that closed reading counts as the listing does. */
+ * making and refusals, and the counts of closed reading. */
 #include "fast.h"
 
 #include <stdio.h>

@@ -120,7 +120,7 @@ static inline int obs_length(size_t length)
     return length % 16 == 7 && length <= 247;
 }
 
-/* The fix mode, of which flags, the last byte, has the low three bits. */
+/* One length, and the fix mode: the low three bits of flags, the last byte. */
 static inline int fixed_length(const uint8_t *payload, size_t length,
                                size_t wanted, int highest_mode)
 {

@@ -1,5 +1,5 @@
 #!/bin/sh
-# Compares twinlist and clist over generated captures: run.sh [SEED [COUNT]]
+# Runs ccheck, and compares twinlist and clist over generated captures: run.sh [SEED [COUNT]]
 set -eu
 cd "$(dirname "$0")"
 seed=${1:-1}

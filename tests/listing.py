@@ -1,5 +1,6 @@
 #!/usr/bin/env python3
-"""Holds sbplist against a listing by document 01's words, on captures at the edges; its last line is 'N passed, M failed'.
+"""Holds sbplist against a listing by document 01's words, on captures at the edges, and stored files against what makes them; its last line
+is 'N passed, M failed'.
 
 The frames and epochs are found by crates/vectors/answers.py, which has none of our code. usage: listing.py (after rt check sbplist)
 """
@@ -82,10 +83,14 @@ def main():
             failed.append(name)
             print("not the listing:", name, data[:60].hex())
     with open(os.path.join(ROOT, "sample", "base-and-rover.sbp"), "rb") as stored:
-        same = stored.read() == make.capture()
+        sample = stored.read() == make.capture()
+    with open(os.path.join(ROOT, "crates", "vectors", "stdout")) as stored:
+        lines = stored.read() == "".join(line + "\n" for line in answers.lines())
     with subprocess.Popen(RUN, stdin=os.open(ROOT, os.O_RDONLY), stdout=subprocess.PIPE, stderr=subprocess.PIPE) as program:
         out, said = program.communicate()
-    for name, held in ("the stored sample is what make.py makes", same), ("a read that fails prints nothing and says why", out == b"" and said.startswith(b"read: ")):
+    for name, held in (
+            ("the stored sample is what make.py makes", sample), ("vectors' stored answers are what answers.py works out", lines),
+            ("a read that fails prints nothing and says why", out == b"" and said.startswith(b"read: "))):
         passed += held
         if not held:
             failed.append(name)

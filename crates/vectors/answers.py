@@ -82,7 +82,7 @@ def row(counts):
 
 def captures():
     example = frame(0x0202, 1228, EXAMPLE[5:])
-    inside = bytes.fromhex("55010102020855000000000000 00aabb".replace(" ", ""))
+    inside = bytes.fromhex("5501010202085500000000000000aabb")
     cases = (
         ("example", example), ("example-damaged", example[:-1] + b"\x95"), ("all-zero-frame", b"\x55" + bytes(7)), ("nothing", b""),
         ("five-bytes", b"\x55" + bytes(4)), ("frame-inside-a-bad-one", inside), ("preamble-in-a-payload", frame(0x1234, 0x5678, b"\x55\x55")),
@@ -306,7 +306,11 @@ def collated():
     yield from replayed("shuffled", bytes(3) + in_a_row(rover[0], base[0], stranger, base[1]) + bytes(5) + in_a_row(*rover[1:], base[2]))
 
 
-if __name__ == "__main__":
+def lines():
     for part in checksums, numbers, doubles, captures, written, each, observations, walks, types, collated:
-        for line in part():
-            print(line)
+        yield from part()
+
+
+if __name__ == "__main__":
+    for line in lines():
+        print(line)

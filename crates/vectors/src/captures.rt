@@ -6,7 +6,7 @@ use frames::Frame;
 use frames::Next;
 
 // The example frame of 003, section 4.
-const EXAMPLE: [u8; 28] = [
+pub const EXAMPLE: [u8; 28] = [
     0x55,
     0x02,
     0x02,
@@ -103,10 +103,9 @@ fn show(name: &[u8], s: &[u8]) {
     print::word(b"closed ");
     print::word(name);
     walk(Cursor::closed(), s);
-    let t = frames::totals(s);
     print::word(b"totals ");
     print::word(name);
-    counts(t);
+    counts(frames::totals(s));
     print::end();
 }
 
@@ -170,7 +169,8 @@ fn frame(f: Frame, s: &[u8]) {
     print::bytes(frames::payload(s, f));
 }
 
-fn counts(c: Counts) {
+// Frame bytes, junk, bad, short.
+pub fn counts(c: Counts) {
     print::number(c.framed as u64);
     print::number(c.junk as u64);
     print::number(c.bad as u64);

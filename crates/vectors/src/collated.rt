@@ -1,12 +1,11 @@
 // The collator: document 01's cases, the ticket that this project is about, and two captures that differ only between senders.
 use crate::payload::front;
+use crate::payload::put_obs;
 use crate::print;
 use epochs::Collator;
 use epochs::Happened;
 use frames::Cursor;
 use frames::Next;
-use frames::Sender;
-use frames::Written;
 
 pub fn run() {
     rosters();
@@ -44,10 +43,7 @@ fn size(count: usize) -> usize {
 
 fn say(h: Happened) {
     match h {
-        Happened::Refused(n) => {
-            print::word(b" refused");
-            print::number(n as u64);
-        }
+        Happened::Refused(n) => print::refused(n),
         Happened::Taken => print::word(b" taken"),
         Happened::Epoch(r) => {
             print::word(b" epoch");
@@ -60,14 +56,18 @@ fn say(h: Happened) {
     }
 }
 
-// Feeds one packet and says what happened.
-fn fed(c: Collator, sender: u16, p: Header) -> Collator {
-    let count = p.count;
-    let s = payload(p);
-    let f = c.feed(0x0049, sender, front(&s, size(count)));
+// Feeds one frame and says what happened.
+fn offered(c: Collator, kind: u16, sender: u16, s: &[u8]) -> Collator {
+    let f = c.feed(kind, sender, s);
     let happened = f.happened;
     say(happened);
     f.collator
+}
+
+fn fed(c: Collator, sender: u16, p: Header) -> Collator {
+    let count = p.count;
+    let s = payload(p);
+    offered(c, 0x0049, sender, front(&s, size(count)))
 }
 
 fn sent(tow: u32, wn: u16, n_obs: u8, count: usize) -> Header {
@@ -120,10 +120,7 @@ fn halves() {
 
 fn other(c: Collator, kind: u16, sender: u16, n: usize) -> Collator {
     let s = payload(sent(1, 2, 0x00, 0));
-    let f = c.feed(kind, sender, front(&s, n));
-    let happened = f.happened;
-    say(happened);
-    f.collator
+    offered(c, kind, sender, front(&s, n))
 }
 
 // 46, 22, 43, 44, 45: each before the next, and none of them breaks the open run.
@@ -270,33 +267,21 @@ fn counted(t: Tally, sender: u16, p: Header) -> Tally {
     let s = payload(p);
     let c = t.collator;
     let f = c.feed(0x0049, sender, front(&s, size(count)));
-    let after = f.collator;
+    let collator = f.collator;
     let happened = f.happened;
-    match happened {
-        Happened::Refused(_) => Tally {
-            collator: after,
-            base: t.base,
-            rover: t.rover,
-        },
-        Happened::Taken => Tally {
-            collator: after,
-            base: t.base,
-            rover: t.rover,
-        },
-        Happened::Epoch(r) => {
-            if r.sender == 0 {
-                return Tally {
-                    collator: after,
-                    base: t.base,
-                    rover: std::num::wrapping_add_u64(t.rover, 1),
-                };
-            }
-            Tally {
-                collator: after,
-                base: std::num::wrapping_add_u64(t.base, 1),
-                rover: t.rover,
-            }
+    let mut base = t.base;
+    let mut rover = t.rover;
+    if let Happened::Epoch(r) = happened {
+        if r.sender == 0 {
+            rover = std::num::wrapping_add_u64(rover, 1);
+        } else {
+            base = std::num::wrapping_add_u64(base, 1);
         }
+    }
+    Tally {
+        collator,
+        base,
+        rover,
     }
 }
 
@@ -334,18 +319,7 @@ fn ticket() {
 fn put(buf: &mut [u8], at: usize, sender: u16, p: Header) -> usize {
     let count = p.count;
     let s = payload(p);
-    if buf.len() < at {
-        return at;
-    }
-    match frames::write_frame(
-        &mut buf[at..],
-        0x0049,
-        Sender::Named(sender),
-        front(&s, size(count)),
-    ) {
-        Written::Bytes(n) => std::num::wrapping_add_usize(at, n),
-        Written::Refused(_) => at,
-    }
+    put_obs(buf, at, sender, front(&s, size(count)))
 }
 
 fn captures() {

@@ -1,4 +1,4 @@
-// Every message at its length and one off, at the ends of its ranges, and with every NaN and minus zero.
+// Every message of a fixed length that has fields: at its length and one off, at the ends of its ranges, with NaNs and minus zero.
 use crate::messages;
 use crate::payload::front;
 use crate::payload::mixed;
@@ -22,6 +22,14 @@ fn lengths(seed: usize) {
     }
 }
 
+// One byte less than size (n is 0), size, or one more (n is 2).
+fn off(s: &[u8], n: usize, size: usize) -> &[u8] {
+    front(
+        s,
+        std::num::wrapping_sub_usize(std::num::wrapping_add_usize(size, n), 1),
+    )
+}
+
 fn near(s: &[u8], n: usize) {
     times_and_positions(s, n);
     vectors(s, n);
@@ -29,26 +37,26 @@ fn near(s: &[u8], n: usize) {
 }
 
 fn times_and_positions(s: &[u8], n: usize) {
-    messages::gps_time(front(s, std::num::wrapping_add_usize(n, 10)));
-    messages::dops(front(s, std::num::wrapping_add_usize(n, 13)));
-    messages::pos_ecef(front(s, std::num::wrapping_add_usize(n, 31)));
-    messages::pos_llh(front(s, std::num::wrapping_add_usize(n, 33)));
+    messages::gps_time(off(s, n, 11));
+    messages::dops(off(s, n, 14));
+    messages::pos_ecef(off(s, n, 32));
+    messages::pos_llh(off(s, n, 34));
 }
 
 fn vectors(s: &[u8], n: usize) {
-    messages::baseline_ecef(front(s, std::num::wrapping_add_usize(n, 19)));
-    messages::vel_ecef(front(s, std::num::wrapping_add_usize(n, 19)));
-    messages::baseline_ned(front(s, std::num::wrapping_add_usize(n, 21)));
-    messages::vel_ned(front(s, std::num::wrapping_add_usize(n, 21)));
-    messages::baseline_heading(front(s, std::num::wrapping_add_usize(n, 9)));
+    messages::baseline_ecef(off(s, n, 20));
+    messages::vel_ecef(off(s, n, 20));
+    messages::baseline_ned(off(s, n, 22));
+    messages::vel_ned(off(s, n, 22));
+    messages::baseline_heading(off(s, n, 10));
 }
 
 fn bases_and_system(s: &[u8], n: usize) {
-    messages::base_pos_llh(front(s, std::num::wrapping_add_usize(n, 23)));
-    messages::base_pos_ecef(front(s, std::num::wrapping_add_usize(n, 23)));
-    messages::read_by_index_req(front(s, std::num::wrapping_add_usize(n, 1)));
-    messages::startup(front(s, std::num::wrapping_add_usize(n, 3)));
-    messages::heartbeat(front(s, std::num::wrapping_add_usize(n, 3)));
+    messages::base_pos_llh(off(s, n, 24));
+    messages::base_pos_ecef(off(s, n, 24));
+    messages::read_by_index_req(off(s, n, 2));
+    messages::startup(off(s, n, 4));
+    messages::heartbeat(off(s, n, 4));
 }
 
 // ns at both ends of its range and one past them.
@@ -97,6 +105,10 @@ fn fixes() {
     }
 }
 
+fn answer(kind: u16, s: &[u8]) {
+    print::number(payloads::answer(kind, s) as u64);
+}
+
 fn mode(fix: navigation::Fix) {
     match fix {
         navigation::Fix::SinglePoint => print::word(b" single"),
@@ -131,59 +143,24 @@ fn fix(flags: u8) {
 fn positions(flags: u8) {
     let mut s = [0u8; 34];
     wire::store_u8(&mut s, 31, flags);
-    ecef(navigation::read_pos_ecef(front(&s, 32)));
+    answer(0x0200, front(&s, 32));
     mode(navigation::pos_ecef_fix(flags));
     wire::store_u8(&mut s, 33, flags);
-    llh(navigation::read_pos_llh(&s));
+    answer(0x0201, &s);
     mode(navigation::pos_llh_fix(flags));
 }
 
 fn baseline(flags: u8) {
     let mut s = [0u8; 20];
     wire::store_u8(&mut s, 19, flags);
-    vector(navigation::read_baseline_ecef(&s));
+    answer(0x0202, &s);
     mode(navigation::baseline_fix(flags));
 }
 
 fn other_baselines(flags: u8) {
     let mut s = [0u8; 22];
     wire::store_u8(&mut s, 21, flags);
-    ned(navigation::read_baseline_ned(&s));
+    answer(0x0203, &s);
     wire::store_u8(&mut s, 9, flags);
-    heading(navigation::read_baseline_heading(front(&s, 10)));
-}
-
-fn ned(r: navigation::NedVectorRead) {
-    match r {
-        navigation::NedVectorRead::Record(_) => print::number(0),
-        navigation::NedVectorRead::Refused(n) => print::number(n as u64),
-    }
-}
-
-fn heading(r: navigation::BaselineHeadingRead) {
-    match r {
-        navigation::BaselineHeadingRead::Record(_) => print::number(0),
-        navigation::BaselineHeadingRead::Refused(n) => print::number(n as u64),
-    }
-}
-
-fn ecef(r: navigation::PosEcefRead) {
-    match r {
-        navigation::PosEcefRead::Record(_) => print::number(0),
-        navigation::PosEcefRead::Refused(n) => print::number(n as u64),
-    }
-}
-
-fn llh(r: navigation::PosLlhRead) {
-    match r {
-        navigation::PosLlhRead::Record(_) => print::number(0),
-        navigation::PosLlhRead::Refused(n) => print::number(n as u64),
-    }
-}
-
-fn vector(r: navigation::EcefVectorRead) {
-    match r {
-        navigation::EcefVectorRead::Record(_) => print::number(0),
-        navigation::EcefVectorRead::Refused(n) => print::number(n as u64),
-    }
+    answer(0x0207, front(&s, 10));
 }

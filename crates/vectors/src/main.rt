@@ -1,6 +1,6 @@
 // Runs published values and edge cases and prints what comes out; the file stdout beside src/ has the answers, worked out elsewhere.
-// answers.py works them out from documents 01 and 003, in Python, and looks at no code of ours. A module each: the CRC, numbers, doubles,
-// frames, messages, observations, walks, epochs. Nothing is proved here but that no call traps.
+// answers.py works them out from documents 01 and 003, in Python, and looks at no code of ours. What is proved here is that the program ends
+// and traps nowhere, not what it prints.
 mod answers;
 mod captures;
 mod checksums;

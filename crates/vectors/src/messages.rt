@@ -1,4 +1,5 @@
-// Every message with fields: a payload read, printed field by field, and written again as a frame.
+// Every message with fields, OBS and LOG excepted: a payload read, printed field by field, and written again as a frame.
+use crate::payload::front;
 use crate::print;
 use frames::Sender;
 use frames::Written;
@@ -16,21 +17,11 @@ use system::ReadByIndexReqRead;
 use system::StartupRead;
 
 // What was written: the frame, or the refusal.
-fn written(buf: &[u8], w: Written) {
+pub fn written(buf: &[u8], w: Written) {
     match w {
-        Written::Bytes(n) => {
-            if n <= buf.len() {
-                print::bytes(&buf[0..n]);
-            }
-        }
-        Written::Refused(n) => refused(n),
+        Written::Bytes(n) => print::bytes(front(buf, n)),
+        Written::Refused(n) => print::refused(n),
     }
-    print::end();
-}
-
-pub fn refused(n: u8) {
-    print::word(b" refused");
-    print::number(n as u64);
 }
 
 pub fn gps_time(s: &[u8]) {
@@ -44,11 +35,9 @@ pub fn gps_time(s: &[u8]) {
             let w = navigation::write_gps_time(&mut buf, Sender::Named(0x0201), r);
             written(&buf, w);
         }
-        GpsTimeRead::Refused(n) => {
-            refused(n);
-            print::end();
-        }
+        GpsTimeRead::Refused(n) => print::refused(n),
     }
+    print::end();
 }
 
 pub fn dops(s: &[u8]) {
@@ -69,11 +58,9 @@ pub fn dops(s: &[u8]) {
             let w = navigation::write_dops(&mut buf, Sender::Named(0x0201), r);
             written(&buf, w);
         }
-        DopsRead::Refused(n) => {
-            refused(n);
-            print::end();
-        }
+        DopsRead::Refused(n) => print::refused(n),
     }
+    print::end();
 }
 
 pub fn pos_ecef(s: &[u8]) {
@@ -87,11 +74,9 @@ pub fn pos_ecef(s: &[u8]) {
             let w = navigation::write_pos_ecef(&mut buf, Sender::Named(0x0201), r);
             written(&buf, w);
         }
-        PosEcefRead::Refused(n) => {
-            refused(n);
-            print::end();
-        }
+        PosEcefRead::Refused(n) => print::refused(n),
     }
+    print::end();
 }
 
 pub fn pos_llh(s: &[u8]) {
@@ -112,11 +97,9 @@ pub fn pos_llh(s: &[u8]) {
             let w = navigation::write_pos_llh(&mut buf, Sender::Named(0x0201), r);
             written(&buf, w);
         }
-        PosLlhRead::Refused(n) => {
-            refused(n);
-            print::end();
-        }
+        PosLlhRead::Refused(n) => print::refused(n),
     }
+    print::end();
 }
 
 pub fn baseline_ecef(s: &[u8]) {
@@ -130,11 +113,9 @@ pub fn baseline_ecef(s: &[u8]) {
             let w = navigation::write_baseline_ecef(&mut buf, Sender::Named(0x0201), r);
             written(&buf, w);
         }
-        EcefVectorRead::Refused(n) => {
-            refused(n);
-            print::end();
-        }
+        EcefVectorRead::Refused(n) => print::refused(n),
     }
+    print::end();
 }
 
 pub fn vel_ecef(s: &[u8]) {
@@ -148,11 +129,9 @@ pub fn vel_ecef(s: &[u8]) {
             let w = navigation::write_vel_ecef(&mut buf, Sender::Named(0x0201), r);
             written(&buf, w);
         }
-        EcefVectorRead::Refused(n) => {
-            refused(n);
-            print::end();
-        }
+        EcefVectorRead::Refused(n) => print::refused(n),
     }
+    print::end();
 }
 
 pub fn baseline_ned(s: &[u8]) {
@@ -173,11 +152,9 @@ pub fn baseline_ned(s: &[u8]) {
             let w = navigation::write_baseline_ned(&mut buf, Sender::Named(0x0201), r);
             written(&buf, w);
         }
-        NedVectorRead::Refused(n) => {
-            refused(n);
-            print::end();
-        }
+        NedVectorRead::Refused(n) => print::refused(n),
     }
+    print::end();
 }
 
 pub fn vel_ned(s: &[u8]) {
@@ -198,11 +175,9 @@ pub fn vel_ned(s: &[u8]) {
             let w = navigation::write_vel_ned(&mut buf, Sender::Named(0x0201), r);
             written(&buf, w);
         }
-        NedVectorRead::Refused(n) => {
-            refused(n);
-            print::end();
-        }
+        NedVectorRead::Refused(n) => print::refused(n),
     }
+    print::end();
 }
 
 pub fn baseline_heading(s: &[u8]) {
@@ -221,11 +196,9 @@ pub fn baseline_heading(s: &[u8]) {
             let w = navigation::write_baseline_heading(&mut buf, Sender::Named(0x0201), r);
             written(&buf, w);
         }
-        BaselineHeadingRead::Refused(n) => {
-            refused(n);
-            print::end();
-        }
+        BaselineHeadingRead::Refused(n) => print::refused(n),
     }
+    print::end();
 }
 
 pub fn base_pos_llh(s: &[u8]) {
@@ -237,11 +210,9 @@ pub fn base_pos_llh(s: &[u8]) {
             let w = observation::write_base_pos_llh(&mut buf, Sender::Named(0x0201), r);
             written(&buf, w);
         }
-        BasePosLlhRead::Refused(n) => {
-            refused(n);
-            print::end();
-        }
+        BasePosLlhRead::Refused(n) => print::refused(n),
     }
+    print::end();
 }
 
 pub fn base_pos_ecef(s: &[u8]) {
@@ -253,11 +224,9 @@ pub fn base_pos_ecef(s: &[u8]) {
             let w = observation::write_base_pos_ecef(&mut buf, Sender::Named(0x0201), r);
             written(&buf, w);
         }
-        BasePosEcefRead::Refused(n) => {
-            refused(n);
-            print::end();
-        }
+        BasePosEcefRead::Refused(n) => print::refused(n),
     }
+    print::end();
 }
 
 pub fn read_by_index_req(s: &[u8]) {
@@ -269,11 +238,9 @@ pub fn read_by_index_req(s: &[u8]) {
             let w = system::write_read_by_index_req(&mut buf, Sender::Named(0x0201), r);
             written(&buf, w);
         }
-        ReadByIndexReqRead::Refused(n) => {
-            refused(n);
-            print::end();
-        }
+        ReadByIndexReqRead::Refused(n) => print::refused(n),
     }
+    print::end();
 }
 
 pub fn startup(s: &[u8]) {
@@ -285,11 +252,9 @@ pub fn startup(s: &[u8]) {
             let w = system::write_startup(&mut buf, Sender::Named(0x0201), r);
             written(&buf, w);
         }
-        StartupRead::Refused(n) => {
-            refused(n);
-            print::end();
-        }
+        StartupRead::Refused(n) => print::refused(n),
     }
+    print::end();
 }
 
 pub fn heartbeat(s: &[u8]) {
@@ -301,9 +266,7 @@ pub fn heartbeat(s: &[u8]) {
             let w = system::write_heartbeat(&mut buf, Sender::Named(0x0201), r);
             written(&buf, w);
         }
-        HeartbeatRead::Refused(n) => {
-            refused(n);
-            print::end();
-        }
+        HeartbeatRead::Refused(n) => print::refused(n),
     }
+    print::end();
 }

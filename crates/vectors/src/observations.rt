@@ -1,10 +1,10 @@
 // OBS and its observations, the carrier phase, and LOG.
-use crate::messages::refused;
+use crate::messages;
 use crate::payload::front;
 use crate::payload::mixed;
 use crate::print;
+use crate::written;
 use frames::Sender;
-use frames::Written;
 use observation::Obs;
 use observation::ObsRead;
 use observation::Observation;
@@ -26,9 +26,9 @@ fn payloads(s: &[u8]) {
     obs(front(s, 39));
     obs(front(s, 247));
     obs(front(s, 263));
-    written(front(s, 39), 2);
-    written(front(s, 39), 15);
-    written(front(s, 39), 16);
+    rewritten(front(s, 39), 2);
+    rewritten(front(s, 39), 15);
+    rewritten(front(s, 39), 16);
     logs(s);
 }
 
@@ -42,7 +42,7 @@ fn obs(s: &[u8]) {
             print::number(o.n_obs as u64);
             print::number(o.count as u64);
         }
-        ObsRead::Refused(n) => refused(n),
+        ObsRead::Refused(n) => print::refused(n),
     }
     print::end();
     entry(s, 0);
@@ -51,22 +51,31 @@ fn obs(s: &[u8]) {
     entry(s, 15);
 }
 
-fn entry(s: &[u8], i: usize) {
-    print::word(b"observation");
-    print::number(i as u64);
-    match observation::read_observation(s, i) {
+// An observation's fields, or the refusal.
+pub fn say(answer: ObservationRead) {
+    match answer {
         ObservationRead::Record(o) => {
             print::number(o.p as u64);
             print::signed_32(o.l_i);
-            print::number(o.l_f as u64);
-            print::number(o.cn0 as u64);
-            print::number(o.lock as u64);
-            print::number(o.sat as u64);
-            print::number(o.code as u64);
-            print::number(o.reserved as u64);
+            print::row(
+                &[
+                    o.l_f as u64,
+                    o.cn0 as u64,
+                    o.lock as u64,
+                    o.sat as u64,
+                    o.code as u64,
+                    o.reserved as u64,
+                ],
+            );
         }
-        ObservationRead::Refused(n) => refused(n),
+        ObservationRead::Refused(n) => print::refused(n),
     }
+}
+
+fn entry(s: &[u8], i: usize) {
+    print::word(b"observation");
+    print::number(i as u64);
+    say(observation::read_observation(s, i));
     print::end();
 }
 
@@ -91,14 +100,14 @@ fn or_nothing(r: ObservationRead) -> Observation {
 }
 
 // The first two observations of a payload, and zeros after them, written again with a count.
-fn written(s: &[u8], count: u8) {
+fn rewritten(s: &[u8], count: u8) {
     let mut entries = [nothing(); 15];
     entries[0] = or_nothing(observation::read_observation(s, 0));
     entries[1] = or_nothing(observation::read_observation(s, 1));
     print::word(b"write-obs");
     match observation::read_obs(s) {
         ObsRead::Record(o) => again(o, entries, count),
-        ObsRead::Refused(n) => refused(n),
+        ObsRead::Refused(n) => print::refused(n),
     }
     print::end();
 }
@@ -116,10 +125,7 @@ fn again(o: Obs, entries: [Observation; 15], count: u8) {
         },
         entries,
     );
-    match w {
-        Written::Bytes(n) => print::bytes(front(&buf, n)),
-        Written::Refused(n) => refused(n),
-    }
+    messages::written(&buf, w);
 }
 
 fn phases() {
@@ -158,7 +164,7 @@ fn parts(z: i64) {
             print::signed_32(p.l_i);
             print::number(p.l_f as u64);
         }
-        PhaseParts::Refused(n) => refused(n),
+        PhaseParts::Refused(n) => print::refused(n),
     }
     print::end();
 }
@@ -189,7 +195,7 @@ fn log(s: &[u8]) {
             print::number(r.length as u64);
             print::bytes(system::log_text(s));
         }
-        LogRead::Refused(n) => refused(n),
+        LogRead::Refused(n) => print::refused(n),
     }
     print::end();
 }
@@ -198,10 +204,7 @@ fn log(s: &[u8]) {
 fn log_into(buf: &mut [u8], text: &[u8]) {
     print::word(b"write-log");
     print::number(text.len() as u64);
-    match system::write_log(buf, Sender::Unnamed, 6, text) {
-        Written::Bytes(n) => print::number(n as u64),
-        Written::Refused(n) => refused(n),
-    }
+    written::told(system::write_log(buf, Sender::Unnamed, 6, text));
     print::bytes(buf);
     print::end();
 }

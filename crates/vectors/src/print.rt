@@ -1,6 +1,11 @@
-// Words, numbers and bytes on standard output, each after a space but the first.
+// On standard output: words as they are, numbers and bytes after a space.
 pub fn word(text: &[u8]) {
     io::write_all(1, text);
+}
+
+pub fn refused(n: u8) {
+    word(b" refused");
+    number(n as u64);
 }
 
 pub fn end() {

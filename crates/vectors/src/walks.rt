@@ -1,12 +1,11 @@
 // The observation reader: a sender's observations in a capture, one question after the other, some of them past the last.
+use crate::observations;
 use crate::payload::front;
 use crate::payload::mixed;
+use crate::payload::put_obs;
 use crate::print;
 use frames::Cursor;
 use frames::Next;
-use frames::Sender;
-use frames::Written;
-use observation::ObservationRead;
 
 pub fn run() {
     let s = mixed(3, 37);
@@ -18,11 +17,11 @@ pub fn run() {
 
 // Frames of a base and of the rover that it relays as sender 0, one of them of a wrong length.
 fn filled(buf: &mut [u8], s: &[u8], t: &[u8]) -> usize {
-    let mut at = put(buf, 0, 0, front(s, 39));
-    at = put(buf, at, 1228, front(t, 39));
-    at = put(buf, at, 0, front(s, 8));
-    at = put(buf, at, 0, front(s, 7));
-    put(buf, at, 0, front(t, 55))
+    let mut at = put_obs(buf, 0, 0, front(s, 39));
+    at = put_obs(buf, at, 1228, front(t, 39));
+    at = put_obs(buf, at, 0, front(s, 8));
+    at = put_obs(buf, at, 0, front(s, 7));
+    put_obs(buf, at, 0, front(t, 55))
 }
 
 fn frame_by_frame(s: &[u8]) {
@@ -31,16 +30,6 @@ fn frame_by_frame(s: &[u8]) {
     cursor = on(cursor, s);
     cursor = on(cursor, s);
     on(cursor, s);
-}
-
-fn put(buf: &mut [u8], at: usize, sender: u16, payload: &[u8]) -> usize {
-    if buf.len() <= at {
-        return at;
-    }
-    match frames::write_frame(&mut buf[at..], 0x0049, Sender::Named(sender), payload) {
-        Written::Bytes(n) => std::num::wrapping_add_usize(at, n),
-        Written::Refused(_) => at,
-    }
 }
 
 // The next frame, walked through where it is the rover's.
@@ -71,31 +60,8 @@ fn walk(payload: &[u8]) {
 fn ask(payload: &[u8], place: usize) -> usize {
     let step = obs_reader::step_from(payload, place);
     let answer = step.answer;
-    say(answer);
+    observations::say(answer);
     print::word(b" at");
     print::number(step.place as u64);
     step.place
-}
-
-fn say(answer: ObservationRead) {
-    match answer {
-        ObservationRead::Record(o) => {
-            print::number(o.p as u64);
-            print::signed_32(o.l_i);
-            print::row(
-                &[
-                    o.l_f as u64,
-                    o.cn0 as u64,
-                    o.lock as u64,
-                    o.sat as u64,
-                    o.code as u64,
-                    o.reserved as u64,
-                ],
-            );
-        }
-        ObservationRead::Refused(n) => {
-            print::word(b" refused");
-            print::number(n as u64);
-        }
-    }
 }

@@ -1,4 +1,6 @@
 // Frames written and read back: every length, every cut, and the writer's refusals.
+use crate::captures;
+use crate::payload::front;
 use crate::payload::mixed;
 use crate::print;
 use frames::Cursor;
@@ -17,32 +19,21 @@ pub fn run() {
     refusals();
 }
 
-fn told(w: Written) {
+// How many bytes were written, or the refusal.
+pub fn told(w: Written) {
     match w {
         Written::Bytes(n) => print::number(n as u64),
-        Written::Refused(n) => {
-            print::word(b" refused");
-            print::number(n as u64);
-        }
+        Written::Refused(n) => print::refused(n),
     }
-}
-
-// A frame of the first n payload bytes.
-fn write(buf: &mut [u8], kind: u16, sender: Sender, payload: &[u8], n: usize) -> Written {
-    if payload.len() < n {
-        return Written::Refused(0);
-    }
-    frames::write_frame(buf, kind, sender, &payload[0..n])
 }
 
 // A frame of n payload bytes: what was written, its CRC bytes, and whether the step there finds it whole.
 fn length(n: usize) {
     let payload = mixed(n, 3);
     let mut buf = [0xeeu8; 300];
-    let w = write(&mut buf, 0x1234, Sender::Named(0x5678), &payload, n);
     print::word(b"length");
     print::number(n as u64);
-    told(w);
+    told(frames::write_frame(&mut buf, 0x1234, Sender::Named(0x5678), front(&payload, n)));
     print::hex(
         wire::read_u16(&buf, std::num::wrapping_add_usize(n, 6)) as u64,
         4,
@@ -63,7 +54,7 @@ fn cuts() {
     let payload = mixed(255, 3);
     let mut buf = [0u8; 263];
     print::word(b"write 255-into-263");
-    told(write(&mut buf, 0x1234, Sender::Unnamed, &payload, 255));
+    told(frames::write_frame(&mut buf, 0x1234, Sender::Unnamed, front(&payload, 255)));
     print::end();
     each_cut(&buf);
 }
@@ -90,28 +81,22 @@ fn cut(s: &[u8]) {
             print::number(n as u64);
         }
     }
-    let t = frames::totals(s);
-    print::number(t.framed as u64);
-    print::number(t.junk as u64);
-    print::number(t.bad as u64);
-    print::number(t.short as u64);
+    captures::counts(frames::totals(s));
     print::end();
 }
 
-// 31 before 32, and nothing written by either.
+// 31 before 32, and nothing written by either; then a frame that fits.
 fn refusals() {
     let payload = mixed(7, 3);
     let mut buf = [0x11u8; 12];
-    print::word(b"write 5-into-12");
-    told(write(&mut buf, 1, Sender::Unnamed, &payload, 5));
-    print::bytes(&buf);
-    print::end();
-    print::word(b"write 256-into-12");
-    told(write(&mut buf, 1, Sender::Unnamed, &payload, 256));
-    print::bytes(&buf);
-    print::end();
-    print::word(b"write 3-into-12");
-    told(write(&mut buf, 0x0102, Sender::Unnamed, &payload, 3));
-    print::bytes(&buf);
+    tried(b"write 5-into-12", &mut buf, front(&payload, 5));
+    tried(b"write 256-into-12", &mut buf, front(&payload, 256));
+    tried(b"write 3-into-12", &mut buf, front(&payload, 3));
+}
+
+fn tried(name: &[u8], buf: &mut [u8], payload: &[u8]) {
+    print::word(name);
+    told(frames::write_frame(buf, 0x0102, Sender::Unnamed, payload));
+    print::bytes(buf);
     print::end();
 }
