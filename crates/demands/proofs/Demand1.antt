@@ -35,10 +35,11 @@ use Rattle.epochs.specs.declared.collating.Happened.the-variants as H
 use Rattle.epochs.proofs.Feeding.{refused-keeps}
 use Rattle.epochs.proofs.Captures.{collated-refused}
 use Rattle.text.specs.Line.{laid}
+use Rattle.text.proofs.Pending.{laid-unfit}
 use Rattle.listing.specs.Listing.{textOf, listAnswer, listedAs, listed}
 use Rattle.demands.specs.Order.{lineFor, readingAny, reading, readingObs, readingLog, oneObservation, writingBytes, writing, writingObs, listing, phaseRange, rostering, asMade, feeding, forPlace, asJudged}
 use Rattle.demands.proofs.Order.{looks-up-ordered, reads-ordered, reads-obs-ordered, reads-log-ordered, reads-entry-ordered, plans-ordered, writes-ordered, writes-obs-ordered, lists-ordered, phase-ordered, made-ordered, judged-ordered}
-use Rattle.demands.proofs.Refused.{record-unwritten, obs-unwritten, line-unwritten, nobody-listed}
+use Rattle.demands.proofs.Refused.{record-unwritten, obs-unwritten, nobody-listed}
 
 -- "a roster, payload, index or buffer that doesn't fit is refused by number"
 pub record RefusedByNumber : Type 1 where
@@ -126,7 +127,7 @@ writes-nothing = record {
   refused-obs = λ sender o entries buf n fifteen e. obs-unwritten sender o entries buf fifteen e;
   refused-bytes = λ kind sender payload buf n e. framed-unfit kind sender payload buf e;
   refused-listing = λ s buf n e. ap (λ (a : Answer ℕ). listedAs a s buf) e;
-  unfit-line = line-unwritten;
+  unfit-line = laid-unfit;
 }
 
 moves-no-state : MovesNoState

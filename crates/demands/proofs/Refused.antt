@@ -1,14 +1,13 @@
--- A refused writer leaves the buffer as it was, so does a line without room, and a refused roster makes a collator that refuses every frame and never moves.
--- Assumes nothing.
+-- A refused writer leaves the buffer as it was, and a refused roster makes a collator that refuses every frame and never moves. Assumes nothing.
 use mathlib.Core.Path.{_≡_, refl, sym, ap, _∙_}
 use mathlib.Core.Bool.{Bool, true, false, cond}
 use mathlib.Core.List.{List, []}
 use mathlib.Core.Logic.{_⊎_, inl, inr}
-use Prim.Native.Nat.{ℕ, _+_, _<_}
+use Prim.Native.Nat.{ℕ}
 use native.Mathlib.Omega.{arith}
 use lib.Dec.{eqb, leb}
 use lib.ListN.{length}
-use borrow.Author.Tests.{leb-true, leb-false, lt-leb}
+use borrow.Author.Tests.{leb-true, leb-false}
 use Rattle.wire.specs.Field.{allowedRow}
 use Rattle.wire.specs.Message.{Answer, given, refused, Message}
 use Rattle.wire.specs.Tests.{ordered}
@@ -27,7 +26,6 @@ use Rattle.epochs.specs.declared.collating.Collator.{Collator}
 use Rattle.epochs.specs.declared.collating.Made.{Made}
 use Rattle.epochs.specs.declared.collating.Happened.the-variants as H
 use Rattle.epochs.proofs.Feeding.{fed-refused}
-use Rattle.text.specs.Line.{laid}
 use Rattle.listing.proofs.EpochLines.{nobody-moves}
 use Rattle.demands.specs.Order.{rostering, asMade, asJudged}
 use Rattle.demands.proofs.Order.{made-ordered, judged-ordered}
@@ -51,12 +49,6 @@ obs-unwritten sender o entries buf fifteen e = by (leb (o .count) 15) refl
         let few = leb-true (o .count) 15 q in
         sym (obs.wrote-nothing sender o entries buf few (omega arith) refl (sym (obs.answer-planned o (length buf) few) ∙ e) .1)
     by false q = sym (obs.wrote-31 sender o entries buf (leb-false (o .count) 15 q) .1)
-
--- ---- a line that has no room
-
-pub line-unwritten : (buf : List ℕ) (at : ℕ) (text : List ℕ) → length buf < at + length text → laid buf at text ≡ buf
-unfolding laid
-line-unwritten buf at text h = rw (lt-leb (at + length text) (length buf) h)
 
 -- ---- a refused roster
 
