@@ -10,7 +10,7 @@ use lib.ListN.{length, replicate}
 use Rattle.wire.specs.Message.{given, refused}
 use Rattle.observation.specs.Layout.{first, fitting, countIn}
 use Rattle.observation.specs.Obs.{entryAt, readEntry, entriesFrom}
-use Rattle.observation.proofs.Payloads.{entry-22, entry-25, entry-given}
+use Rattle.observation.proofs.Payloads.{entry-22, entry-25, entry-given, length-entries}
 use Rattle.obs_reader.specs.Walk.{answers, standing, Walk, observationsIn, pastThem}
 use Rattle.obs_reader.proofs.Places.{stays, before-the-last}
 
@@ -25,7 +25,7 @@ refused-again s i e (suc n) =
 -- over a payload of a right length: the n observations from place i on, and then 25
 pub walk-from : (s : List ℕ) → fitting first (length s) ≡ true → (n i : ℕ) → i + n ≡ countIn first (length s) → (more : ℕ)
     → Walk (n + more) s i (map given (entriesFrom n i s) ++ replicate more (refused 25)) (countIn first (length s))
-unfolding answers standing entriesFrom
+unfolding answers standing
 walk-from s fits zero i e more =
     let rest = refused-again s i (entry-25 s i fits (omega arith)) more in
     subst (λ (k : ℕ). Walk k s i (replicate more (refused 25)) (countIn first (length s))) (sym (zero-add more)) (record { told = rest .told; stands = rest .stands ∙ (omega arith) })
@@ -38,14 +38,7 @@ walk-from s fits (suc n) i e more =
       stands = ap (standing (n + more) s) moved ∙ rest .stands;
     })
 
--- ---- any payload
-
-length-entries : (n i : ℕ) (s : List ℕ) → length (entriesFrom n i s) ≡ n
-unfolding entriesFrom
-length-entries zero i s = refl
-length-entries (suc n) i s = ap suc (length-entries n (suc i) s)
-
--- the observations in order, each once; then 25 for good, or 22 where the length is wrong; and the reader stands behind the last
+-- over any payload: the observations in order, each once; then 25 for good, or 22 where the length is wrong; and the reader stands behind the last
 pub whole-walk : (s : List ℕ) (more : ℕ)
     → Walk (length (observationsIn s) + more) s 0 (map given (observationsIn s) ++ replicate more (pastThem s)) (length (observationsIn s))
 unfolding observationsIn pastThem

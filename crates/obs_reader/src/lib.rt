@@ -43,7 +43,7 @@ pub fn made<'a>(payload: &'a [u8]) -> ObsReader<'a>
     made_at(payload, 0)
 }
 
-// The observation at the reader's place, and the reader moves on: 25 past the last and 22 over no OBS, and it stays.
+// The observation at the reader's place, and the reader moves on. It stays on a refusal: 22 where the payload is no OBS, then 25 past the last.
 pub fn next<'s, 'a>(reader: &'s mut ObsReader<'a>) -> ObservationRead
     ensures { λ r. ⌜ (entryAnswer r ≡ readEntry (now (now (reader .entry) .payload)) (now (reader .entry) .place)) × (now (reader .exit) ≡ asked (now (reader .entry))) ⌝ }
 {

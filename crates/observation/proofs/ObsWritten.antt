@@ -16,8 +16,8 @@ use Rattle.wire.proofs.Fields.{length-encode, row-sets}
 use Rattle.frames.specs.Writer.{planned, sealed, framed}
 use Rattle.frames.proofs.WrittenPlan as plans
 use Rattle.frames.proofs.Written.{writes, framed-unfit}
-use Rattle.observation.specs.Layout.{first, startOf}
-use Rattle.observation.specs.Obs.{head, observation, readEntry, readObs, entriesBytes, obsPayload}
+use Rattle.observation.specs.Layout.{first, startOf, rowsBytes}
+use Rattle.observation.specs.Obs.{head, observation, readEntry, readObs, obsPayload}
 use Rattle.observation.specs.ObsWriter.{headOf, payloadFor, obsWriteAnswer, obsWritten}
 use Rattle.observation.specs.declared.entry.Observation.{Observation}
 use Rattle.observation.specs.declared.obs.Obs.{Obs}
@@ -53,13 +53,13 @@ module _ (o : Obs) (entries : List Observation) (enough : o .count ≤ length en
   counted = length-take-le (o .count) entries enough
 
   length-written : length (payloadFor o entries) ≡ sizeFor o
-  length-written = omega (arith, length-payload (headOf o) (take (o .count) entries), counted)
+  length-written = length-payload (headOf o) (take (o .count) entries) ∙ ap (startOf first) counted
 
 -- ---- the ways through the writer
 
 module _ (sender : ℕ) (o : Obs) (entries : List Observation) (buf : List ℕ) where
   -- what it answers, and the buffer as it leaves it
-  abbrev pub Wrote : Answer ℕ → List ℕ → Type 0
+  abbrev Wrote : Answer ℕ → List ℕ → Type 0
   Wrote a u = (a ≡ obsWriteAnswer o (length buf)) × (u ≡ obsWritten sender o entries buf)
 
   -- too many observations: nothing is written
@@ -73,11 +73,11 @@ module _ (sender : ℕ) (o : Obs) (entries : List Observation) (buf : List ℕ) 
 
   -- the header and then the observations stored are the payload stored
   stored-payload : 13 ≤ length buf → {s t : List ℕ} → s ≡ rowStored (head .fields) (head .row (headOf o)) buf 6
-      → t ≡ sets s 13 (entriesBytes (take (o .count) entries)) → t ≡ sets buf 6 (payloadFor o entries)
+      → t ≡ sets s 13 (rowsBytes observation (take (o .count) entries)) → t ≡ sets buf 6 (payloadFor o entries)
   unfolding obsPayload
   stored-payload room p q =
       let v = head .row (headOf o) in
-      let os = entriesBytes (take (o .count) entries) in
+      let os = rowsBytes observation (take (o .count) entries) in
       q ∙ ap₂ (λ (s : List ℕ) (i : ℕ). sets s i os) (p ∙ row-sets (head .fields) v buf 6 room) (ap (λ (n : ℕ). 6 + n) (sym (length-encode (head .fields) v)))
       ∙ sym (sets-append buf 6 (encode (head .fields) v) os)
 
@@ -94,7 +94,7 @@ module _ (sender : ℕ) (o : Obs) (entries : List Observation) (buf : List ℕ) 
 
     -- the header and the observations stored, then sealed
     pub wrote : {n : ℕ} {s t u : List ℕ} → planned (sizeFor o) (length buf) ≡ given n → s ≡ rowStored (head .fields) (head .row (headOf o)) buf 6
-        → t ≡ sets s 13 (entriesBytes (take (o .count) entries)) → u ≡ sealed (first .kind) sender (sizeFor o) t → Wrote a u
+        → t ≡ sets s 13 (rowsBytes observation (take (o .count) entries)) → u ≡ sealed (first .kind) sender (sizeFor o) t → Wrote a u
     wrote {t = t} g p q r =
         let room = plans.fits (sizeFor o) (length buf) g in
         let closed = r ∙ ap (λ (n : ℕ). sealed (first .kind) sender n t) (sym (length-written o entries enough)) in

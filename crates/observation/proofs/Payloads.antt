@@ -1,8 +1,8 @@
 -- A whole OBS payload: what a reading of it answers, and both round trips. Assumes nothing.
 use mathlib.Core.Path.{_≡_, refl, sym, ap, ap₂, _∙_}
 use mathlib.Core.Bool.{Bool, true, false}
-use mathlib.Core.List.{List, [], _∷_, _++_}
-use Prim.Native.Nat.{ℕ, zero, suc, _+_, _*_, _≤_, _<_}
+use mathlib.Core.List.{List, _++_}
+use Prim.Native.Nat.{ℕ, _+_, _*_, _≤_, _<_}
 use native.Mathlib.Omega.{arith}
 use lib.Dec.{lit<}
 use lib.ListN.{length, getD, take, drop, length-drop, take-append-drop}
@@ -12,16 +12,16 @@ use mir.Syntax.{w32}
 use Rattle.wire.specs.Number.{Bytes, little, numberAt}
 use Rattle.wire.specs.Field.{HeldRow, SettledRow, encode, decode}
 use Rattle.wire.specs.Message.{given, refused}
+use Rattle.wire.proofs.Answers.{same-given, never-both, passed, failed}
 use Rattle.wire.proofs.Numbers.{bytes-take}
 use Rattle.wire.proofs.Fields.{signed-settled, length-encode, decode-encode, encode-decode}
-use Rattle.observation.specs.Layout.{first, fitting, countIn}
-use Rattle.observation.specs.Obs.{Head, head, observation, entryAt, readEntry, obsIn, readObs, entriesBytes, obsPayload, entriesFrom}
+use Rattle.observation.specs.Layout.{first, fitting, countIn, startOf, rowsBytes}
+use Rattle.observation.specs.Obs.{Head, head, observation, entryAt, readEntry, obsIn, readObs, obsPayload, entriesFrom}
 use Rattle.observation.specs.ObsWriter.{headOf}
 use Rattle.observation.specs.declared.entry.Observation.{Observation}
 use Rattle.observation.specs.declared.obs.Obs.{Obs}
-use Rattle.wire.proofs.Answers.{same-given, never-both, passed, failed}
 use Rattle.observation.proofs.Layouts.{whole}
-use Rattle.observation.proofs.Rows.{rowsBytes, rowsFrom, length-behind, count-behind, fitting-behind, row-back, rows-back, rows-again}
+use Rattle.observation.proofs.Rows.{length-from, length-behind, count-behind, fitting-behind, row-back, rows-back, rows-again}
 
 -- ---- reading, by cases
 
@@ -52,19 +52,8 @@ module _ (s : List ℕ) where
 abbrev headBytes : Head → List ℕ
 headBytes h = encode (head .fields) (head .row h)
 
-pub entries-bytes : (os : List Observation) → entriesBytes os ≡ rowsBytes observation os
-unfolding entriesBytes
-entries-bytes [] = refl
-entries-bytes (o ∷ os) = ap (λ (t : List ℕ). encode (observation .fields) (observation .row o) ++ t) (entries-bytes os)
-
-entries-from : (n i : ℕ) (s : List ℕ) → entriesFrom n i s ≡ rowsFrom first observation n i s
-unfolding entriesFrom
-entries-from zero i s = refl
-entries-from (suc n) i s = ap (λ (os : List Observation). entryAt s i ∷ os) (entries-from n (suc i) s)
-
-payload-rows : (h : Head) (os : List Observation) → obsPayload h os ≡ headBytes h ++ rowsBytes observation os
-unfolding obsPayload
-payload-rows h os = ap (λ (t : List ℕ). headBytes h ++ t) (entries-bytes os)
+pub length-entries : (n i : ℕ) (s : List ℕ) → length (entriesFrom n i s) ≡ n
+length-entries = length-from first observation refl
 
 -- a number that stands within the front of a list
 number-front : (w : ℕ) (s t : List ℕ) (at : ℕ) → at + w ≤ length s → numberAt w (s ++ t) at ≡ numberAt w s at
@@ -87,49 +76,43 @@ module _ (h : Head) (os : List Observation) where
   headed : length (headBytes h) ≡ 7
   headed = length-encode (head .fields) (head .row h)
 
-  pub length-payload : length (obsPayload h os) ≡ 7 + 16 * length os
-  length-payload =
-      let rows : length (headBytes h ++ rowsBytes observation os) ≡ 7 + length os * 16 = length-behind first observation refl (headBytes h) headed os in
-      ap length (payload-rows h os) ∙ rows ∙ (omega arith)
+  pub length-payload : length (obsPayload h os) ≡ startOf first (length os)
+  unfolding obsPayload
+  length-payload = length-behind first observation refl (headBytes h) headed os
 
   pub count-payload : countIn first (length (obsPayload h os)) ≡ length os
-  count-payload =
-      ap (λ (s : List ℕ). countIn first (length s)) (payload-rows h os)
-      ∙ count-behind first observation refl (headBytes h) headed os (lit< tt)
+  unfolding obsPayload
+  count-payload = count-behind first observation refl (headBytes h) headed os (lit< tt)
 
   module _ (few : length os ≤ 15) where
     pub fitting-payload : fitting first (length (obsPayload h os)) ≡ true
-    fitting-payload =
-        ap (λ (s : List ℕ). fitting first (length s)) (payload-rows h os)
-        ∙ fitting-behind first observation refl (headBytes h) headed os (lit< tt) few
+    unfolding obsPayload
+    fitting-payload = fitting-behind first observation refl (headBytes h) headed os (lit< tt) few
 
     -- the header comes back, with the number of observations
     pub reads-obs : HeldRow (head .fields) (head .row h)
         → readObs (obsPayload h os) ≡ given (record { tow = h .tow; wn = h .wn; «n_obs» = h .nObs; count = length os })
+    unfolding obsPayload
     reads-obs held =
         let back : decode (head .fields) (obsPayload h os) 0 ≡ head .row h
-        = ap (λ (s : List ℕ). decode (head .fields) s 0) (payload-rows h os)
-        ∙ head-front (headBytes h) (rowsBytes observation os) (omega (arith, headed))
-        ∙ decode-encode (head .fields) (head .row h) held in
+        = head-front (headBytes h) (rowsBytes observation os) (omega (arith, headed)) ∙ decode-encode (head .fields) (head .row h) held in
         obs-given (obsPayload h os) fitting-payload
         ∙ (λ j. given (record { tow = back j .0; wn = back j .1 .0; «n_obs» = back j .1 .1 .0; count = count-payload j }))
 
     -- each observation comes back, at any default
     pub reads-entry : (i : ℕ) (d : Observation) → i < length os → HeldRow (observation .fields) (observation .row (getD os i d))
         → readEntry (obsPayload h os) i ≡ given (getD os i d)
+    unfolding obsPayload
     reads-entry i d within held =
         entry-given (obsPayload h os) i fitting-payload (rw count-payload within)
-        ∙ ap given
-        (ap (λ (s : List ℕ). entryAt s i) (payload-rows h os)
-        ∙ row-back first observation refl (headBytes h) headed os i d within (held, settled (getD os i d) held))
+        ∙ ap given (row-back first observation refl (headBytes h) headed os i d within (held, settled (getD os i d) held))
 
   -- all of them together
   pub reads-entries : (d : Observation) → ((i : ℕ) → i < length os → HeldRow (observation .fields) (observation .row (getD os i d)))
       → entriesFrom (length os) 0 (obsPayload h os) ≡ os
+  unfolding obsPayload
   reads-entries d held =
-      entries-from (length os) 0 (obsPayload h os)
-      ∙ ap (rowsFrom first observation (length os) 0) (payload-rows h os)
-      ∙ rows-back first observation refl (headBytes h) headed os d (λ i within. (held i within, settled (getD os i d) (held i within)))
+      rows-back first observation refl (headBytes h) headed os d (λ i within. (held i within, settled (getD os i d) (held i within)))
 
 -- ---- read and written
 
@@ -147,14 +130,12 @@ module _ (s : List ℕ) (bytes : Bytes s) where
 
   -- what a payload of a right length reads as, written again, is the payload
   fitting-back : fitting first (length s) ≡ true → obsPayload (headIn s) (entriesFrom (countIn first (length s)) 0 s) ≡ s
+  unfolding obsPayload
   fitting-back e =
       let n = countIn first (length s) in
       let size : length s ≡ 7 + n * 16 = whole first (length s) e .0 in
       let all : length (drop 7 s) ≤ n * 16 = rw length-drop (omega arith) in
-      payload-rows (headIn s) (entriesFrom n 0 s)
-      ∙ ap₂ _++_
-      (head-again (omega arith))
-      (ap (rowsBytes observation) (entries-from n 0 s) ∙ rows-again first observation refl n 0 s bytes (omega arith) ∙ take-all (n * 16) (drop 7 s) all)
+      ap₂ _++_ (head-again (omega arith)) (rows-again first observation refl n 0 s bytes (omega arith) ∙ take-all (n * 16) (drop 7 s) all)
       ∙ take-append-drop 7 s
 
   -- and so is an accepted one, from the reader's own answer

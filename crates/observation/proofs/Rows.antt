@@ -13,25 +13,11 @@ use Rattle.wire.specs.Field.{HeldRow, SettledRow, size, encode, decode}
 use Rattle.wire.specs.Message.{Message}
 use Rattle.wire.proofs.Numbers.{bytes-take, bytes-drop}
 use Rattle.wire.proofs.Fields.{again-settled, length-encode, decode-encode, encode-decode}
-use Rattle.observation.specs.Layout.{Layout, fitting, countIn, startOf}
+use Rattle.observation.specs.Layout.{Layout, fitting, countIn, startOf, rowAt, rowsFrom, rowsBytes}
 use Rattle.observation.proofs.Layouts.{count, fits}
 
--- the bytes of some rows
-abbrev pub rowsBytes : {R : Type 0} → Message R → List R → List ℕ
-rowsBytes m [] = []
-rowsBytes m (r ∷ rs) = encode (m .fields) (m .row r) ++ rowsBytes m rs
-
--- row i of a payload
-abbrev pub rowAt : {R : Type 0} → Layout → Message R → List ℕ → ℕ → R
-rowAt l m s i = m .make (decode (m .fields) (take (l .each) (drop (startOf l i) s)) 0)
-
--- n rows of a payload from the ith on
-abbrev pub rowsFrom : {R : Type 0} → Layout → Message R → ℕ → ℕ → List ℕ → List R
-rowsFrom l m zero i s = []
-rowsFrom l m (suc n) i s = rowAt l m s i ∷ rowsFrom l m n (suc i) s
-
 -- a record that comes back whole: its type holds it, and its own bits stand for it
-abbrev pub Kept : {R : Type 0} → Message R → R → Type 0
+abbrev Kept : {R : Type 0} → Message R → R → Type 0
 Kept m r = HeldRow (m .fields) (m .row r) × SettledRow (m .fields) (m .row r)
 
 module _ {R : Type 0} (l : Layout) (m : Message R) (sized : size (m .fields) ≡ l .each) where
@@ -40,7 +26,7 @@ module _ {R : Type 0} (l : Layout) (m : Message R) (sized : size (m .fields) ≡
   one-length : (r : R) → length (encode (m .fields) (m .row r)) ≡ l .each
   one-length r = length-encode (m .fields) (m .row r) ∙ sized
 
-  pub length-rows : (rs : List R) → length (rowsBytes m rs) ≡ length rs * l .each
+  length-rows : (rs : List R) → length (rowsBytes m rs) ≡ length rs * l .each
   length-rows [] = sym (zero-mul (l .each))
   length-rows (r ∷ rs) =
       length-append (encode (m .fields) (m .row r)) (rowsBytes m rs)
@@ -62,7 +48,7 @@ module _ {R : Type 0} (l : Layout) (m : Message R) (sized : size (m .fields) ≡
 
   -- ---- read
 
-  length-from : (n i : ℕ) (s : List ℕ) → length (rowsFrom l m n i s) ≡ n
+  pub length-from : (n i : ℕ) (s : List ℕ) → length (rowsFrom l m n i s) ≡ n
   length-from zero i s = refl
   length-from (suc n) i s = ap suc (length-from n (suc i) s)
 

@@ -12,7 +12,7 @@ use Rattle.wire.specs.Field.{Row, size, encode, rowStored}
 use Rattle.wire.specs.Message.{Message}
 use Rattle.wire.proofs.Numbers.{sets-append, sets-lent}
 use Rattle.wire.proofs.Fields.{length-encode, row-sets}
-use Rattle.observation.proofs.Rows.{rowsBytes}
+use Rattle.observation.specs.Layout.{rowsBytes}
 
 -- where row i goes, the first at some place
 abbrev rowPlace : {R : Type 0} → Message R → ℕ → ℕ → ℕ

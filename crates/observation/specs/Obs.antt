@@ -1,13 +1,13 @@
 -- OBS, 0x0049: tow u32, wn u16, n_obs u8, then k observations. Assumes nothing.
-use Prim.Native.Nat.{ℕ, zero, suc}
+use Prim.Native.Nat.{ℕ}
 use mathlib.Core.Path.{refl}
 use mathlib.Core.Bool.{cond}
 use mathlib.Core.List.{List, [], _∷_, _++_}
 use lib.Dec.{ltb}
-use lib.ListN.{length, take, drop}
+use lib.ListN.{length}
 use Rattle.wire.specs.Field.{any, u8, u16, u32, s32, encode, decode}
 use Rattle.wire.specs.Message.{Answer, given, refused, Message}
-use Rattle.observation.specs.Layout.{first, fitting, countIn, startOf}
+use Rattle.observation.specs.Layout.{first, fitting, countIn, rowAt, rowsFrom, rowsBytes}
 use Rattle.observation.specs.declared.entry.Observation.{Observation}
 use Rattle.observation.specs.declared.entry.ObservationRead.{ObservationRead}
 use Rattle.observation.specs.declared.entry.ObservationRead.the-variants as entry
@@ -47,7 +47,7 @@ observation = record {
 
 -- observation i of a payload
 abbrev pub entryAt : List ℕ → ℕ → Observation
-entryAt s i = observation .make (decode (observation .fields) (take (first .each) (drop (startOf first i) s)) 0)
+entryAt = rowAt first observation
 
 -- 22 for the payload's length, then 25 for an index at or past k
 unfoldable pub readEntry : List ℕ → ℕ → Answer Observation
@@ -72,17 +72,10 @@ abbrev pub obsAnswer : ObsRead → Answer Obs
 obsAnswer (obs.Record r) = given r
 obsAnswer (obs.Refused n) = refused n
 
--- the bytes of some observations, one after the other
-unfoldable pub entriesBytes : List Observation → List ℕ
-entriesBytes [] = []
-entriesBytes (o ∷ os) = encode (observation .fields) (observation .row o) ++ entriesBytes os
-
 -- the payload of a header and its observations
 unfoldable pub obsPayload : Head → List Observation → List ℕ
-unfolding entriesBytes
-obsPayload h os = encode (head .fields) (head .row h) ++ entriesBytes os
+obsPayload h os = encode (head .fields) (head .row h) ++ rowsBytes observation os
 
 -- the observations of a payload, n of them from the ith on
-unfoldable pub entriesFrom : ℕ → ℕ → List ℕ → List Observation
-entriesFrom zero i s = []
-entriesFrom (suc n) i s = entryAt s i ∷ entriesFrom n (suc i) s
+abbrev pub entriesFrom : ℕ → ℕ → List ℕ → List Observation
+entriesFrom = rowsFrom first observation

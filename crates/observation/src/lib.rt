@@ -1,5 +1,5 @@
 // The observation messages of 003, section 6.3: OBS with its header and observations, the carrier phase, both base positions.
-// Read specs/Layout.antt (which lengths an edition has), specs/Obs.antt (header, observations, a whole payload) and specs/Phase.antt first,
+// Read specs/Layout.antt (an edition's lengths and rows), specs/Obs.antt (header, observations, a whole payload) and specs/Phase.antt first,
 // then specs/ObsWriter.antt; the base positions are described as navigation's messages are.
 mod base_pos_ecef;
 mod base_pos_llh;

@@ -5,7 +5,8 @@ ghost use lib.ListN.{length, take};
 ghost use lib.Seq.{sets};
 ghost use Rattle.wire.specs.Field.{rowStored};
 ghost use Rattle.frames.specs.Writer.{senderOf, writtenAnswer};
-ghost use Rattle.observation.specs.Obs.{head, entriesBytes};
+ghost use Rattle.observation.specs.Layout.{rowsBytes};
+ghost use Rattle.observation.specs.Obs.{head, observation};
 ghost use Rattle.observation.specs.ObsWriter.{headOf, obsWriteAnswer, obsWritten};
 use crate::entry::Observation;
 use crate::entry::put;
@@ -26,7 +27,7 @@ fn put_head(buf: &mut [u8], obs: Obs)
 fn put_entries(buf: &mut [u8], entries: [Observation; 15], k: usize)
     requires { ⌜ k ≤ 15 ⌝ }
     requires { ⌜ 13 + k * 16 ≤ length (now buf) ⌝ }
-    ensures { λ _. ⌜ now (buf .exit) ≡ sets (now (buf .entry)) 13 (entriesBytes (take k entries)) ⌝ }
+    ensures { λ _. ⌜ now (buf .exit) ≡ sets (now (buf .entry)) 13 (rowsBytes observation (take k entries)) ⌝ }
 {
     let mut i = 0;
     while i < k {

@@ -1,13 +1,9 @@
 -- `observation::obs_write::put_entries` meets its contract. The loop's invariant: the observations left, stored from here on, make what all make
 -- of the start.
-use mathlib.Core.Path.{sym, ap, _∙_}
 use Prim.Native.Nat.{_-_}
 use native.Mathlib.Omega.{arith}
-use lib.ListN.{take}
-use lib.Seq.{sets}
 use borrow.Author.Needs.{needs}
 use Rattle.observation.specs.Obs.{observation}
-use Rattle.observation.proofs.Payloads.{entries-bytes}
 use Rattle.observation.proofs.RowsStored.{Stored, stored-none, stored-length, stored-all, has-room, stored-more}
 use Rattle.observation.proofs.obs_write.put_entries.Statement.{statement}
 use Rattle.observation.proofs.obs_write.put_entries.Tie as tie
@@ -61,9 +57,7 @@ same-length : tie.Need-same-length Inv-loop μ-loop
 same-length c = stored-length (c .before .loop .inv)
 
 returns : tie.Need-returns Inv-loop μ-loop
-returns c =
-    let a = c .before .before .before .args in
-    stored-all (c .before .loop .inv) (c .loop-test .left) ∙ ap (sets (a .buf .now) 13) (sym (entries-bytes (take (a .k) (a .t2))))
+returns c = stored-all (c .before .loop .inv) (c .loop-test .left)
 
 pub put-entries-spec : {M : Type 1} → statement M
 put-entries-spec =
