@@ -1,8 +1,8 @@
 -- An accepted OBS or LOG payload written again gives a frame of the same bytes. Assumes nothing.
-use mathlib.Core.Path.{_≡_, refl, sym, ap, _∙_}
+use mathlib.Core.Path.{_≡_, sym, ap, _∙_}
 use mathlib.Core.Bool.{and-eq-true-iff}
 use mathlib.Core.List.{List}
-use Prim.Native.Nat.{ℕ, zero, suc, _≤_}
+use Prim.Native.Nat.{ℕ, _≤_}
 use native.Mathlib.Omega.{arith}
 use lib.Dec.{leb}
 use lib.ListN.{length, take}
@@ -10,23 +10,19 @@ use lib.Seq.{take-all}
 use borrow.Author.Tests.{le-leb, leb-true}
 use Rattle.wire.specs.Number.{Bytes}
 use Rattle.wire.specs.Message.{given}
+use Rattle.wire.proofs.Ordered.{exactly-all}
 use Rattle.frames.specs.Writer.{framed}
 use Rattle.observation.specs.Layout.{first}
 use Rattle.observation.specs.Obs.{obsIn, readObs, obsPayload, entriesFrom}
 use Rattle.observation.specs.ObsWriter.{headOf, obsWritten}
 use Rattle.observation.specs.declared.obs.Obs.{Obs}
 use Rattle.observation.proofs.Layouts.{whole}
-use Rattle.observation.proofs.Payloads.{writes-back}
+use Rattle.observation.proofs.Payloads.{length-entries, writes-back}
 use Rattle.system.specs.Log.{logKind, logIn, readLog, logPayload, textIn}
 use Rattle.system.specs.declared.log.Log.{Log}
 use Rattle.system.proofs.Logs.{log-writes-back}
 use Rattle.demands.specs.Order.{readingObs, readingLog}
-use Rattle.demands.proofs.Order.{exactly-all, reads-obs-ordered, reads-log-ordered}
-
-entries-length : (n i : ℕ) (s : List ℕ) → length (entriesFrom n i s) ≡ n
-unfolding entriesFrom
-entries-length zero i s = refl
-entries-length (suc n) i s = ap suc (entries-length n (suc i) s)
+use Rattle.demands.proofs.Order.{reads-obs-ordered, reads-log-ordered}
 
 pub obs-again : (sender : ℕ) (r : Obs) (buf s : List ℕ) → Bytes s → readObs s ≡ given r
     → obsWritten sender r (entriesFrom (r .count) 0 s) buf ≡ framed (first .kind) sender s buf
@@ -35,7 +31,7 @@ obs-again sender r buf s bytes g =
     let read = exactly-all (obsIn s) (readingObs s) r .0 (sym (reads-obs-ordered s) ∙ g) in
     let few : r .count ≤ 15 = omega (arith, whole first (length s) (read .0 .0) .1, ap (λ (o : Obs). o .count) (read .1)) in
     let all : take (r .count) (entriesFrom (r .count) 0 s) ≡ entriesFrom (r .count) 0 s
-    = take-all (r .count) (entriesFrom (r .count) 0 s) (omega (arith, entries-length (r .count) 0 s)) in
+    = take-all (r .count) (entriesFrom (r .count) 0 s) (omega (arith, length-entries (r .count) 0 s)) in
     rw (le-leb (r .count) 15 few) (ap (λ (t : List ℕ). framed (first .kind) sender t buf) (ap (obsPayload (headOf r)) all ∙ writes-back s bytes r g))
 
 pub log-again : (sender : ℕ) (r : Log) (buf s : List ℕ) → readLog s ≡ given r

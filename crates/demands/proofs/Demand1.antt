@@ -5,15 +5,18 @@
 use mathlib.Core.Path.{_≡_, refl, ap}
 use mathlib.Core.List.{List, []}
 use mathlib.Core.Logic.{_↔_, _⊎_}
-use Prim.Native.Nat.{ℕ, _+_, _*_, _<_}
+use Prim.Native.Nat.{ℕ, _+_, _<_}
 use lib.IntN.{ℤ}
 use lib.ListN.{length}
 use denote.Ref.{now}
 use Rattle.wire.specs.Field.{size, decode}
 use Rattle.wire.specs.Message.{Answer, given, refused, Message, readAs}
+use Rattle.wire.specs.Tests.{Tests, ordered, FirstFails, AllPass}
+use Rattle.wire.proofs.Ordered.{exactly-first, exactly-all}
 use Rattle.frames.specs.Writer.{planned, framed}
 use Rattle.frames.specs.Message.{writeAnswer, writtenAs}
 use Rattle.frames.proofs.Written.{framed-unfit}
+use Rattle.observation.specs.Layout.{first, startOf}
 use Rattle.observation.specs.Obs.{entryAt, readEntry, obsIn, readObs}
 use Rattle.observation.specs.ObsWriter.{obsWriteAnswer, obsWritten}
 use Rattle.observation.specs.Phase.{partsOf, readPhase}
@@ -32,10 +35,11 @@ use Rattle.epochs.specs.declared.collating.Happened.the-variants as H
 use Rattle.epochs.proofs.Feeding.{refused-keeps}
 use Rattle.epochs.proofs.Captures.{collated-refused}
 use Rattle.text.specs.Line.{laid}
+use Rattle.text.proofs.Pending.{laid-unfit}
 use Rattle.listing.specs.Listing.{textOf, listAnswer, listedAs, listed}
-use Rattle.demands.specs.Order.{Tests, ordered, FirstFails, AllPass, lineFor, readingAny, reading, readingObs, readingLog, oneObservation, writingBytes, writing, writingObs, listing, phaseRange, rostering, asMade, feeding, forPlace, asJudged}
-use Rattle.demands.proofs.Order.{exactly-first, exactly-all, looks-up-ordered, reads-ordered, reads-obs-ordered, reads-log-ordered, reads-entry-ordered, plans-ordered, writes-ordered, writes-obs-ordered, lists-ordered, phase-ordered, made-ordered, judged-ordered}
-use Rattle.demands.proofs.Refused.{record-unwritten, obs-unwritten, line-unwritten, nobody-listed}
+use Rattle.demands.specs.Order.{lineFor, readingAny, reading, readingObs, readingLog, oneObservation, writingBytes, writing, writingObs, listing, phaseRange, rostering, asMade, feeding, forPlace, asJudged}
+use Rattle.demands.proofs.Order.{looks-up-ordered, reads-ordered, reads-obs-ordered, reads-log-ordered, reads-entry-ordered, plans-ordered, writes-ordered, writes-obs-ordered, lists-ordered, phase-ordered, made-ordered, judged-ordered}
+use Rattle.demands.proofs.Refused.{record-unwritten, obs-unwritten, nobody-listed}
 
 -- "a roster, payload, index or buffer that doesn't fit is refused by number"
 pub record RefusedByNumber : Type 1 where
@@ -54,7 +58,7 @@ pub record RefusedByNumber : Type 1 where
       → readEntry (now (r .payload)) (r .place) ≡ ordered (oneObservation (now (r .payload)) (r .place)) (entryAt (now (r .payload)) (r .place))
   -- a buffer: 23, 31, 32; for a record, for OBS, and for any bytes (a raw frame, and LOG)
   pub record-buffer : (R : Type 0) (m : Message R) (r : R) (room : ℕ) → writeAnswer m r room ≡ ordered (writing m r room) (size (m .fields) + 8)
-  pub obs-buffer : (o : Obs) (room : ℕ) → obsWriteAnswer o room ≡ ordered (writingObs o room) (7 + o .count * 16 + 8)
+  pub obs-buffer : (o : Obs) (room : ℕ) → obsWriteAnswer o room ≡ ordered (writingObs o room) (startOf first (o .count) + 8)
   pub bytes-buffer : (n room : ℕ) → planned n room ≡ ordered (writingBytes n room) (n + 8)
   -- a capture to list, and the buffer for its text: 11, 32
   pub capture : (s : List ℕ) (room : ℕ) → listAnswer s room ≡ ordered (listing s room) (length (textOf s))
@@ -123,7 +127,7 @@ writes-nothing = record {
   refused-obs = λ sender o entries buf n fifteen e. obs-unwritten sender o entries buf fifteen e;
   refused-bytes = λ kind sender payload buf n e. framed-unfit kind sender payload buf e;
   refused-listing = λ s buf n e. ap (λ (a : Answer ℕ). listedAs a s buf) e;
-  unfit-line = line-unwritten;
+  unfit-line = laid-unfit;
 }
 
 moves-no-state : MovesNoState

@@ -40,7 +40,7 @@ use Rattle.observation.specs.BasePosEcef.{basePosEcef}
 use Rattle.observation.specs.BasePosLlh.{basePosLlh}
 use Rattle.observation.specs.Layout.{first}
 use Rattle.observation.specs.Obs.{head, observation, readObs, readEntry, entriesFrom}
-use Rattle.observation.specs.ObsWriter.{headOf, payloadFor, obsWriteAnswer, obsWritten}
+use Rattle.observation.specs.ObsWriter.{headOf, obsFrame, obsWriteAnswer, obsWritten}
 use Rattle.observation.specs.Phase.{phaseOf, partsOf}
 use Rattle.observation.specs.declared.entry.Observation.{Observation}
 use Rattle.observation.specs.declared.obs.Obs.{Obs}
@@ -91,10 +91,7 @@ use Rattle.demands.proofs.Room.{room-enough}
 abbrev pub Promised : {R : Type 0} → wire.Message R → (R → Message) → Type 0
 Promised m name = Faithful m × Typed (m .kind) name (readAs m)
 
--- the frames that OBS and LOG are written as
-abbrev pub obsFrame : ℕ → Obs → List Observation → Frame
-obsFrame sender o entries = record { at = 0; kind = first .kind; sender = sender; length = length (payloadFor o entries) }
-
+-- the frame that LOG is written as
 abbrev pub logFrame : ℕ → ℕ → List ℕ → Frame
 logFrame sender level text = record { at = 0; kind = logKind; sender = sender; length = length (logPayload level text) }
 

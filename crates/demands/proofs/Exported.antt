@@ -8,6 +8,7 @@ use mathlib.Core.Logic.{_↔_}
 use Prim.Native.Nat.{ℕ, _^_, _≤_, _<_}
 use lib.ListN.{length, getD}
 use Rattle.wire.specs.Number.{Bytes}
+use Rattle.wire.specs.Field.{decode}
 use Rattle.wire.specs.Message.{refused}
 use Rattle.frames.specs.Reading.{steps, framesOf}
 use Rattle.frames.specs.Cursors.{nextOf, Told}
@@ -21,9 +22,9 @@ use Rattle.exports.specs.Found.{startAt, nextAnswer, nextStored}
 use Rattle.exports.specs.Totals.{totalsAnswer, totalsStored}
 use Rattle.exports.specs.Text.{sizeAfter}
 use Rattle.exports.specs.State.{stateIn}
-use Rattle.exports.specs.Feed.{madeAnswer, madeStored, fedIn, afterIn}
+use Rattle.exports.specs.Feed.{reportFields, reportRow, madeAnswer, madeStored, fedIn, afterIn}
 use Rattle.exports.proofs.Answered.{next-left}
-use Rattle.exports.proofs.Lives.{AllBytes, stands, one-epoch}
+use Rattle.exports.proofs.Lives.{AllBytes, stands, one-epoch, epoch-row}
 use Rattle.exports.proofs.Refusals.{next-keeps, totals-keeps, list-keeps, collator-keeps, feed-keeps}
 
 -- demand 1: "and a refusal writes nothing and moves no state"
@@ -53,6 +54,10 @@ pub record Exported : Type 0 where
   -- `sbp_feed` answers 1 exactly where the frame ends an epoch
   pub epochs-told : (roster s report : List ℕ) (xs : List Item) → Filled roster s report xs → (x : Item) → Bytes (x .payload) → (lent : List ℕ) → 11 ≤ length lent
       → (fedIn (afterIn (madeStored roster s) report xs) (x .kind) (x .sender) (x .payload) lent .answer ≡ 1) ↔ ((e : Report) × EndsEpoch roster xs x e)
+  -- and then the lent bytes hold that epoch's report
+  pub epochs-stored : (roster s report : List ℕ) (xs : List Item) → Filled roster s report xs → (x : Item) → Bytes (x .payload) → (lent : List ℕ) → 11 ≤ length lent
+      → x .sender < 65536 → (e : Report) → EndsEpoch roster xs x e
+      → decode reportFields (fedIn (afterIn (madeStored roster s) report xs) (x .kind) (x .sender) (x .payload) lent .report) 0 ≡ reportRow e
   -- demand 3: the same frames of every listed sender leave bytes that stand for the same state
   pub unmixed : (roster s t report other : List ℕ) (xs ys : List Item) → Filled roster s report xs → Filled roster t other ys → SameFrames roster xs ys
       → stateIn (afterIn (madeStored roster s) report xs) ≡ stateIn (afterIn (madeStored roster t) other ys)
@@ -64,6 +69,7 @@ exported = record {
   kept = record { next = next-keeps; totals = totals-keeps; list = list-keeps; collator = collator-keeps; feed = feed-keeps };
   frames-left = next-left;
   epochs-told = λ roster s report xs f x byte lent enough. one-epoch roster (f .taken) (f .senders) s report (f .long) (f .room) xs (f .bytes) x byte lent enough;
+  epochs-stored = λ roster s report xs f x byte lent enough small e w. epoch-row roster (f .taken) (f .senders) s report (f .long) (f .room) xs (f .bytes) x byte lent enough small w;
   unmixed = λ roster s t report other xs ys f g same.
       stands roster (f .taken) (f .senders) s report (f .long) (f .room) xs (f .bytes)
       ∙ same-state roster (f .taken) xs ys same

@@ -1,19 +1,18 @@
--- A call is refused exactly when one of its own cases holds, by the first: the law once, and each call's cases. Assumes nothing.
+-- Each call answers by its own cases in order. Assumes nothing.
 use mathlib.Core.Path.{_≡_, refl, sym, ap, _∙_}
 use mathlib.Core.Bool.{Bool, true, false, _&&_, not, cond}
 use mathlib.Core.List.{List, [], _∷_}
-use mathlib.Core.Logic.{_↔_, inl, inr}
-use Prim.Native.Nat.{ℕ, _+_, _*_}
+use Prim.Native.Nat.{ℕ, _+_}
 use lib.Dec.{eqb, leb}
 use lib.IntN.{ℤ}
 use lib.ListN.{length}
 use Rattle.wire.specs.Field.{size, decode}
 use Rattle.wire.specs.Message.{given, refused, Message, readAs}
 use Rattle.wire.specs.Message as wire
-use Rattle.wire.proofs.Answers.{same-given, never-both, same-refused}
+use Rattle.wire.specs.Tests.{Tests, ordered}
 use Rattle.frames.specs.Writer.{planned}
 use Rattle.frames.specs.Message.{writeAnswer}
-use Rattle.observation.specs.Layout.{first, fitting}
+use Rattle.observation.specs.Layout.{first, fitting, startOf}
 use Rattle.observation.specs.Obs.{entryAt, readEntry, obsIn, readObs}
 use Rattle.observation.specs.ObsWriter.{obsWriteAnswer}
 use Rattle.observation.specs.Phase.{partsOf, readPhase}
@@ -27,40 +26,7 @@ use Rattle.epochs.specs.declared.judging.Seat.{Seat}
 use Rattle.epochs.specs.declared.judging.Judged.the-variants as J
 use Rattle.epochs.proofs.Rosters.{seat-listed, seat-unlisted}
 use Rattle.listing.specs.Listing.{textOf, listAnswer}
-use Rattle.demands.specs.Order.{Tests, ordered, FirstFails, AllPass, known, lineFor, readingAny, reading, readingObs, readingLog, oneObservation, writingBytes, writing, writingObs, listing, phaseRange, rostering, asMade, feeding, placeIn, forPlace, asJudged}
-
--- ---- the law
-
-module _ {A : Type 0} (x : A) where
-  refused-first : (ts : Tests) (n : ℕ) → ordered ts x ≡ refused n → FirstFails ts n
-  refused-first [] n e = absurd (never-both refl e)
-  refused-first (t ∷ ts) n e = by (t .0) refl e (refused-first ts n)
-    where
-      by : (b : Bool) → t .0 ≡ b → cond b (ordered ts x) (refused (t .1)) ≡ refused n → (ordered ts x ≡ refused n → FirstFails ts n) → FirstFails (t ∷ ts) n
-      by true q e rest = inr (q, rest e)
-      by false q e rest = inl (q, same-refused e refl)
-
-  first-refuses : (ts : Tests) (n : ℕ) → FirstFails ts n → ordered ts x ≡ refused n
-  first-refuses (t ∷ ts) n (inl f) = rw (f .0) (ap refused (sym (f .1)))
-  first-refuses (t ∷ ts) n (inr f) = rw (f .0) (first-refuses ts n (f .1))
-
-  pub exactly-first : (ts : Tests) (n : ℕ) → (ordered ts x ≡ refused n) ↔ FirstFails ts n
-  exactly-first ts n = (refused-first ts n, first-refuses ts n)
-
-  given-all : (ts : Tests) (y : A) → ordered ts x ≡ given y → AllPass ts × (x ≡ y)
-  given-all [] y e = (tt, same-given refl e)
-  given-all (t ∷ ts) y e = by (t .0) refl e (given-all ts y)
-    where
-      by : (b : Bool) → t .0 ≡ b → cond b (ordered ts x) (refused (t .1)) ≡ given y → (ordered ts x ≡ given y → AllPass ts × (x ≡ y)) → AllPass (t ∷ ts) × (x ≡ y)
-      by true q e rest = let r = rest e in ((q, r .0), r .1)
-      by false q e rest = absurd (never-both e refl)
-
-  all-give : (ts : Tests) → AllPass ts → ordered ts x ≡ given x
-  all-give [] p = refl
-  all-give (t ∷ ts) p = rw (p .0) (all-give ts (p .1))
-
-  pub exactly-all : (ts : Tests) (y : A) → (ordered ts x ≡ given y) ↔ (AllPass ts × (x ≡ y))
-  exactly-all ts y = (given-all ts y, λ p. all-give ts (p .0) ∙ ap given (p .1))
+use Rattle.demands.specs.Order.{known, lineFor, readingAny, reading, readingObs, readingLog, oneObservation, writingBytes, writing, writingObs, listing, phaseRange, rostering, asMade, feeding, placeIn, forPlace, asJudged}
 
 -- ---- each call
 
@@ -88,7 +54,7 @@ pub writes-ordered : {R : Type 0} (m : Message R) (r : R) (room : ℕ) → write
 unfolding writeAnswer planned
 writes-ordered m r room = refl
 
-pub writes-obs-ordered : (o : Obs) (room : ℕ) → obsWriteAnswer o room ≡ ordered (writingObs o room) (7 + o .count * 16 + 8)
+pub writes-obs-ordered : (o : Obs) (room : ℕ) → obsWriteAnswer o room ≡ ordered (writingObs o room) (startOf first (o .count) + 8)
 unfolding obsWriteAnswer planned
 writes-obs-ordered o room = refl
 

@@ -1,17 +1,16 @@
--- A refused writer leaves the buffer as it was, so does a line without room, and a refused roster makes a collator that refuses every frame and never moves.
--- Assumes nothing.
+-- A refused writer leaves the buffer as it was, and a refused roster makes a collator that refuses every frame and never moves. Assumes nothing.
 use mathlib.Core.Path.{_≡_, refl, sym, ap, _∙_}
 use mathlib.Core.Bool.{Bool, true, false, cond}
 use mathlib.Core.List.{List, []}
 use mathlib.Core.Logic.{_⊎_, inl, inr}
-use Prim.Native.Nat.{ℕ, _+_, _*_, _<_}
+use Prim.Native.Nat.{ℕ}
 use native.Mathlib.Omega.{arith}
 use lib.Dec.{eqb, leb}
 use lib.ListN.{length}
-use borrow.Author.Tests.{leb-true, leb-false, lt-leb}
-use Rattle.wire.specs.Field.{size, allowedRow}
+use borrow.Author.Tests.{leb-true, leb-false}
+use Rattle.wire.specs.Field.{allowedRow}
 use Rattle.wire.specs.Message.{Answer, given, refused, Message}
-use Rattle.frames.specs.Writer.{planned}
+use Rattle.wire.specs.Tests.{ordered}
 use Rattle.frames.specs.Message.{writeAnswer, writtenAs}
 use Rattle.frames.proofs.Messages as messages
 use Rattle.observation.specs.Layout.{first, fitting}
@@ -27,27 +26,18 @@ use Rattle.epochs.specs.declared.collating.Collator.{Collator}
 use Rattle.epochs.specs.declared.collating.Made.{Made}
 use Rattle.epochs.specs.declared.collating.Happened.the-variants as H
 use Rattle.epochs.proofs.Feeding.{fed-refused}
-use Rattle.text.specs.Line.{laid}
 use Rattle.listing.proofs.EpochLines.{nobody-moves}
-use Rattle.demands.specs.Order.{ordered, rostering, asMade, asJudged}
+use Rattle.demands.specs.Order.{rostering, asMade, asJudged}
 use Rattle.demands.proofs.Order.{made-ordered, judged-ordered}
 
 -- ---- a refused writer
-
-in-range : {R : Type 0} (m : Message R) (r : R) (room : ℕ) → allowedRow (m .fields) (m .row r) ≡ true → writeAnswer m r room ≡ planned (size (m .fields)) room
-unfolding writeAnswer
-in-range m r room q = rw q
 
 pub record-unwritten : {R : Type 0} (m : Message R) (sender : ℕ) (r : R) (buf : List ℕ) {n : ℕ} → writeAnswer m r (length buf) ≡ refused n → writtenAs m sender r buf ≡ buf
 record-unwritten m sender r buf e = by (allowedRow (m .fields) (m .row r)) refl
   where
     by : (t : Bool) → allowedRow (m .fields) (m .row r) ≡ t → writtenAs m sender r buf ≡ buf
-    by true q = sym (messages.wrote-nothing m sender r buf q refl (sym (in-range m r (length buf) q) ∙ e) .1)
+    by true q = sym (messages.wrote-nothing m sender r buf q refl (messages.answers m sender r buf q refl ∙ e) .1)
     by false q = sym (messages.wrote-23 m sender r buf q .1)
-
-few-planned : (o : Obs) (room : ℕ) → leb (o .count) 15 ≡ true → obsWriteAnswer o room ≡ planned (7 + o .count * 16) room
-unfolding obsWriteAnswer
-few-planned o room q = rw q
 
 -- the writer takes fifteen observations
 pub obs-unwritten : (sender : ℕ) (o : Obs) (entries : List Observation) (buf : List ℕ) {n : ℕ} → length entries ≡ 15 → obsWriteAnswer o (length buf) ≡ refused n
@@ -57,14 +47,8 @@ obs-unwritten sender o entries buf fifteen e = by (leb (o .count) 15) refl
     by : (t : Bool) → leb (o .count) 15 ≡ t → obsWritten sender o entries buf ≡ buf
     by true q =
         let few = leb-true (o .count) 15 q in
-        sym (obs.wrote-nothing sender o entries buf few (omega arith) refl (sym (few-planned o (length buf) q) ∙ e) .1)
+        sym (obs.wrote-nothing sender o entries buf few (omega arith) refl (sym (obs.answer-planned o (length buf) few) ∙ e) .1)
     by false q = sym (obs.wrote-31 sender o entries buf (leb-false (o .count) 15 q) .1)
-
--- ---- a line that has no room
-
-pub line-unwritten : (buf : List ℕ) (at : ℕ) (text : List ℕ) → length buf < at + length text → laid buf at text ≡ buf
-unfolding laid
-line-unwritten buf at text h = rw (lt-leb (at + length text) (length buf) h)
 
 -- ---- a refused roster
 

@@ -8,12 +8,10 @@ use Rattle.epochs.specs.declared.collating.Collator.{Collator}
 use Rattle.epochs.specs.declared.collating.Report.{Report}
 use Rattle.epochs.specs.declared.collating.Happened.{Happened}
 use Rattle.epochs.specs.declared.collating.Happened.the-variants as H
-use Rattle.epochs.proofs.Collations.{epoch-told}
-use Rattle.listing.proofs.EpochLines.{never-taken, never-refused, after-one}
+use Rattle.epochs.proofs.Collations.{same-report, epoch-told}
+use Rattle.epochs.proofs.Feeding.{never-refused, never-taken}
+use Rattle.listing.proofs.EpochLines.{after-one}
 use Rattle.demands.specs.Reported.{Epochs, none, ending, passing}
-
-same-epoch : {d e : Report} → H.Epoch d ≡ H.Epoch e → d ≡ e
-same-epoch e = cc
 
 module _ (roster : List ℕ) (ok : made roster .number ≡ 0) where
   abbrev at : List Item → Collator
@@ -52,4 +50,4 @@ module _ (roster : List ℕ) (ok : made roster .number ≡ 0) where
 
   -- a frame ends one epoch at most
   pub one-epoch : {past : List Item} {x : Item} {d e : Report} → EndsEpoch roster past x d → EndsEpoch roster past x e → d ≡ e
-  one-epoch {past} {x} {d} {e} v w = same-epoch (sym (epoch-told roster ok past x d .1 v) ∙ epoch-told roster ok past x e .1 w)
+  one-epoch {past} {x} {d} {e} v w = same-report (sym (epoch-told roster ok past x d .1 v) ∙ epoch-told roster ok past x e .1 w)

@@ -7,18 +7,16 @@ use lib.ListN.{length, drop}
 use borrow.Author.Tests.{le-leb}
 use Rattle.wire.specs.Number.{Bytes}
 use Rattle.wire.specs.Message.{Answer, given}
-use Rattle.epochs.specs.Collator.{made}
-use Rattle.listing.specs.Roster.{rosterIn}
+use Rattle.wire.proofs.Ordered.{exactly-all}
 use Rattle.listing.specs.Listing.{textOf, listAnswer, listedAs, listed}
 use Rattle.listing.proofs.Sizes.{text-size}
 use Rattle.demands.specs.Order.{listing}
-use Rattle.demands.proofs.Order.{exactly-all, lists-ordered}
+use Rattle.demands.proofs.Order.{lists-ordered}
 
 module _ (s buf : List ℕ) (bytes : Bytes s) (short : length s ≤ 65536) (room : 8 * length s + 32 ≤ length buf) where
   answered : listAnswer s (length buf) ≡ given (length (textOf s))
   answered =
-      let size = text-size s bytes short (made (rosterIn s) .collator) in
-      let fits : length (textOf s) ≤ length buf = omega (arith, size, room) in
+      let fits : length (textOf s) ≤ length buf = omega (arith, text-size s bytes short, room) in
       lists-ordered s (length buf)
       ∙ exactly-all (length (textOf s)) (listing s (length buf)) (length (textOf s)) .1 ((le-leb (length s) 65536 short, (le-leb (length (textOf s)) (length buf) fits, tt)), refl)
 

@@ -13,6 +13,7 @@ use Rattle.epochs.specs.declared.judging.Packet.{Packet}
 use Rattle.epochs.specs.declared.judging.Judged.{Judged}
 use Rattle.epochs.specs.declared.judging.Judged.the-variants as J
 use Rattle.epochs.specs.declared.collating.Report.{Report}
+use Rattle.epochs.proofs.Judgements.{same-for}
 use Rattle.epochs.proofs.Runs.{unroll}
 use Rattle.demands.specs.Examples.{packetFrom}
 
@@ -22,9 +23,6 @@ numbered i = record { key = record { tow = 0; wn = 0; n = 2 }; counter = i; obse
 
 abbrev pub bothOf : ℕ → Report
 bothOf s = record { sender = s; wn = 0; tow = 0; n = 2; observations = 0 }
-
-same-packet : {i j : ℕ} {p q : Packet} → J.For i p ≡ J.For j q → p ≡ q
-same-packet e = cc
 
 module _ (s : ℕ) where
   first-is : own (packetFrom s 0x20) ≡ J.For 0 (numbered 0)
@@ -53,6 +51,6 @@ module _ (s : ℕ) where
   pub second-alone : (roster : List ℕ) → EndsEpoch roster [] (packetFrom s 0x21) (bothOf s) → ⊥
   unfolding historyOf
   second-alone roster w =
-      let same : w .packet ≡ numbered 1 = same-packet (sym (w .formed) ∙ second-is) in
+      let same : w .packet ≡ numbered 1 = same-for (sym (w .formed) ∙ second-is) .1 in
       let run = subst (λ (p : Packet). RunTo (p .key) (p .counter) (p ∷ []) (w .total)) same (w .ends .run) in
       unroll (unroll run .2 .1)

@@ -1,16 +1,15 @@
 -- Document 01, "Numbers given back" and "Order": each call's own cases in order, each with its number.
 -- Assumes nothing.
-use Prim.Native.Nat.{ℕ, _+_, _*_}
-use mathlib.Core.Path.{_≡_}
+use Prim.Native.Nat.{ℕ, _+_}
 use mathlib.Core.Bool.{Bool, true, false, _&&_, not, cond}
 use mathlib.Core.List.{List, [], _∷_}
-use mathlib.Core.Logic.{_⊎_}
 use lib.Dec.{eqb, leb, ltb}
 use lib.ListN.{length}
 use lib.IntN.{ℤ}
 use Rattle.wire.specs.Field.{size, decode, allowedRow}
 use Rattle.wire.specs.Message.{Answer, given, refused, Message}
-use Rattle.observation.specs.Layout.{first, fitting, countIn}
+use Rattle.wire.specs.Tests.{Tests}
+use Rattle.observation.specs.Layout.{first, fitting, countIn, startOf}
 use Rattle.observation.specs.Obs.{obsIn}
 use Rattle.observation.specs.Phase.{inPhase}
 use Rattle.observation.specs.declared.obs.Obs.{Obs}
@@ -27,24 +26,6 @@ use Rattle.epochs.specs.declared.judging.Judged.the-variants as J
 use Rattle.epochs.specs.declared.collating.Collator.{Collator}
 use Rattle.epochs.specs.declared.collating.Made.{Made}
 use Rattle.listing.specs.Listing.{textOf}
-
--- what has to be so, and the number of the refusal where it is not
-abbrev pub Tests : Type 0
-Tests = List (Bool × ℕ)
-
--- what passes every test is given, else the number of the first that it fails
-abbrev pub ordered : {A : Type 0} → Tests → A → Answer A
-ordered [] x = given x
-ordered (t ∷ ts) x = cond (t .0) (ordered ts x) (refused (t .1))
-
--- n is the number of the first test that fails
-abbrev pub FirstFails : Tests → ℕ → Type 0
-FirstFails [] n = ⊥
-FirstFails (t ∷ ts) n = ((t .0 ≡ false) × (n ≡ t .1)) ⊎ ((t .0 ≡ true) × FirstFails ts n)
-
-abbrev pub AllPass : Tests → Type 0
-AllPass [] = Unit {0}
-AllPass (t ∷ ts) = (t .0 ≡ true) × AllPass ts
 
 -- ---- "Reading: 21, 22, 23."
 
@@ -84,7 +65,7 @@ abbrev pub writing : {R : Type 0} → Message R → R → ℕ → Tests
 writing m r room = (allowedRow (m .fields) (m .row r), 23) ∷ writingBytes (size (m .fields)) room
 
 abbrev pub writingObs : Obs → ℕ → Tests
-writingObs o room = (leb (o .count) 15, 31) ∷ writingBytes (7 + o .count * 16) room
+writingObs o room = (leb (o .count) (first .most), 31) ∷ writingBytes (startOf first (o .count)) room
 
 -- ---- `sbplist`: 11 for the capture, then 32 for the buffer of its text
 

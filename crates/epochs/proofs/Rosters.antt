@@ -137,7 +137,7 @@ seat-unlisted (x ∷ xs) sender i e = by (eqb x sender) e (λ f. seat-unlisted x
     by false f rest = rest f
 
 -- who is named later is named
-later : {u : Bool} (t : Bool) → u ≡ true → cond t true u ≡ true
+pub later : {u : Bool} (t : Bool) → u ≡ true → cond t true u ≡ true
 later true n = refl
 later false n = n
 

@@ -30,7 +30,7 @@ module _ {R : Type 0} (m : Message R) (sender : ℕ) (r : R) (buf : List ℕ) wh
   wrote-23 e = (rw e, rw e)
 
   module _ (e : allowedRow (m .fields) (m .row r) ≡ true) {a : Answer ℕ} (plan : a ≡ planned (size (m .fields)) (length buf)) where
-    answers : a ≡ writeAnswer m r (length buf)
+    pub answers : a ≡ writeAnswer m r (length buf)
     unfolding writeAnswer
     answers = rw e plan
 

@@ -14,6 +14,7 @@ use Rattle.frames.specs.declared.step.Frame.{Frame}
 use Rattle.epochs.specs.Packet.{obsKind}
 use Rattle.epochs.specs.Collator.{names, repeats, fresh, made}
 use Rattle.epochs.specs.declared.collating.Made.{Made}
+use Rattle.epochs.proofs.Rosters.{later}
 use Rattle.epochs.proofs.Making.{made-whole, accepted}
 use Rattle.listing.specs.Roster.{joined, enlistedAll, rosterIn}
 use Rattle.listing.specs.Words.{obsSenders, obsSendersIn, different}
@@ -46,10 +47,6 @@ unfolding rosterIn
 roster-first s = first-eight (framesOf (closedSteps s)) [] (omega arith)
 
 -- ---- so it names senders of OBS frames, and all of them where it has room
-
-pub later : {b : Bool} (t : Bool) → b ≡ true → cond t true b ≡ true
-later true e = refl
-later false e = e
 
 either : {a b : Bool} (t : Bool) → cond t true a ≡ true → (a ≡ true → b ≡ true) → cond t true b ≡ true
 either true e rest = refl

@@ -5,7 +5,6 @@ use mathlib.Core.Bool.{false≢true}
 use mathlib.Core.List.{List, [], _∷_, _++_, append-nil, append-cancel-right, flatMap}
 use mathlib.Core.Logic.{_↔_, _⊎_, inl, inr}
 use Prim.Native.Nat.{ℕ}
-use native.Mathlib.Omega.{arith}
 use Rattle.frames.specs.Reading.{closedSteps, framesOf}
 use Rattle.frames.specs.declared.step.Frame.{Frame}
 use Rattle.epochs.specs.Packet.{seatOf}
@@ -17,7 +16,7 @@ use Rattle.epochs.specs.declared.collating.Fed.{Fed}
 use Rattle.epochs.specs.declared.collating.Happened.{Happened}
 use Rattle.epochs.specs.declared.collating.Happened.the-variants as H
 use Rattle.epochs.proofs.Judgements.{judged-unlisted}
-use Rattle.epochs.proofs.Feeding.{fed-refused}
+use Rattle.epochs.proofs.Feeding.{never-refused, never-taken, fed-refused}
 use Rattle.epochs.proofs.Collations.{epoch-told}
 use Rattle.listing.specs.Roster.{rosterIn}
 use Rattle.listing.specs.Listing.{frameLine, totalsLine, told, framesText, textOf}
@@ -38,12 +37,6 @@ nobody-moves [] = refl
 nobody-moves (x ∷ xs) = ap (λ (f : Fed). after (f .collator) xs) (nobody-fed x .1) ∙ nobody-moves xs
 
 -- ---- after any frames, feeding one more tells of an epoch exactly when that frame ends it
-
-pub never-taken : {e : Report} → H.Taken ≡ H.Epoch e → ⊥
-never-taken e = let z : _≡_ {A = ℕ} 0 1 = cc in omega arith
-
-pub never-refused : {n : ℕ} {e : Report} → H.Refused n ≡ H.Epoch e → ⊥
-never-refused e = let z : _≡_ {A = ℕ} 0 1 = cc in omega arith
 
 abbrev Exactly : List ℕ → Type 0
 Exactly roster = (past : List Item) (x : Item) (e : Report) → (fedItem (after (made roster .collator) past) x .happened ≡ H.Epoch e) ↔ EndsEpoch roster past x e

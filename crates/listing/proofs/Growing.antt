@@ -25,12 +25,14 @@ use Rattle.epochs.specs.declared.judging.Judged.the-variants.{Refused, For}
 use Rattle.epochs.specs.declared.placing.Place.{Place}
 use Rattle.epochs.specs.declared.collating.Collator.{Collator}
 use Rattle.epochs.specs.declared.collating.Fed.{Fed}
+use Rattle.epochs.proofs.Rosters.{later}
 use Rattle.epochs.proofs.Judgements.{judged-46}
-use Rattle.listing.specs.Roster.{joined, enlisted, enlistedAll, rosterIn, enlistedTo}
+use Rattle.listing.specs.Roster.{joined, enlisted, enlistedAll, rosterIn}
+use Rattle.listing.specs.Seating.{enlistedTo}
 use Rattle.listing.specs.Listing.{frameLine, told, framesText}
 use Rattle.listing.specs.Words.{obsSenders, different}
 use Rattle.listing.proofs.Rosters.{Few, by-joining, few-joined, few-enlisted, all-few}
-use Rattle.listing.proofs.Accepted.{later, first-eight, made-fresh}
+use Rattle.listing.proofs.Accepted.{first-eight, made-fresh}
 use Rattle.listing.proofs.Seats.{heldIn, held-list, held-enlisted}
 
 -- ---- a seat that was given stays

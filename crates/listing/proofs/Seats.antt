@@ -6,7 +6,6 @@ use Prim.Native.Nat.{ℕ, zero, suc, _+_, _≤_, _<_}
 use native.Mathlib.Omega.{arith}
 use lib.Dec.{eqb}
 use lib.ListN.{length, set, take, replicate, length-append}
-use lib.Seq.{take-take, take-append-seam}
 use borrow.Author.Tests.{le-leb, lt-leb}
 use Rattle.frames.specs.declared.step.Frame.{Frame}
 use Rattle.epochs.specs.Packet.{obsKind, seatOf}
@@ -16,7 +15,9 @@ use Rattle.epochs.specs.declared.judging.Seat.the-variants.{At, Nowhere}
 use Rattle.epochs.specs.declared.placing.Place.{Place}
 use Rattle.epochs.specs.declared.collating.Collator.{Collator}
 use Rattle.epochs.proofs.Rosters.{seat-listed, seat-unlisted}
-use Rattle.listing.specs.Roster.{joined, enlisted, seatedIn, joinedTo, enlistedTo}
+use Rattle.epochs.proofs.Senders.{roster-kept}
+use Rattle.listing.specs.Roster.{joined, enlisted}
+use Rattle.listing.specs.Seating.{seatedIn, joinedTo, enlistedTo}
 use Rattle.listing.proofs.Rosters.{by-joining}
 
 -- a collator of a roster, with its places in any state
@@ -25,7 +26,7 @@ heldIn places roster = record { places = places; roster = take 8 (roster ++ repl
 
 -- what the seats hold of a roster that fits is the roster
 pub held-list : (places : List Place) (roster : List ℕ) → length roster ≤ 8 → rosterOf (heldIn places roster) ≡ roster
-held-list places roster few = take-take (length roster) 8 (roster ++ replicate 8 0) few ∙ take-append-seam roster (replicate 8 0)
+held-list places roster few = roster-kept roster few (λ s. [])
 
 take-zeros : (m n k : ℕ) → m ≤ n → m ≤ k → _≡_ {A = List ℕ} (take m (replicate n 0)) (take m (replicate k 0))
 take-zeros zero n k h g = refl

@@ -5,19 +5,19 @@ use mathlib.Core.List.{List, [], _∷_, _++_}
 use Prim.Native.Nat.{ℕ, suc, _+_, _*_, _^_, _≤_, _<_}
 use native.Mathlib.Omega.{arith}
 use lib.Dec.{eqb, lit<}
-use lib.ListN.{length, drop, length-append}
+use lib.ListN.{length, length-append}
 use Rattle.wire.specs.Number.{Bytes}
 use Rattle.wire.specs.Message.{given, refused}
-use Rattle.wire.proofs.Numbers.{bytes-take, bytes-drop}
 use Rattle.frames.specs.Step.{stepAt, passed, ends, payloadIn}
 use Rattle.frames.specs.Reading.{Placed, Tiled, done, then, framesIn, framesOf, countsOf, closedSteps}
 use Rattle.frames.specs.declared.step.Frame.{Frame}
 use Rattle.frames.specs.declared.step.Step.{Step}
 use Rattle.frames.specs.declared.step.Step.the-variants.{Finished, Junk, Short, Bad, Found}
-use Rattle.frames.proofs.Frames.{found-at, found-fits, found-numbers}
+use Rattle.frames.proofs.Frames.{found-at, found-fits, found-numbers, payload-bytes}
 use Rattle.frames.proofs.Tiling.{closed-tiled, adds-up}
 use Rattle.payloads.specs.Table.{Line, table, readLine, lookUp, numberOf, answerFor}
 use Rattle.payloads.specs.declared.Message.{Message}
+use Rattle.epochs.specs.Collator.{made}
 use Rattle.epochs.specs.Epoch.{fedItem, itemIn}
 use Rattle.epochs.specs.declared.collating.Collator.{Collator}
 use Rattle.epochs.specs.declared.collating.Happened.{Happened}
@@ -26,7 +26,8 @@ use Rattle.epochs.proofs.Reports.{SmallIn, report-small}
 use Rattle.text.specs.Line.{fields, line}
 use Rattle.text.proofs.Decimals.{few-digits}
 use Rattle.text.proofs.Lines.{length-fields, length-line}
-use Rattle.listing.specs.Listing.{frameLine, totalsLine, told, framesText, textFrom}
+use Rattle.listing.specs.Roster.{rosterIn}
+use Rattle.listing.specs.Listing.{frameLine, totalsLine, told, framesText, textOf}
 
 -- ---- a line of five numbers
 
@@ -81,12 +82,8 @@ module _ (s : List ℕ) (bytes : Bytes s) (short : length s ≤ 65536) where
         five 0x46 (f .at) (f .kind) (f .sender) (f .length) (answerFor (f .kind) (payloadIn s f)) 4 4 4 2 1
         (omega (arith, here, inside)) (omega (arith, small .0)) (omega (arith, small .1)) (omega (arith, small .2)) (small-answer table (f .kind) (payloadIn s f))
 
-    payload-bytes : Bytes (payloadIn s f)
-    unfolding payloadIn
-    payload-bytes = bytes-take (f .length) (drop (f .at + 6) s) (bytes-drop (f .at + 6) s bytes)
-
     frame-told : (c : Collator) → length (told (fedItem c (itemIn s f) .happened)) ≤ 34
-    frame-told c = told-size (fedItem c (itemIn s f) .happened) (report-small c (f .kind) (f .sender) (payloadIn s f) payload-bytes (found-numbers s p e bytes .1))
+    frame-told c = told-size (fedItem c (itemIn s f) .happened) (report-small c (f .kind) (f .sender) (payloadIn s f) (payload-bytes s p e bytes) (found-numbers s p e bytes .1))
 
   -- 61 bytes of text for a frame of at least 8
   frames-size : {p e : ℕ} {xs : List Placed} → Tiled s p e xs → e ≤ length s → (c : Collator) → length (framesText s c (framesOf xs)) + 8 * p ≤ 8 * e
@@ -116,8 +113,9 @@ module _ (s : List ℕ) (bytes : Bytes s) (short : length s ≤ 65536) where
       (omega (arith, short)) (omega (arith, all, short)) (omega (arith, all, short)) (omega (arith, all, short)) (omega (arith, all, short))
 
   -- a buffer of that many bytes has room for the listing
-  pub text-size : (c : Collator) → length (textFrom s c) ≤ 8 * length s + 32
-  text-size c =
+  pub text-size : length (textOf s) ≤ 8 * length s + 32
+  text-size =
+      let c = made (rosterIn s) .collator in
       let frames = frames-size (closed-tiled s) (omega arith) c in
       let both = length-append (framesText s c (framesOf (closedSteps s))) (totalsLine s) in
       omega (arith, frames, both, totals-size)

@@ -1,7 +1,7 @@
 -- A listing put into a buffer line by line: what the loop of `put_text` keeps, and what `list` answers. Assumes nothing.
 use mathlib.Core.Path.{_≡_, refl, sym, ap, _∙_, subst}
 use mathlib.Core.Bool.{Bool, true, false, cond}
-use mathlib.Core.List.{List, [], _∷_, _++_, append-assoc}
+use mathlib.Core.List.{List, [], _++_, append-assoc}
 use Prim.Native.Nat.{ℕ, _+_, _%_, _^_, _≤_, _<_}
 use native.Mathlib.Omega.{arith}
 use lib.Dec.{leb}
@@ -24,10 +24,10 @@ use Rattle.epochs.specs.Epoch.{fedItem, itemIn}
 use Rattle.epochs.specs.declared.collating.Collator.{Collator}
 use Rattle.epochs.specs.declared.collating.Fed.{Fed}
 use Rattle.epochs.specs.declared.collating.Happened.{Happened}
-use Rattle.text.specs.Line.{line, laid}
+use Rattle.text.specs.Line.{laid}
 use Rattle.text.proofs.Pending.{Pending, pending-begun, pending-laid, pending-done, pending-last}
-use Rattle.listing.specs.Roster.{enlistedTo}
-use Rattle.listing.specs.Listing.{frameLine, totalsLine, told, textOf, listAnswer, listedAs, listed}
+use Rattle.listing.specs.Seating.{enlistedTo}
+use Rattle.listing.specs.Listing.{frameShown, frameLine, totalsShown, totalsLine, told, textOf, listAnswer, listedAs, listed}
 use Rattle.listing.proofs.Growing.{grownText, text-grown}
 
 -- ---- line by line
@@ -51,12 +51,6 @@ module _ (s buf : List ℕ) where
   room : Room → length (textOf s) ≤ length (sets buf 0 (textOf s))
   room h = omega (arith, h, length-sets buf 0 (textOf s))
 
-  abbrev shown : Frame → ℕ → List ℕ
-  shown f answer = line 0x46 (f .at ∷ f .kind ∷ f .sender ∷ f .length ∷ answer ∷ [])
-
-  abbrev summed : Counts → List ℕ
-  summed k = line 0x54 (length s ∷ k .framed ∷ k .junk ∷ k .bad ∷ k .short ∷ [])
-
   module _ (small : length s < 2 ^ 64) (short : length (textOf s) < 2 ^ 64) where
     pub putting-begun : {c : Collator} {cur : Cursor} → c ≡ fresh [] → cur ≡ cursors.begun false → Walking s (Putting c buf 0) cur
     putting-begun {c} e b =
@@ -68,8 +62,8 @@ module _ (s buf : List ℕ) where
     -- a frame's line, then the line of the epoch that it ends
     pub putting-on : {c seated : Collator} {now : List ℕ} {at : ℕ} {cur d : Cursor} {f : Frame} {answer : ℕ} {fed : Fed} {mid after : List ℕ} {between to : ℕ}
         → Walking s (Putting c now at) cur → nextOf s cur ≡ Next.the-variants.Frame f d → answer ≡ answerFor (f .kind) (payloadIn s f)
-        → between ≡ (at + length (line 0x46 (f .at ∷ f .kind ∷ f .sender ∷ f .length ∷ answer ∷ []))) % 2 ^ 64
-        → mid ≡ laid now at (line 0x46 (f .at ∷ f .kind ∷ f .sender ∷ f .length ∷ answer ∷ [])) → seated ≡ enlistedTo c f → fed ≡ fedItem seated (itemIn s f)
+        → between ≡ (at + length (frameShown f answer)) % 2 ^ 64 → mid ≡ laid now at (frameShown f answer)
+        → seated ≡ enlistedTo c f → fed ≡ fedItem seated (itemIn s f)
         → to ≡ (between + length (told (fed .happened))) % 2 ^ 64 → after ≡ laid mid between (told (fed .happened)) → Walking s (Putting (fed .collator) after to) d
     unfolding grownText
     putting-on {c} {now = now} {at} {d = d} {f} {answer} {fed} {mid} {after} {between} {to} w e a q1 e1 j k q2 e2 =
@@ -79,21 +73,20 @@ module _ (s buf : List ℕ) where
         let h = fedItem (enlistedTo c f) (itemIn s f) in
         let parts = subst (Left now at) (reassoc (frameLine s f) (told (h .happened)) (grownText s (h .collator) (left s d)) rest) (p .pending) in
         let fed-parts = subst (λ (x : Fed). Left now at (frameLine s f ++ (told (x .happened) ++ (grownText s (x .collator) (left s d) ++ rest)))) (sym (k ∙ ap (λ (c : Collator). fedItem c (itemIn s f)) j)) parts in
-        let all-parts = subst (λ (n : ℕ). Left now at (shown f n ++ (told (fed .happened) ++ (grownText s (fed .collator) (left s d) ++ rest)))) (sym a) fed-parts in
-        let first = pending-laid (shown f answer) (told (fed .happened) ++ (grownText s (fed .collator) (left s d) ++ rest)) all-parts short room e1 q1 in
+        let all-parts = subst (λ (n : ℕ). Left now at (frameShown f n ++ (told (fed .happened) ++ (grownText s (fed .collator) (left s d) ++ rest)))) (sym a) fed-parts in
+        let first = pending-laid (frameShown f answer) (told (fed .happened) ++ (grownText s (fed .collator) (left s d) ++ rest)) all-parts short room e1 q1 in
         record { pending = pending-laid (told (fed .happened)) (grownText s (fed .collator) (left s d) ++ rest) first short room e2 q2 })
 
     -- the totals
     pub putting-end : {c : Collator} {now : List ℕ} {at : ℕ} {cur d : Cursor} {k : Counts} {after : List ℕ} {to : ℕ}
         → Walking s (Putting c now at) cur → nextOf s cur ≡ Next.the-variants.End d → k ≡ countsIn d
-        → to ≡ (at + length (line 0x54 (length s ∷ k .framed ∷ k .junk ∷ k .bad ∷ k .short ∷ []))) % 2 ^ 64
-        → after ≡ laid now at (line 0x54 (length s ∷ k .framed ∷ k .junk ∷ k .bad ∷ k .short ∷ []))
+        → to ≡ (at + length (totalsShown (length s) k)) % 2 ^ 64 → after ≡ laid now at (totalsShown (length s) k)
         → (to ≡ length (textOf s)) × (Room → after ≡ sets buf 0 (textOf s))
     unfolding grownText
     putting-end {now = now} {at} {k = k} w e q place stored =
         let counts = q ∙ end-counts s small (w .honest) e in
-        let all = subst (λ (x : Counts). Left now at (summed x)) (sym counts) (walking-end s small w e .pending) in
-        pending-done (pending-laid (summed k) [] (pending-last (summed k) all) short room stored place)
+        let all = subst (λ (x : Counts). Left now at (totalsShown (length s) x)) (sym counts) (walking-end s small w e .pending) in
+        pending-done (pending-laid (totalsShown (length s) k) [] (pending-last (totalsShown (length s) k) all) short room stored place)
 
 laid-nothing : (buf : List ℕ) (at : ℕ) → laid buf at [] ≡ buf
 unfolding laid

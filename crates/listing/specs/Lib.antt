@@ -1,3 +1,4 @@
 pub mod Roster
+pub mod Seating
 pub mod Listing
 pub mod Words

@@ -8,6 +8,7 @@ use Rattle.wire.specs.Message.{Answer, given, refused}
 use Rattle.frames.specs.Step.{payloadIn}
 use Rattle.frames.specs.Reading.{closedSteps, framesOf, countsOf}
 use Rattle.frames.specs.declared.step.Frame.{Frame}
+use Rattle.frames.specs.declared.cursor.Counts.{Counts}
 use Rattle.payloads.specs.Table.{answerFor}
 use Rattle.epochs.specs.Collator.{made}
 use Rattle.epochs.specs.Epoch.{fedItem, itemIn}
@@ -19,18 +20,22 @@ use Rattle.text.specs.Line.{line}
 use Rattle.listing.specs.Roster.{rosterIn}
 
 -- `F` offset type sender length payload-answer
+abbrev pub frameShown : Frame → ℕ → List ℕ
+frameShown f answer = line 0x46 (f .at ∷ f .kind ∷ f .sender ∷ f .length ∷ answer ∷ [])
+
 abbrev pub frameLine : List ℕ → Frame → List ℕ
-frameLine s f = line 0x46 (f .at ∷ f .kind ∷ f .sender ∷ f .length ∷ answerFor (f .kind) (payloadIn s f) ∷ [])
+frameLine s f = frameShown f (answerFor (f .kind) (payloadIn s f))
 
 -- `E` sender wn tow n observations
 abbrev pub epochLine : Report → List ℕ
 epochLine e = line 0x45 (e .sender ∷ e .wn ∷ e .tow ∷ e .n ∷ e .observations ∷ [])
 
 -- `T` length, frame bytes, junk, bad, short
+abbrev pub totalsShown : ℕ → Counts → List ℕ
+totalsShown n c = line 0x54 (n ∷ c .framed ∷ c .junk ∷ c .bad ∷ c .short ∷ [])
+
 abbrev pub totalsLine : List ℕ → List ℕ
-totalsLine s =
-    let c = countsOf (closedSteps s) in
-    line 0x54 (length s ∷ c .framed ∷ c .junk ∷ c .bad ∷ c .short ∷ [])
+totalsLine s = totalsShown (length s) (countsOf (closedSteps s))
 
 -- what stands after a frame's line: the epoch that it ends
 abbrev pub told : Happened → List ℕ
@@ -45,13 +50,9 @@ framesText s c (f ∷ fs) =
     let fed = fedItem c (itemIn s f) in
     frameLine s f ++ told (fed .happened) ++ framesText s (fed .collator) fs
 
--- a whole capture, whose frames are fed to a collator
-abbrev pub textFrom : List ℕ → Collator → List ℕ
-textFrom s c = framesText s c (framesOf (closedSteps s)) ++ totalsLine s
-
--- where no sender is listed the collator lists nobody, and reports nothing
+-- a whole capture, fed to a collator of its roster. Where that is empty the collator lists nobody, and reports nothing
 abbrev pub textOf : List ℕ → List ℕ
-textOf s = textFrom s (made (rosterIn s) .collator)
+textOf s = framesText s (made (rosterIn s) .collator) (framesOf (closedSteps s)) ++ totalsLine s
 
 -- 11 for a capture over 65536 bytes, then 32 where the text has no room
 unfoldable pub listAnswer : List ℕ → ℕ → Answer ℕ

@@ -1,15 +1,14 @@
 // The lines of a listing, one after the other in a lent buffer.
 ghost use mathlib.Core.Path.{_≡_};
 ghost use Prim.Native.Nat.{_+_, _%_, _^_, _≤_, _<_};
-ghost use mathlib.Core.List.{[], _∷_};
 ghost use lib.Dec.{leb};
 ghost use lib.ListN.{length};
 ghost use lib.Seq.{sets};
 ghost use Rattle.frames.specs.Writer.{writtenAnswer};
-ghost use Rattle.text.specs.Line.{line, laid};
-ghost use Rattle.listing.specs.Listing.{told, textOf, listAnswer, listed};
+ghost use Rattle.text.specs.Line.{laid};
+ghost use Rattle.listing.specs.Listing.{frameShown, totalsShown, told, textOf, listAnswer, listed};
 use crate::rostering::enlisted;
-use crate::rostering::nobody;
+use epochs::Collator;
 use epochs::Happened;
 use frames::Counts;
 use frames::Cursor;
@@ -19,8 +18,8 @@ use frames::Written;
 
 // `F` offset type sender length payload-answer
 fn put_frame(buf: &mut [u8], at: usize, f: Frame, answer: u8) -> usize
-    ensures { λ r. ⌜ r ≡ (at + length (line 0x46 (f .at ∷ f .kind ∷ f .sender ∷ f .length ∷ answer ∷ []))) % 2 ^ 64 ⌝ }
-    ensures { λ _. ⌜ now (buf .exit) ≡ laid (now (buf .entry)) at (line 0x46 (f .at ∷ f .kind ∷ f .sender ∷ f .length ∷ answer ∷ [])) ⌝ }
+    ensures { λ r. ⌜ r ≡ (at + length (frameShown f answer)) % 2 ^ 64 ⌝ }
+    ensures { λ _. ⌜ now (buf .exit) ≡ laid (now (buf .entry)) at (frameShown f answer) ⌝ }
 {
     text::put_line(
         buf,
@@ -63,8 +62,8 @@ fn put_told(buf: &mut [u8], at: usize, happened: Happened) -> usize
 
 // `T` length, frame bytes, junk, bad, short
 fn put_totals(buf: &mut [u8], at: usize, n: usize, c: Counts) -> usize
-    ensures { λ r. ⌜ r ≡ (at + length (line 0x54 (n ∷ c .framed ∷ c .junk ∷ c .bad ∷ c .short ∷ []))) % 2 ^ 64 ⌝ }
-    ensures { λ _. ⌜ now (buf .exit) ≡ laid (now (buf .entry)) at (line 0x54 (n ∷ c .framed ∷ c .junk ∷ c .bad ∷ c .short ∷ [])) ⌝ }
+    ensures { λ r. ⌜ r ≡ (at + length (totalsShown n c)) % 2 ^ 64 ⌝ }
+    ensures { λ _. ⌜ now (buf .exit) ≡ laid (now (buf .entry)) at (totalsShown n c) ⌝ }
 {
     text::put_line(
         buf,
@@ -87,7 +86,9 @@ fn put_text(s: &[u8], buf: &mut [u8]) -> usize
     ensures { λ _. ⌜ (length (textOf (now (s .entry))) ≤ length (now (buf .entry)) → now (buf .exit) ≡ sets (now (buf .entry)) 0 (textOf (now (s .entry)))) ⌝ }
 {
     let mut at = 0;
-    let mut collator = nobody();
+    // An empty roster makes a collator that lists nobody.
+    let nobody = Collator::made(&[]);
+    let mut collator = nobody.collator;
     let mut cursor = Cursor::closed();
     loop {
         let next = cursor.next(s);

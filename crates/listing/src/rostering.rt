@@ -1,24 +1,9 @@
 // Whose epochs a listing shows: the first eight different senders of OBS frames. A collator takes them on as their frames come.
 ghost use mathlib.Core.Path.{_≡_};
-ghost use mathlib.Core.List.{[]};
-ghost use Rattle.epochs.specs.Collator.{fresh};
-ghost use Rattle.listing.specs.Roster.{joinedTo, enlistedTo};
+ghost use Rattle.listing.specs.Seating.{joinedTo, enlistedTo};
 use epochs::Collator;
-use epochs::Place;
-use epochs::Run;
 use epochs::Seat;
 use frames::Frame;
-
-// A collator that lists nobody yet.
-pub fn nobody() -> Collator
-    ensures { λ r. ⌜ r ≡ fresh [] ⌝ }
-{
-    Collator {
-        places: [Place { run: Run::Idle }; 8],
-        roster: [0u16; 8],
-        count: 0,
-    }
-}
 
 // A sender that has no seat yet gets the next one, while there is room.
 fn joined(collator: Collator, sender: u16) -> Collator

@@ -5,8 +5,6 @@ use native.Mathlib.Omega.{arith}
 use lib.Dec.{leb}
 use lib.ListN.{length}
 use borrow.Author.Tests.{le-leb}
-use Rattle.epochs.specs.Collator.{made}
-use Rattle.listing.specs.Roster.{rosterIn}
 use Rattle.listing.specs.Listing.{textOf}
 use Rattle.listing.proofs.Sizes.{text-size}
 use borrow.Author.Needs.{needs}
@@ -22,7 +20,7 @@ add-if1 c = search needs
 returns : tie.Need-returns
 returns c =
     let a = c .before .before .args in
-    let most = text-size (a .s .now) (λ i. c .before .shared-slice-known .given i .fits) (c .before .before .pre) (made (rosterIn (a .s .now)) .collator) in
+    let most = text-size (a .s .now) (λ i. c .before .shared-slice-known .given i .fits) (c .before .before .pre) in
     sym (le-leb (length (textOf (a .s .now))) (a .room) (omega (arith, most, c .if1 .taken)))
 
 slice-aggregate-put-text : tie.Need-slice-aggregate-put-text
@@ -31,7 +29,7 @@ slice-aggregate-put-text c = search needs
 put-text-requires : tie.Need-put-text-requires
 put-text-requires c κs =
     let a = c .before .before .before .args in
-    omega (arith, text-size (a .s .now) (λ i. c .before .before .shared-slice-known .given i .fits) (c .before .before .before .pre) (made (rosterIn (a .s .now)) .collator), c .before .before .before .pre)
+    omega (arith, text-size (a .s .now) (λ i. c .before .before .shared-slice-known .given i .fits) (c .before .before .before .pre), c .before .before .before .pre)
 
 returns-2 : tie.Need-returns-2
 returns-2 c = ap (λ (n : ℕ). leb n (c .before .before .before .before .before .args .room)) (c .before .put-text .ensures .0)

@@ -1,8 +1,6 @@
 -- `listing::listing::list` meets its contract.
 use mathlib.Core.Path.{sym, _∙_}
 use native.Mathlib.Omega.{arith}
-use Rattle.epochs.specs.Collator.{made}
-use Rattle.listing.specs.Roster.{rosterIn}
 use Rattle.listing.proofs.Texts.{too-long, no-room, all-listed}
 use Rattle.listing.proofs.Sizes.{text-size}
 use borrow.Author.Needs.{needs}
@@ -19,7 +17,7 @@ put-text-requires : tie.Need-put-text-requires
 put-text-requires c κs =
     let s = c .before .before .before .before .before .before .args .s .now in
     let short = c .before .before .before .if1 .left in
-    omega (arith, text-size s (λ i. c .before .before .before .before .before .shared-slice-known .given i .fits) short (made (rosterIn s) .collator), short)
+    omega (arith, text-size s (λ i. c .before .before .before .before .before .shared-slice-known .given i .fits) short, short)
 
 same-length : tie.Need-same-length
 same-length c = search needs

@@ -7,7 +7,9 @@ use lib.Seq.{length-sets}
 use Rattle.frames.proofs.Walks.{Walking, left, left-fewer, never-needs}
 use Rattle.payloads.specs.Table.{answerFor}
 use Rattle.epochs.specs.Collator.{fed}
+use Rattle.epochs.specs.declared.collating.Made.{Made}
 use Rattle.listing.specs.Listing.{textOf}
+use Rattle.listing.proofs.Accepted.{lists-nobody}
 use Rattle.listing.proofs.Texts.{Putting, putting-begun, putting-on, putting-end}
 use Rattle.listing.proofs.listing.put_text.Statement.{statement}
 use Rattle.listing.proofs.listing.put_text.Tie as tie
@@ -18,16 +20,19 @@ Inv-loop s buf₀ at₀ collator₀ cursor₀ buf at collator cursor = Walking s
 abbrev μ-loop : tie.MeasureT-loop
 μ-loop s buf₀ at₀ collator₀ cursor₀ buf at collator cursor = length (left s cursor)
 
-nobody-requires : tie.Need-nobody-requires Inv-loop μ-loop
-nobody-requires c κs = search needs
+slice-aggregate-made : tie.Need-slice-aggregate-made Inv-loop μ-loop
+slice-aggregate-made c = search needs
+
+made-requires : tie.Need-made-requires Inv-loop μ-loop
+made-requires c κs = search needs
 
 closed-requires : tie.Need-closed-requires Inv-loop μ-loop
 closed-requires c κs = search needs
 
 loop-holds : tie.Need-loop-holds Inv-loop μ-loop
 loop-holds c =
-    let a = c .before .before .before .before in
-    putting-begun (a .args .s .now) (a .args .buf .now) (a .good .0 .0) (a .pre) (c .before .nobody .ensures) (c .closed .ensures)
+    let a = c .before .before .before .before .before .before in
+    putting-begun (a .args .s .now) (a .args .buf .now) (a .good .0 .0) (a .pre) (ap (λ (m : Made). m .collator) (c .before .before .made .ensures) ∙ lists-nobody) (c .closed .ensures)
 
 next-requires : tie.Need-next-requires Inv-loop μ-loop
 next-requires c κs = search needs
@@ -56,13 +61,13 @@ put-told-requires c κs = search needs
 loop-less : tie.Need-loop-less Inv-loop μ-loop
 loop-less c =
     let at = c .before .before .before .before .before .before .before .before .before .before .before .before .before .before .before .before in
-    let a = at .before .before .before .before .before .before in
+    let a = at .before .before .before .before .before .before .before .before in
     left-fewer (a .args .s .now) (a .good .0 .0) (at .before .loop .inv .honest) (sym (at .next .ensures) ∙ c .before .before .before .before .before .before .before .before .before .before .before .before .before .before .next2 .given .1)
 
 loop-again : tie.Need-loop-again Inv-loop μ-loop
 loop-again c =
     let at = c .before .before .before .before .before .before .before .before .before .before .before .before .before .before .before .before in
-    let a = at .before .before .before .before .before .before in
+    let a = at .before .before .before .before .before .before .before .before in
     let frame = c .before .before .before .before .before .before .before .before .before .before .before .before .before .before .next2 .given in
     let payload = c .before .before .before .before .before .before .before .before .before .before .before .before .payload .ensures in
     let answer = c .before .before .before .before .before .before .before .before .before .before .answer .ensures ∙ ap (answerFor (frame .0 .0 .kind)) payload in
@@ -83,13 +88,13 @@ put-totals-requires c κs = search needs
 
 same-length : tie.Need-same-length Inv-loop μ-loop
 same-length c =
-    let a = c .before .before .before .before .before .before .before .before .before .before .before .before .before .before .args in
+    let a = c .before .before .before .before .before .before .before .before .before .before .before .before .before .before .before .before .args in
     omega (arith, c .before .before .put-totals .kept, c .before .before .before .before .before .before .before .before .before .loop .inv .rest .pending .size, length-sets (a .buf .now) 0 (textOf (a .s .now)))
 
 returns : tie.Need-returns Inv-loop μ-loop
 returns c =
     let at = c .before .before .before .before .before .before .before .before in
-    let a = at .before .before .before .before .before .before in
+    let a = at .before .before .before .before .before .before .before .before in
     putting-end (a .args .s .now) (a .args .buf .now) (a .good .0 .0) (a .pre) (at .before .loop .inv) (sym (at .next .ensures) ∙ c .before .before .before .before .before .before .next3 .given .1) (c .before .before .before .counts .ensures) (c .before .before .put-totals .ensures .0) (c .before .before .put-totals .ensures .1)
 
 enum-told : tie.Need-enum-told Inv-loop μ-loop
@@ -97,13 +102,13 @@ enum-told c = search needs
 
 same-length-2 : tie.Need-same-length-2 Inv-loop μ-loop
 same-length-2 c =
-    let a = c .before .before .before .before .before .before .before .before .args in
+    let a = c .before .before .before .before .before .before .before .before .before .before .args in
     omega (arith, c .before .before .before .loop .inv .rest .pending .size, length-sets (a .buf .now) 0 (textOf (a .s .now)))
 
 returns-2 : tie.Need-returns-2 Inv-loop μ-loop
 returns-2 c =
     let at = c .before .before in
-    let a = at .before .before .before .before .before .before in
+    let a = at .before .before .before .before .before .before .before .before in
     absurd (never-needs (a .args .s .now) (a .good .0 .0) (at .before .loop .inv .honest) (sym (at .next .ensures) ∙ c .enum-told .given .1))
 
 pub put-text-spec : {M : Type 1} → statement M
@@ -112,7 +117,8 @@ put-text-spec =
     (tie.spec
     Inv-loop
     μ-loop
-    nobody-requires
+    slice-aggregate-made
+    made-requires
     closed-requires
     loop-holds
     next-requires
