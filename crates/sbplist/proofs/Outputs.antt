@@ -11,10 +11,8 @@ use borrow.Author.Tests.{le-leb, lt-leb, leb-true, leb-false}
 use Rattle.wire.specs.Number.{Bytes}
 use Rattle.wire.specs.Message.{Answer, given, refused}
 use Rattle.wire.proofs.Answers.{same-given, never-both}
-use Rattle.epochs.specs.Collator.{made}
 use Rattle.text.specs.Decimal.{digitsOf}
 use Rattle.text.specs.Line.{line}
-use Rattle.listing.specs.Roster.{rosterIn}
 use Rattle.listing.specs.Listing.{textOf, listAnswer, listedAs, listed, output}
 use Rattle.listing.proofs.Sizes.{text-size}
 
@@ -54,7 +52,7 @@ module _ (s : List ℕ) where
       by : (t : Bool) → leb (length s) 65536 ≡ t → 65536 < length s
       by true e =
           let short = leb-true (length s) 65536 e in
-          let most = text-size s bytes short (made (rosterIn s) .collator) in
+          let most = text-size s bytes short in
           let fits = le-leb (length (textOf s)) room (omega (arith, most, short, h)) in
           absurd (never-both {x = length (textOf s)} (rw (e, fits)) r)
       by false e = leb-false (length s) 65536 e
