@@ -2,7 +2,7 @@
 use mathlib.Core.Path.{_≡_, refl, sym, ap, _∙_, subst⁻¹}
 use mathlib.Core.Bool.{Bool, true, false}
 use mathlib.Core.List.{List, [], _∷_}
-use mathlib.Core.Logic.{_↔_}
+use mathlib.Core.Logic.{_↔_, inl, inr}
 use Prim.Native.Nat.{ℕ}
 use lib.Dec.{eqb}
 use lib.ListN.{length}
@@ -10,9 +10,9 @@ use borrow.Author.Tests.{eq-eqb, ne-eqb, eqb-true, eqb-false}
 use Rattle.wire.specs.Number.{Bytes}
 use Rattle.wire.specs.Field.{Row, HeldRow, SettledRow, allowedRow, rowBits, size, encode, decode}
 use Rattle.wire.specs.Message.{given, refused, Message, judged, readAs, payloadOf}
+use Rattle.wire.specs.Tests.{Tests, FirstFails}
 use Rattle.wire.proofs.Fields.{again, again-bits, again-settled, allowed-again-row, length-encode, decode-encode, encode-decode, decode-settled}
-use Rattle.wire.proofs.Answers.{exactly-first, exactly-second}
-use Rattle.wire.proofs.Ordered.{exactly-all}
+use Rattle.wire.proofs.Ordered.{exactly-first, exactly-all}
 
 module _ {R : Type 0} (m : Message R) where
   -- ---- reading, by cases
@@ -40,17 +40,27 @@ module _ {R : Type 0} (m : Message R) where
     unfolding readAs judged
     read-given e a = rw (eq-eqb (length s) (size (m .fields)) e, a)
 
+    abbrev tests : Tests
+    tests = (fits, 22) ∷ (inside, 23) ∷ []
+
     -- a payload is refused exactly when one of its cases holds, by the first
     pub exactly-22 : (readAs m s ≡ refused 22) ↔ (length s ≡ size (m .fields) → ⊥)
     unfolding readAs judged
-    exactly-22 = (λ r. eqb-false (length s) (size (m .fields)) (exactly-first made 22 23 (eqb-false 23 22 refl) fits inside .0 r), read-22)
+    exactly-22 = (λ r. only (exactly-first made tests 22 .0 r), read-22)
+      where
+        only : FirstFails tests 22 → length s ≡ size (m .fields) → ⊥
+        only (inl f) = eqb-false (length s) (size (m .fields)) (f .0)
+        only (inr (t, inl f)) = absurd (eqb-false 22 23 refl (f .1))
+        only (inr (t, inr f)) = absurd (f .1)
 
     pub exactly-23 : (readAs m s ≡ refused 23) ↔ ((length s ≡ size (m .fields)) × (inside ≡ false))
     unfolding readAs judged
-    exactly-23 = (
-      λ r. let t = exactly-second made 22 23 (eqb-false 23 22 refl) fits inside .0 r in (eqb-true (length s) (size (m .fields)) (t .0), t .1),
-      λ c. read-23 (c .0) (c .1),
-    )
+    exactly-23 = (λ r. only (exactly-first made tests 23 .0 r), λ c. read-23 (c .0) (c .1))
+      where
+        only : FirstFails tests 23 → (length s ≡ size (m .fields)) × (inside ≡ false)
+        only (inl f) = absurd (eqb-false 23 22 refl (f .1))
+        only (inr (t, inl f)) = (eqb-true (length s) (size (m .fields)) t, f .0)
+        only (inr (t, inr f)) = absurd (f .1)
 
     -- the row of what was made is the row read
     row-made : (r : R) → r ≡ made → m .row r ≡ decode (m .fields) s 0
@@ -59,7 +69,7 @@ module _ {R : Type 0} (m : Message R) where
     accepted : (r : R) → readAs m s ≡ given r → (length s ≡ size (m .fields)) × (inside ≡ true) × (m .row r ≡ decode (m .fields) s 0)
     unfolding readAs judged
     accepted r g =
-        let a = exactly-all made ((fits, 22) ∷ (inside, 23) ∷ []) r .0 g in
+        let a = exactly-all made tests r .0 g in
         (eqb-true (length s) (size (m .fields)) (a .0 .0), a .0 .1 .0, row-made r (sym (a .1)))
 
   -- ---- writing, by cases
