@@ -2,7 +2,7 @@
 -- so once they are turned over. Assumes nothing.
 use mathlib.Core.Path.{_≡_, sym, ap, _∙_}
 use mathlib.Core.Bool.{Bool, true, false, true≢false}
-use Prim.Native.Nat.{ℕ, suc, _-_, _^_, _≤_, _<_}
+use Prim.Native.Nat.{ℕ, _-_, _^_, _≤_, _<_}
 use native.Mathlib.Nat.{not-suc-le-zero, lt-of-lt-of-le}
 use native.Mathlib.Omega.{arith}
 use borrow.Author.Tests.{ltb-true}
@@ -30,9 +30,6 @@ turned-twice w n f = sub-sub-self (le-ones (bits w) (f .fits))
 pub kept : (w : Width) (n : ℕ) → toZ w n ≡ pos n → Fits w n → T (nonNeg (toZ w n)) × Fits w (natAbs (toZ w n))
 kept w n e f = rw e (tt, f)
 
-sub-pred-suc : (m n : ℕ) → n < m → m - 1 - (m - suc n) ≡ n
-sub-pred-suc m n h = omega arith
-
 -- the test says what the number is
 sign : (w : Width) (z : ℤ) → SFits w z → negative w z ≡ ltZ z (pos 0)
 sign w z f = ap (λ (x : ℤ). ltZ x (pos 0)) (toZ-ofZ w z f)
@@ -44,7 +41,7 @@ plain w (negsuc n) f e = absurd (true≢false (sym (sign w (negsuc n) f) ∙ e))
 pub over : (w : Width) (z : ℤ) → SFits w z → negative w z ≡ true → toZ w (turned w (ofZ w z)) ≡ pos (turned w (ofZ w z))
 over w (pos n) f e = absurd (not-suc-le-zero (ltb-true n 0 (sym (sign w (pos n) f) ∙ e)))
 over w (negsuc n) f e =
-    let back : turned w (ofZ w (negsuc n)) ≡ n = sub-pred-suc (2 ^ bits w) n (half-full w (f .sfits)) in
+    let back : turned w (ofZ w (negsuc n)) ≡ n = omega (arith, half-full w (f .sfits)) in
     rw back (toZ-pos w n (f .sfits))
 
 -- turned over, cast and turned over again
