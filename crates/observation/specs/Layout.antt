@@ -18,13 +18,13 @@ pub record Layout : Type 0 where
 abbrev pub first : Layout
 first = record { kind = 0x0049; head = 7; each = 16; most = 15 }
 
--- n is a length of the edition
-abbrev pub fitting : Layout → ℕ → Bool
-fitting l n = leb (l .head) n && eqb ((n - l .head) % l .each) 0 && leb ((n - l .head) / l .each) (l .most)
-
 -- how many observations a payload of n bytes has
 abbrev pub countIn : Layout → ℕ → ℕ
 countIn l n = (n - l .head) / l .each
+
+-- n is a length of the edition
+abbrev pub fitting : Layout → ℕ → Bool
+fitting l n = leb (l .head) n && eqb ((n - l .head) % l .each) 0 && leb (countIn l n) (l .most)
 
 -- where observation i begins
 abbrev pub startOf : Layout → ℕ → ℕ
