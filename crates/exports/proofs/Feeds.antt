@@ -8,6 +8,8 @@ use lib.ListN.{length, getD, set, length-take}
 use borrow.Author.Tests.{le-leb, lt-leb}
 use Rattle.wire.specs.Number.{Bytes}
 use Rattle.wire.specs.Field.{decode}
+use Rattle.crc.specs.Table.{listed}
+use Rattle.crc.proofs.Table.{listed-at}
 use Rattle.epochs.specs.Packet.{judged}
 use Rattle.epochs.specs.Collator.{idle, stepped, told, acted, rosterOf, fed}
 use Rattle.epochs.specs.declared.judging.Packet.{Packet}
@@ -22,11 +24,9 @@ use Rattle.epochs.specs.declared.collating.Happened.{Happened}
 use Rattle.epochs.specs.declared.collating.Happened.the-variants as H
 use Rattle.epochs.proofs.Judgements.{judged-below, judged-formed, judged-n, judged-time}
 use Rattle.epochs.proofs.Reports.{SmallIn, Small, report-small}
-use Rattle.exports.specs.Rows.{upTo}
 use Rattle.exports.specs.State.{placeIn, placeStored, stateIn}
 use Rattle.exports.specs.Feed.{reportFields, reportRow, happenedNumber, happenedStored, FedIn, untouched, cameOut, takenIn, actedIn, fedIn}
 use Rattle.exports.proofs.Parts.{stored-front, decode-stored}
-use Rattle.exports.proofs.Tables.{upTo-at}
 use Rattle.exports.proofs.States.{SmallPacket, stepped-small, state-place}
 
 module _ (s : List ℕ) (kind sender : ℕ) (payload report : List ℕ) where
@@ -70,6 +70,7 @@ module _ (s : List ℕ) (kind sender : ℕ) (payload report : List ℕ) where
 
 -- the place of a packet is one of the eight
 pub eight : (s : List ℕ) (kind sender : ℕ) (payload : List ℕ) {i : ℕ} {p : Packet} → judged (rosterOf (stateIn s)) kind sender payload ≡ J.For i p → i < 8
+unfolding listed
 eight s kind sender payload e = omega (arith, simp length-take at (judged-below (rosterOf (stateIn s)) kind sender payload e))
 
 -- ---- tied to the collator
@@ -99,7 +100,7 @@ module _ (s : List ℕ) (kind sender : ℕ) (payload report : List ℕ) (long : 
       by (J.For i p) e =
           let h : i < 8 = eight s kind sender payload e in
           let c = stateIn s in
-          let own : getD (upTo 8 (placeIn s)) i idle ≡ placeIn s i = upTo-at 8 (placeIn s) i idle h in
+          let own : getD (listed (placeIn s) 8) i idle ≡ placeIn s i = listed-at (placeIn s) 8 i idle h in
           let same : stepped (placeIn s i) p ≡ stepped (getD (c .places) i idle) p = ap (λ (q : Place). stepped q p) (sym own) in
           record {
             state =

@@ -10,6 +10,7 @@ use borrow.Author.Tests.{ltb-true, ltb-false}
 use Rattle.wire.specs.Number.{numberAt}
 use Rattle.wire.specs.Field.{any, u8, u16, HeldRow, SettledRow, rowStored, Row}
 use Rattle.wire.proofs.Fields.{length-row}
+use Rattle.crc.specs.Table.{listed}
 use Rattle.epochs.specs.Collator.{idle, stepped}
 use Rattle.epochs.specs.declared.judging.Packet.{Packet}
 use Rattle.epochs.specs.declared.placing.Part.{Part}
@@ -19,10 +20,9 @@ use Rattle.epochs.specs.declared.placing.Place.{Place}
 use Rattle.epochs.specs.declared.placing.Stepped.{Stepped}
 use Rattle.epochs.specs.declared.collating.Collator.{Collator}
 use Rattle.epochs.proofs.Places.{step-cases}
-use Rattle.exports.specs.Rows.{upTo}
 use Rattle.exports.specs.State.{slotFields, slotRow, slotMake, placeOf, slotFor, slotOf, slotAt, placeIn, placeStored, countIn, seatsIn, stateIn, seatRow, seatsStored, placeRow, collatorStored}
 use Rattle.exports.proofs.Parts.{decode-stored, decode-before, decode-after}
-use Rattle.exports.proofs.Tables.{upTo-set, upTo-same, upTo-list, rows-own, rows-before, length-stored}
+use Rattle.exports.proofs.Tables.{listed-set, listed-same, listed-all, rows-own, rows-before, length-stored}
 
 -- ---- a place that its bytes hold
 
@@ -95,7 +95,7 @@ module _ (s : List ℕ) (long : 105 ≤ length s) (i : ℕ) (h : i < 8) (place :
 
   same-seats : seatsIn (placeStored s i place) ≡ seatsIn s
   same-seats =
-      upTo-same 8 (λ j. numberAt 2 (placeStored s i place) (1 + j * 2)) (λ j. numberAt 2 s (1 + j * 2))
+      listed-same (λ j. numberAt 2 (placeStored s i place) (1 + j * 2)) (λ j. numberAt 2 s (1 + j * 2)) 8
       λ j b.
       ap (λ (v : Row (any u16 ∷ [])). v .0) (decode-before slotFields (slotRow (slotOf place)) s (slotAt i) room (any u16 ∷ []) (1 + j * 2) (omega arith))
 
@@ -103,8 +103,8 @@ module _ (s : List ℕ) (long : 105 ≤ length s) (i : ℕ) (h : i < 8) (place :
   pub state-place : Small place
       → stateIn (placeStored s i place) ≡ record { places = set (stateIn s .places) i place; roster = stateIn s .roster; count = stateIn s .count }
   state-place small =
-      let places : upTo 8 (placeIn (placeStored s i place)) ≡ set (upTo 8 (placeIn s)) i place
-      = upTo-set 8 (placeIn s) (placeIn (placeStored s i place)) i h (λ k b. other-place k) ∙ ap (set (upTo 8 (placeIn s)) i) (own-place small) in
+      let places : listed (placeIn (placeStored s i place)) 8 ≡ set (listed (placeIn s) 8) i place
+      = listed-set (placeIn s) (placeIn (placeStored s i place)) 8 i h (λ k b. other-place k) ∙ ap (set (listed (placeIn s) 8) i) (own-place small) in
       λ k. record { places = places k; roster = same-seats k; count = same-count k }
 
 -- ---- a whole collator stored
@@ -161,8 +161,8 @@ module _ (c : Collator) (h : Held c) (s : List ℕ) (long : 105 ≤ length s) wh
   state-stored =
       let t = collatorStored c s in
       let seat : ℕ → ℕ = λ j. numberAt 2 t (1 + j * 2) in
-      let seats : upTo 8 seat ≡ c .roster
-      = ap (λ (n : ℕ). upTo n seat) (sym (h .seats)) ∙ upTo-list (c .roster) seat 0 (λ j b. seat-back j (omega (arith, h .seats))) in
-      let places : upTo 8 (placeIn t) ≡ c .places
-      = ap (λ (n : ℕ). upTo n (placeIn t)) (sym (h .eight)) ∙ upTo-list (c .places) (placeIn t) idle (λ j b. place-back j (omega (arith, h .eight))) in
+      let seats : listed seat 8 ≡ c .roster
+      = ap (listed seat) (sym (h .seats)) ∙ listed-all seat (c .roster) 0 (λ j b. seat-back j (omega (arith, h .seats))) in
+      let places : listed (placeIn t) 8 ≡ c .places
+      = ap (listed (placeIn t)) (sym (h .eight)) ∙ listed-all (placeIn t) (c .places) idle (λ j b. place-back j (omega (arith, h .eight))) in
       λ k. record { places = places k; roster = seats k; count = count-back k }

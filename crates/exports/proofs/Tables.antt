@@ -11,35 +11,34 @@ use lib.ListN.{length, getD, set}
 use borrow.Author.Tests.{eqb-true, eqb-false}
 use Rattle.wire.specs.Field.{Field, Row, HeldRow, SettledRow, size, decode, rowStored}
 use Rattle.wire.proofs.Fields.{length-row}
-use Rattle.exports.specs.Rows.{rowsStored, upTo}
+use Rattle.crc.specs.Table.{listed}
+use Rattle.exports.specs.Rows.{rowsStored}
 use Rattle.exports.proofs.Parts.{decode-stored, decode-before}
 
 -- ---- lists by index
 
 module _ {A : Type 0} where
-  pub upTo-at : (n : ℕ) (f : ℕ → A) (j : ℕ) (d : A) → j < n → getD (upTo n f) j d ≡ f j
-  upTo-at zero f j d h = absurd (omega arith)
-  upTo-at (suc n) f zero d h = refl
-  upTo-at (suc n) f (suc j) d h = upTo-at n (λ k. f (suc k)) j d (omega arith)
-
-  pub upTo-same : (n : ℕ) (f g : ℕ → A) → ((j : ℕ) → j < n → f j ≡ g j) → upTo n f ≡ upTo n g
-  upTo-same zero f g h = refl
-  upTo-same (suc n) f g h =
-      ap₂ (λ (x : A) (xs : List A). x ∷ xs) (h 0 (omega arith)) (upTo-same n (λ k. f (suc k)) (λ k. g (suc k)) (λ j b. h (suc j) (omega arith)))
+  pub listed-same : (f g : ℕ → A) (n : ℕ) → ((j : ℕ) → j < n → f j ≡ g j) → listed f n ≡ listed g n
+  unfolding listed
+  listed-same f g zero h = refl
+  listed-same f g (suc n) h =
+      ap₂ (λ (x : A) (xs : List A). x ∷ xs) (h 0 (omega arith)) (listed-same (λ k. f (suc k)) (λ k. g (suc k)) n (λ j b. h (suc j) (omega arith)))
 
   -- one index alone is another's
-  pub upTo-set : (n : ℕ) (f g : ℕ → A) (j : ℕ) → j < n → ((k : ℕ) → k < n → (k ≡ j → ⊥) → g k ≡ f k) → upTo n g ≡ set (upTo n f) j (g j)
-  upTo-set zero f g j h others = absurd (omega arith)
-  upTo-set (suc n) f g zero h others =
-      ap (λ (xs : List A). g 0 ∷ xs) (upTo-same n (λ k. g (suc k)) (λ k. f (suc k)) (λ k b. others (suc k) (omega arith) (λ e. omega arith)))
-  upTo-set (suc n) f g (suc j) h others =
+  pub listed-set : (f g : ℕ → A) (n j : ℕ) → j < n → ((k : ℕ) → k < n → (k ≡ j → ⊥) → g k ≡ f k) → listed g n ≡ set (listed f n) j (g j)
+  unfolding listed
+  listed-set f g zero j h others = absurd (omega arith)
+  listed-set f g (suc n) zero h others =
+      ap (λ (xs : List A). g 0 ∷ xs) (listed-same (λ k. g (suc k)) (λ k. f (suc k)) n (λ k b. others (suc k) (omega arith) (λ e. omega arith)))
+  listed-set f g (suc n) (suc j) h others =
       ap₂ (λ (x : A) (xs : List A). x ∷ xs) (others 0 (omega arith) (λ e. omega arith))
-      (upTo-set n (λ k. f (suc k)) (λ k. g (suc k)) j (omega arith) (λ k b other. others (suc k) (omega arith) (λ e. other (omega arith))))
+      (listed-set (λ k. f (suc k)) (λ k. g (suc k)) n j (omega arith) (λ k b other. others (suc k) (omega arith) (λ e. other (omega arith))))
 
-  pub upTo-list : (xs : List A) (f : ℕ → A) (d : A) → ((j : ℕ) → j < length xs → f j ≡ getD xs j d) → upTo (length xs) f ≡ xs
-  upTo-list [] f d h = refl
-  upTo-list (x ∷ xs) f d h =
-      ap₂ (λ (x : A) (xs : List A). x ∷ xs) (h 0 (omega arith)) (upTo-list xs (λ k. f (suc k)) d (λ j b. h (suc j) (omega arith)))
+  pub listed-all : (f : ℕ → A) (xs : List A) (d : A) → ((j : ℕ) → j < length xs → f j ≡ getD xs j d) → listed f (length xs) ≡ xs
+  unfolding listed
+  listed-all f [] d h = refl
+  listed-all f (x ∷ xs) d h =
+      ap₂ (λ (x : A) (xs : List A). x ∷ xs) (h 0 (omega arith)) (listed-all (λ k. f (suc k)) xs d (λ j b. h (suc j) (omega arith)))
 
 -- ---- rows
 

@@ -1,7 +1,7 @@
 -- Rows of fields in a buffer: one at its start, and some one after the other. Assumes nothing.
 use Prim.Native.Nat.{ℕ, zero, suc, _+_, _*_}
 use mathlib.Core.Bool.{cond}
-use mathlib.Core.List.{List, [], _∷_, _++_}
+use mathlib.Core.List.{List, _++_}
 use lib.Dec.{leb}
 use lib.ListN.{length, drop}
 use Rattle.wire.specs.Field.{Field, Row, size, encode, rowStored}
@@ -22,8 +22,3 @@ rowLaid fs v buf = cond (leb (size fs) (length buf)) (atFront fs v buf) buf
 unfoldable pub rowsStored : (fs : List Field) → (ℕ → Row fs) → ℕ → List ℕ → ℕ → List ℕ
 rowsStored fs row zero s at = s
 rowsStored fs row (suc n) s at = rowStored fs (row n) (rowsStored fs row n s at) (at + n * size fs)
-
--- f 0, f 1, .. : n of them
-abbrev pub upTo : {A : Type 0} → ℕ → (ℕ → A) → List A
-upTo zero f = []
-upTo (suc n) f = f 0 ∷ upTo n (λ k. f (suc k))

@@ -6,12 +6,13 @@ use lib.Dec.{eqb}
 use lib.ListN.{getD}
 use Rattle.wire.specs.Number.{numberAt}
 use Rattle.wire.specs.Field.{Field, any, u8, u16, u32, Row, decode, rowStored}
+use Rattle.crc.specs.Table.{listed}
 use Rattle.epochs.specs.Collator.{idle}
 use Rattle.epochs.specs.declared.placing.Run.{Run}
 use Rattle.epochs.specs.declared.placing.Run.the-variants.{Idle, Open}
 use Rattle.epochs.specs.declared.placing.Place.{Place}
 use Rattle.epochs.specs.declared.collating.Collator.{Collator}
-use Rattle.exports.specs.Rows.{rowsStored, upTo}
+use Rattle.exports.specs.Rows.{rowsStored}
 use Rattle.exports.specs.declared.placing.Slot.{Slot}
 
 -- ---- one place
@@ -55,16 +56,16 @@ placeIn s i = placeOf (slotIn s i)
 abbrev pub placeStored : List ℕ → ℕ → Place → List ℕ
 placeStored s i place = slotStored s i (slotOf place)
 
--- ---- what the bytes stand for
+-- ---- what the bytes stand for; `listed f 8` is f at 0, 1, .. 7
 
 abbrev pub countIn : List ℕ → ℕ
 countIn s = numberAt 1 s 0
 
 abbrev pub seatsIn : List ℕ → List ℕ
-seatsIn s = upTo 8 (λ i. numberAt 2 s (1 + i * 2))
+seatsIn s = listed (λ i. numberAt 2 s (1 + i * 2)) 8
 
 abbrev pub stateIn : List ℕ → Collator
-stateIn s = record { places = upTo 8 (placeIn s); roster = seatsIn s; count = countIn s }
+stateIn s = record { places = listed (placeIn s) 8; roster = seatsIn s; count = countIn s }
 
 -- ---- a collator stored
 
