@@ -1,4 +1,5 @@
-/* Prints the epochs of a base and of the rover that it relays as sender 0: epochs FILE */
+/* Prints the epochs of a base and of the rover that it relays as sender 0, and the capture's totals: epochs FILE */
+#include <inttypes.h>
 #include <stdio.h>
 #include <stdlib.h>
 
@@ -15,7 +16,7 @@ int main(int argc, char **argv) {
     fclose(file);
 
     const uint16_t roster[] = {1228, 0};
-    uint8_t state[SBP_STATE], found[SBP_FOUND], report[SBP_REPORT];
+    uint8_t state[SBP_STATE], found[SBP_FOUND], report[SBP_REPORT], counts[SBP_TOTALS];
     if (sbp_collator(state, sizeof state, roster, 2) != 0) {
         return EXIT_FAILURE;
     }
@@ -27,5 +28,10 @@ int main(int argc, char **argv) {
             printf("E %u %u %lu %u %u\n", (unsigned)e.sender, (unsigned)e.wn, (unsigned long)e.tow, (unsigned)e.n, (unsigned)e.observations);
         }
     }
+    if (sbp_totals(capture, n, counts, sizeof counts) != 0) {
+        return EXIT_FAILURE;
+    }
+    struct sbp_counts t = sbp_counts_of(counts);
+    printf("T %zu %" PRIu64 " %" PRIu64 " %" PRIu64 " %" PRIu64 "\n", n, t.framed, t.junk, t.bad, t.short_);
     return EXIT_SUCCESS;
 }

@@ -1,5 +1,5 @@
 #!/usr/bin/env bash
-# The exported functions linked from C and from Rust: both examples print the epochs of the sample as sbplist does, and the twin asks the
+# The exported functions linked from C and from Rust: both examples print the sample's epochs and totals as sbplist does, and the twin asks the
 # functions through tests/exports/driver.c. The last line is 'N passed, M failed'.
 # The library is for x86-64. On another processor Debian's cross compilers build for it and Debian's emulator runs it; where these cannot be
 # had nothing is linked, and the first line says so.
@@ -41,12 +41,12 @@ rust --edition 2021 -O --crate-name sbp --crate-type rlib -L target/staticlib -l
 rust --edition 2021 -O --extern sbp="$work/libsbp.rlib" -o "$work/in-rust" rust/examples/epochs.rs
 
 passed=0 failed=0
-tools/run sbplist <sample/base-and-rover.sbp | grep '^E' >"$work/epochs"
+tools/run sbplist <sample/base-and-rover.sbp | grep '^[ET]' >"$work/lines"
 for program in in-c in-rust; do
-    if $emulator "$work/$program" sample/base-and-rover.sbp | cmp - "$work/epochs"; then
+    if $emulator "$work/$program" sample/base-and-rover.sbp | cmp - "$work/lines"; then
         passed=$((passed + 1))
     else
-        echo "$program does not print sbplist's epochs"
+        echo "$program does not print sbplist's epochs and totals"
         failed=$((failed + 1))
     fi
 done

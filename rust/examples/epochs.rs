@@ -1,6 +1,7 @@
-//! Prints the epochs of a base and of the rover that it relays as sender 0: epochs FILE
+//! Prints the epochs of a base and of the rover that it relays as sender 0,
+//! and the capture's totals: epochs FILE
 
-use sbp::{next, Collator, Next};
+use sbp::{next, totals, Collator, Next};
 
 fn main() {
     let path = std::env::args().nth(1).expect("usage: epochs FILE");
@@ -16,4 +17,13 @@ fn main() {
             );
         }
     }
+    let t = totals(&capture);
+    println!(
+        "T {} {} {} {} {}",
+        capture.len(),
+        t.framed,
+        t.junk,
+        t.bad,
+        t.short
+    );
 }

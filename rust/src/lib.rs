@@ -1,6 +1,12 @@
 //! SBP 1.1 frames, payload answers, observation epochs and listings: a safe
 //! wrapper of the proved library. A refusal is one of document 01's numbers.
 
+// The rows' and the state's sizes, as in include/sbp.h.
+const FOUND: usize = 53;
+const TOTALS: usize = 32;
+const STATE: usize = 105;
+const REPORT: usize = 11;
+
 mod raw {
     // As in include/sbp.h, which says at each what the caller keeps. A slice
     // crosses as a pointer and a length: Rust's own slices keep that these agree,
@@ -82,7 +88,7 @@ fn number(row: &[u8], at: usize, width: usize) -> u64 {
 
 /// The next frame from a position on; growing where more of the capture may come.
 pub fn next(capture: &[u8], at: usize, growing: bool) -> Next<'_> {
-    let mut row = [0; 53];
+    let mut row = [0; FOUND];
     let told = unsafe {
         raw::sbp_next(
             capture.as_ptr(),
@@ -124,7 +130,7 @@ pub struct Counts {
 }
 
 pub fn totals(capture: &[u8]) -> Counts {
-    let mut row = [0; 32];
+    let mut row = [0; TOTALS];
     unsafe {
         raw::sbp_totals(capture.as_ptr(), capture.len(), row.as_mut_ptr(), row.len());
     }
@@ -170,13 +176,13 @@ pub struct Report {
 /// Observation epochs, sender by sender.
 #[derive(Clone, Debug)]
 pub struct Collator {
-    state: [u8; 105],
+    state: [u8; STATE],
 }
 
 impl Collator {
     /// For a roster of up to eight senders, or 41, 42.
     pub fn new(roster: &[u16]) -> Result<Collator, u8> {
-        let mut state = [0; 105];
+        let mut state = [0; STATE];
         let told = unsafe {
             raw::sbp_collator(
                 state.as_mut_ptr(),
@@ -194,7 +200,7 @@ impl Collator {
 
     /// The epoch that the frame ends, if any; or 46, 22, 43, 44, 45, and nothing has changed.
     pub fn feed(&mut self, kind: u16, sender: u16, payload: &[u8]) -> Result<Option<Report>, u8> {
-        let mut row = [0; 11];
+        let mut row = [0; REPORT];
         let told = unsafe {
             raw::sbp_feed(
                 self.state.as_mut_ptr(),

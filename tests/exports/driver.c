@@ -86,7 +86,10 @@ static void list(void) {
 static void collator(void) {
     uint16_t roster[64];
     size_t room = filled(state, sizeof state), n = number(4);
-    for (size_t i = 0; i < n && i < 64; i++) {
+    if (n > sizeof roster / sizeof *roster) {
+        exit(EXIT_FAILURE);
+    }
+    for (size_t i = 0; i < n; i++) {
         roster[i] = (uint16_t)number(2);
     }
     tell(sbp_collator(state, room, roster, n), 1);
