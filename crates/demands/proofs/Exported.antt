@@ -1,7 +1,7 @@
 -- The demands of the functions that C and Rust link, which live on lent bytes: a refusal writes nothing and moves no state, the frames are those
 -- of the reading, an epoch is reported exactly where document 01 says, and senders don't mix. The statement first, then its proof, all of it
 -- citations. Assumes nothing.
-use mathlib.Core.Path.{_≡_, sym, _∙_}
+use mathlib.Core.Path.{_≡_, sym, _∙_, subst}
 use mathlib.Core.Bool.{Bool}
 use mathlib.Core.List.{List}
 use mathlib.Core.Logic.{_↔_}
@@ -16,6 +16,7 @@ use Rattle.payloads.specs.Table.{numberOf}
 use Rattle.epochs.specs.Collator.{made}
 use Rattle.epochs.specs.Epoch.{Item, SameFrames, EndsEpoch}
 use Rattle.epochs.specs.declared.collating.Report.{Report}
+use Rattle.epochs.proofs.Rosters.{seat-listed, seat-named}
 use Rattle.epochs.proofs.Collations.{same-state}
 use Rattle.listing.specs.Listing.{listAnswer, listed}
 use Rattle.exports.specs.Found.{startAt, nextAnswer, nextStored}
@@ -56,7 +57,7 @@ pub record Exported : Type 0 where
       → (fedIn (afterIn (madeStored roster s) report xs) (x .kind) (x .sender) (x .payload) lent .answer ≡ 1) ↔ ((e : Report) × EndsEpoch roster xs x e)
   -- and then the lent bytes hold that epoch's report
   pub epochs-stored : (roster s report : List ℕ) (xs : List Item) → Filled roster s report xs → (x : Item) → Bytes (x .payload) → (lent : List ℕ) → 11 ≤ length lent
-      → x .sender < 65536 → (e : Report) → EndsEpoch roster xs x e
+      → (e : Report) → EndsEpoch roster xs x e
       → decode reportFields (fedIn (afterIn (madeStored roster s) report xs) (x .kind) (x .sender) (x .payload) lent .report) 0 ≡ reportRow e
   -- demand 3: the same frames of every listed sender leave bytes that stand for the same state
   pub unmixed : (roster s t report other : List ℕ) (xs ys : List Item) → Filled roster s report xs → Filled roster t other ys → SameFrames roster xs ys
@@ -69,7 +70,10 @@ exported = record {
   kept = record { next = next-keeps; totals = totals-keeps; list = list-keeps; collator = collator-keeps; feed = feed-keeps };
   frames-left = next-left;
   epochs-told = λ roster s report xs f x byte lent enough. one-epoch roster (f .taken) (f .senders) s report (f .long) (f .room) xs (f .bytes) x byte lent enough;
-  epochs-stored = λ roster s report xs f x byte lent enough small e w. epoch-row roster (f .taken) (f .senders) s report (f .long) (f .room) xs (f .bytes) x byte lent enough small w;
+  epochs-stored = λ roster s report xs f x byte lent enough e w.
+      let seat = seat-listed roster (x .sender) 0 (w .listed) in
+      let small = subst (λ (n : ℕ). n < 65536) (seat-named roster (x .sender) (seat .1)) (f .senders (seat .0)) in
+      epoch-row roster (f .taken) (f .senders) s report (f .long) (f .room) xs (f .bytes) x byte lent enough small w;
   unmixed = λ roster s t report other xs ys f g same.
       stands roster (f .taken) (f .senders) s report (f .long) (f .room) xs (f .bytes)
       ∙ same-state roster (f .taken) xs ys same
