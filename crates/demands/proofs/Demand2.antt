@@ -50,7 +50,7 @@ use Rattle.observation.proofs.ObsThrough.{obs-found, obs-back, entry-back}
 use Rattle.observation.proofs.Phases.{phase-parts, parts-phase}
 use Rattle.system.specs.Empty.{settingsSave, readByIndexDone}
 use Rattle.system.specs.Heartbeat.{heartbeat}
-use Rattle.system.specs.Log.{logKind, readLog, logPayload, textIn}
+use Rattle.system.specs.Log.{logKind, readLog, logPayload, textIn, logFrame}
 use Rattle.system.specs.ReadByIndexReq.{readByIndexReq}
 use Rattle.system.specs.Startup.{startup}
 use Rattle.system.specs.declared.log.Log.{Log}
@@ -90,10 +90,6 @@ use Rattle.demands.proofs.Room.{room-enough}
 -- a message keeps its promise, and under the number by which it is written its own reader reads it
 abbrev pub Promised : {R : Type 0} → wire.Message R → (R → Message) → Type 0
 Promised m name = Faithful m × Typed (m .kind) name (readAs m)
-
--- the frame that LOG is written as
-abbrev pub logFrame : ℕ → ℕ → List ℕ → Frame
-logFrame sender level text = record { at = 0; kind = logKind; sender = sender; length = length (logPayload level text) }
 
 -- "The frames found are exactly those that specification 1.1 and our written resume rule give"
 pub record FramesFound : Type 0 where

@@ -6,6 +6,7 @@ use lib.Dec.{leb}
 use lib.ListN.{length, drop}
 use Rattle.wire.specs.Number.{numberAt}
 use Rattle.wire.specs.Message.{Answer, given, refused}
+use Rattle.frames.specs.declared.step.Frame.{Frame}
 use Rattle.system.specs.declared.log.Log.{Log}
 use Rattle.system.specs.declared.log.LogRead.{LogRead}
 use Rattle.system.specs.declared.log.LogRead.the-variants.{Record, Refused}
@@ -34,3 +35,7 @@ logAnswer (Refused n) = refused n
 -- the payload of a level and a text
 abbrev pub logPayload : ℕ → List ℕ → List ℕ
 logPayload level text = level ∷ text
+
+-- its frame, at the buffer's start
+abbrev pub logFrame : ℕ → ℕ → List ℕ → Frame
+logFrame sender level text = record { at = 0; kind = logKind; sender = sender; length = length (logPayload level text) }
