@@ -1,14 +1,14 @@
 -- The demands of the functions that C and Rust link, which live on lent bytes: a refusal writes nothing and moves no state, the frames are those
 -- of the reading, an epoch is reported exactly where document 01 says, and senders don't mix. The statement first, then its proof, all of it
 -- citations. Assumes nothing.
-use mathlib.Core.Path.{_≡_, sym, _∙_, subst}
+use mathlib.Core.Path.{_≡_, sym, ap, _∙_, subst}
 use mathlib.Core.Bool.{Bool}
 use mathlib.Core.List.{List}
 use mathlib.Core.Logic.{_↔_}
 use Prim.Native.Nat.{ℕ, _^_, _≤_, _<_}
 use lib.ListN.{length, getD}
-use Rattle.wire.specs.Number.{Bytes}
-use Rattle.wire.specs.Field.{decode}
+use Rattle.wire.specs.Number.{Bytes, numberAt}
+use Rattle.wire.specs.Field.{Row}
 use Rattle.wire.specs.Message.{refused}
 use Rattle.frames.specs.Reading.{steps, framesOf}
 use Rattle.frames.specs.Cursors.{nextOf, Told}
@@ -23,7 +23,7 @@ use Rattle.exports.specs.Found.{startAt, nextAnswer, nextStored}
 use Rattle.exports.specs.Totals.{totalsAnswer, totalsStored}
 use Rattle.exports.specs.Text.{sizeAfter}
 use Rattle.exports.specs.State.{stateIn}
-use Rattle.exports.specs.Feed.{reportFields, reportRow, madeAnswer, madeStored, fedIn, afterIn}
+use Rattle.exports.specs.Feed.{reportFields, madeAnswer, madeStored, fedIn, afterIn}
 use Rattle.exports.proofs.Answered.{next-left}
 use Rattle.exports.proofs.Lives.{AllBytes, stands, one-epoch, epoch-row}
 use Rattle.exports.proofs.Refusals.{next-keeps, totals-keeps, list-keeps, collator-keeps, feed-keeps}
@@ -47,6 +47,14 @@ pub record Filled (roster s report : List ℕ) (xs : List Item) : Type 0 where
   pub room : 11 ≤ length report
   pub bytes : AllBytes xs
 
+-- an epoch's numbers in a row of bytes, each where include/sbp.h has it
+pub record Shown (row : List ℕ) (e : Report) : Type 0 where
+  pub sender : numberAt 2 row 0 ≡ e .sender
+  pub week : numberAt 2 row 2 ≡ e .wn
+  pub time : numberAt 4 row 4 ≡ e .tow
+  pub packets : numberAt 1 row 8 ≡ e .n
+  pub observations : numberAt 2 row 9 ≡ e .observations
+
 pub record Exported : Type 0 where
   pub kept : Kept
   -- demand 2: from a position on `sbp_next` tells the first frame left of the reading there, and where the others are left, or that there is none
@@ -55,10 +63,9 @@ pub record Exported : Type 0 where
   -- `sbp_feed` answers 1 exactly where the frame ends an epoch
   pub epochs-told : (roster s report : List ℕ) (xs : List Item) → Filled roster s report xs → (x : Item) → Bytes (x .payload) → (lent : List ℕ) → 11 ≤ length lent
       → (fedIn (afterIn (madeStored roster s) report xs) (x .kind) (x .sender) (x .payload) lent .answer ≡ 1) ↔ ((e : Report) × EndsEpoch roster xs x e)
-  -- and then the lent bytes hold that epoch's report
+  -- and then the lent bytes show that epoch
   pub epochs-stored : (roster s report : List ℕ) (xs : List Item) → Filled roster s report xs → (x : Item) → Bytes (x .payload) → (lent : List ℕ) → 11 ≤ length lent
-      → (e : Report) → EndsEpoch roster xs x e
-      → decode reportFields (fedIn (afterIn (madeStored roster s) report xs) (x .kind) (x .sender) (x .payload) lent .report) 0 ≡ reportRow e
+      → (e : Report) → EndsEpoch roster xs x e → Shown (fedIn (afterIn (madeStored roster s) report xs) (x .kind) (x .sender) (x .payload) lent .report) e
   -- demand 3: the same frames of every listed sender leave bytes that stand for the same state
   pub unmixed : (roster s t report other : List ℕ) (xs ys : List Item) → Filled roster s report xs → Filled roster t other ys → SameFrames roster xs ys
       → stateIn (afterIn (madeStored roster s) report xs) ≡ stateIn (afterIn (madeStored roster t) other ys)
@@ -73,7 +80,14 @@ exported = record {
   epochs-stored = λ roster s report xs f x byte lent enough e w.
       let seat = seat-listed roster (x .sender) 0 (w .listed) in
       let small = subst (λ (n : ℕ). n < 65536) (seat-named roster (x .sender) (seat .1)) (f .senders (seat .0)) in
-      epoch-row roster (f .taken) (f .senders) s report (f .long) (f .room) xs (f .bytes) x byte lent enough small w;
+      let row = epoch-row roster (f .taken) (f .senders) s report (f .long) (f .room) xs (f .bytes) x byte lent enough small w in
+      record {
+        sender = ap (λ (v : Row reportFields). v .0) row;
+        week = ap (λ (v : Row reportFields). v .1 .0) row;
+        time = ap (λ (v : Row reportFields). v .1 .1 .0) row;
+        packets = ap (λ (v : Row reportFields). v .1 .1 .1 .0) row;
+        observations = ap (λ (v : Row reportFields). v .1 .1 .1 .1 .0) row;
+      };
   unmixed = λ roster s t report other xs ys f g same.
       stands roster (f .taken) (f .senders) s report (f .long) (f .room) xs (f .bytes)
       ∙ same-state roster (f .taken) xs ys same

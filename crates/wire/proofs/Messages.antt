@@ -1,6 +1,6 @@
 -- Both round trips and the refusals, once for every message. Assumes nothing.
 use mathlib.Core.Path.{_≡_, refl, sym, ap, _∙_, subst⁻¹}
-use mathlib.Core.Bool.{Bool, true, false}
+use mathlib.Core.Bool.{Bool, true, false, cond}
 use mathlib.Core.List.{List, [], _∷_}
 use mathlib.Core.Logic.{_↔_, inl, inr}
 use Prim.Native.Nat.{ℕ}
@@ -9,10 +9,14 @@ use lib.ListN.{length}
 use borrow.Author.Tests.{eq-eqb, ne-eqb, eqb-true, eqb-false}
 use Rattle.wire.specs.Number.{Bytes}
 use Rattle.wire.specs.Field.{Row, HeldRow, SettledRow, allowedRow, rowBits, size, encode, decode}
-use Rattle.wire.specs.Message.{given, refused, Message, judged, readAs, payloadOf}
+use Rattle.wire.specs.Message.{Answer, given, refused, Message, judged, readAs}
 use Rattle.wire.specs.Tests.{Tests, FirstFails}
 use Rattle.wire.proofs.Fields.{again, again-bits, again-settled, allowed-again-row, length-encode, decode-encode, encode-decode, decode-settled}
 use Rattle.wire.proofs.Ordered.{exactly-first, exactly-all}
+
+-- the payload of a record: 23, or its bytes
+unfoldable pub payloadOf : {R : Type 0} → Message R → R → Answer (List ℕ)
+payloadOf m r = cond (allowedRow (m .fields) (m .row r)) (given (encode (m .fields) (m .row r))) (refused 23)
 
 module _ {R : Type 0} (m : Message R) where
   -- ---- reading, by cases

@@ -1,4 +1,4 @@
--- A message: its type number, its fields, and its record as a row of them. Reading a payload answers 22, then 23; writing one answers 23.
+-- A message: its type number, its fields, and its record as a row of them. Reading a payload answers 22, then 23.
 -- Assumes nothing.
 use Prim.Native.Nat.{ℕ}
 use mathlib.Core.Path.{_≡_}
@@ -6,7 +6,7 @@ use mathlib.Core.Bool.{cond}
 use mathlib.Core.List.{List}
 use lib.Dec.{eqb}
 use lib.ListN.{length}
-use Rattle.wire.specs.Field.{Field, Row, size, encode, decode, allowedRow}
+use Rattle.wire.specs.Field.{Field, Row, size, decode, allowedRow}
 
 -- what a call answers: what was asked for, or the number of its refusal
 pub data Answer (A : Type 0) : Type 0 where
@@ -30,7 +30,3 @@ judged m v = cond (allowedRow (m .fields) v) (given (m .make v)) (refused 23)
 unfoldable pub readAs : {R : Type 0} → Message R → List ℕ → Answer R
 unfolding judged
 readAs m s = cond (eqb (length s) (size (m .fields))) (judged m (decode (m .fields) s 0)) (refused 22)
-
--- the payload of a record: 23, or its bytes
-unfoldable pub payloadOf : {R : Type 0} → Message R → R → Answer (List ℕ)
-payloadOf m r = cond (allowedRow (m .fields) (m .row r)) (given (encode (m .fields) (m .row r))) (refused 23)
