@@ -10,12 +10,12 @@ use lib.Dec.{lit≤}
 use lib.ListN.{getD}
 use lib.Pow as Pow
 use Rattle.crc.specs.Crc.{bitSteps, byteStep, crcFrom}
-use Rattle.crc.specs.Table.{listed, Rule, byteBy, crcBy}
+use Rattle.crc.specs.Table.{tabulated, Rule, byteBy, crcBy}
 use Rattle.crc.proofs.Split.{split}
 use Rattle.crc.proofs.Fold.{byteStep-fits}
 
-pub listed-at : {A : Type 0} (f : ℕ → A) (n k : ℕ) (d : A) → k < n → getD (listed f n) k d ≡ f k
-unfolding listed
+pub listed-at : {A : Type 0} (f : ℕ → A) (n k : ℕ) (d : A) → k < n → getD (tabulated f n) k d ≡ f k
+unfolding tabulated
 listed-at f zero k d h = absurd (not-suc-le-zero h)
 listed-at f (suc n) zero d h = refl
 listed-at f (suc n) (suc k) d h = listed-at (λ j. f (suc j)) n k d (le-of-suc-le-suc h)

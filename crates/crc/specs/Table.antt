@@ -8,13 +8,13 @@ use lib.ListN.{getD}
 use Rattle.crc.specs.Crc.{bitSteps}
 
 -- f at 0, 1, .., n of them
-unfoldable pub listed : {A : Type 0} → (ℕ → A) → ℕ → List A
-listed f zero = []
-listed f (suc n) = f zero ∷ listed (λ k. f (suc k)) n
+unfoldable pub tabulated : {A : Type 0} → (ℕ → A) → ℕ → List A
+tabulated f zero = []
+tabulated f (suc n) = f zero ∷ tabulated (λ k. f (suc k)) n
 
 -- entry i is what eight steps make of the register i * 256
 abbrev pub Rule : List ℕ → Type 0
-Rule t = t ≡ listed (λ i. bitSteps 8 (i * 256)) 256
+Rule t = t ≡ tabulated (λ i. bitSteps 8 (i * 256)) 256
 
 -- a byte: the register's upper half with the byte added picks the entry, and the lower half moves up
 abbrev pub byteBy : List ℕ → ℕ → ℕ → ℕ

@@ -13,13 +13,14 @@ use denote.Ref.{now}
 use lib.IntN.{ℤ}
 use Rattle.wire.specs.Number.{Bytes}
 use Rattle.wire.specs.Field.{HeldRow}
-use Rattle.wire.specs.Message.{given, readAs}
-use Rattle.wire.specs.Message as wire
-use Rattle.frames.specs.Frame.{frameBytes, Outgoing, Sendable, AllSendable, frameOf, stream}
+use Rattle.wire.specs.Description.{readAs}
+use Rattle.wire.specs.Refusals.{given}
+use Rattle.wire.specs.Description as wire
+use Rattle.frames.specs.Frame.{frameBytes, Content, Sendable, AllSendable, frameOf, stream}
 use Rattle.frames.specs.Step.{stepAt, payloadIn}
 use Rattle.frames.specs.Reading.{Placed, closedSteps, openSteps, Tiled, holding, beforeShort, framesOf, countsOf, sumOf}
-use Rattle.frames.specs.Writer.{planned, framed, asRead, foundFrom}
-use Rattle.frames.specs.Message.{Faithful}
+use Rattle.frames.specs.Writer.{planned, withFrame, asRead, foundFrom}
+use Rattle.frames.specs.Faithful.{Faithful}
 use Rattle.frames.specs.declared.step.Frame.{Frame}
 use Rattle.frames.specs.declared.step.Step.{Step}
 use Rattle.frames.specs.declared.step.Step.the-variants.{Found}
@@ -65,7 +66,7 @@ use Rattle.payloads.specs.declared.Message.the-variants as M
 use Rattle.payloads.proofs.Lines.{Typed}
 use Rattle.payloads.proofs.Answers as answers
 use Rattle.epochs.specs.Collator.{names, made}
-use Rattle.epochs.specs.Epoch.{EpochEnds, InWords, Item, fedItem, after, reports, reportsOf, EndsEpoch, itemsOf}
+use Rattle.epochs.specs.Epoch.{EpochEnds, InWords, fedFrame, after, reports, reportsOf, EndsEpoch, contentsOf}
 use Rattle.epochs.specs.Capture.{collated}
 use Rattle.epochs.specs.declared.judging.Packet.{Packet}
 use Rattle.epochs.specs.declared.collating.Report.{Report}
@@ -88,7 +89,7 @@ use Rattle.demands.proofs.Reported.{reported, only-reported, one-epoch}
 use Rattle.demands.proofs.Room.{room-enough}
 
 -- a message keeps its promise, and under the number by which it is written its own reader reads it
-abbrev pub Promised : {R : Type 0} → wire.Message R → (R → Message) → Type 0
+abbrev pub Promised : {R : Type 0} → wire.Description R → (R → Message) → Type 0
 Promised m name = Faithful m × Typed (m .kind) name (readAs m)
 
 -- "The frames found are exactly those that specification 1.1 and our written resume rule give"
@@ -100,15 +101,15 @@ pub record FramesFound : Type 0 where
   -- open reading is the same up to the first short
   pub open-reading : (s : List ℕ) → openSteps s ≡ beforeShort (closedSteps s)
   -- calls of `next` hand out the frames of those steps in order, and stop with the counts of these steps
-  pub handed-out : (growing : Bool) (s : List ℕ) → length s < 2 ^ 64 → Handed growing s
+  pub handed-out : (opened : Bool) (s : List ℕ) → length s < 2 ^ 64 → Handed opened s
   -- a frame that is found has specification 1.1's form, and what has that form is found where a reading comes to it
   pub found-formed : (s : List ℕ) (p : ℕ) (f : Frame) → Bytes s → stepAt s p ≡ Found f
       → take (f .length + 8) (drop p s) ≡ frameBytes (f .kind) (f .sender) (payloadIn s f)
-  pub formed-found : (m : Outgoing) (before rest : List ℕ) → Sendable m → stepAt (before ++ (frameOf m ++ rest)) (length before) ≡ Found (asRead (length before) m)
+  pub formed-found : (m : Content) (before rest : List ℕ) → Sendable m → stepAt (before ++ (frameOf m ++ rest)) (length before) ≡ Found (asRead (length before) m)
   -- frames written one after the other read back as these frames, with these payloads
-  pub written-found : (ms : List Outgoing) → AllSendable ms
+  pub written-found : (ms : List Content) → AllSendable ms
       → (closedSteps (stream ms) ≡ foundFrom 0 ms)
-      × (map (payloadIn (stream ms)) (framesOf (closedSteps (stream ms))) ≡ map (λ (m : Outgoing). m .payload) ms)
+      × (map (payloadIn (stream ms)) (framesOf (closedSteps (stream ms))) ≡ map (λ (m : Content). m .payload) ms)
 
 -- "every byte of a complete capture is in one frame or counted as passed over under one reason"
 pub record EveryByteCounted : Type 0 where
@@ -144,7 +145,7 @@ pub record ReadAndWritten : Type 0 where
       × ((i : ℕ) (d : Observation) → i < o .count → HeldRow (observation .fields) (observation .row (getD entries i d))
       → readEntry (payloadIn (obsWritten sender o entries buf) (obsFrame sender o entries)) i ≡ given (getD entries i d))
   pub obs-again : (sender : ℕ) (r : Obs) (buf s : List ℕ) → Bytes s → readObs s ≡ given r
-      → obsWritten sender r (entriesFrom (r .count) 0 s) buf ≡ framed (first .kind) sender s buf
+      → obsWritten sender r (entriesFrom (r .count) 0 s) buf ≡ withFrame (first .kind) sender s buf
   -- "a reader that keeps the lent payload and its place": asked n times it keeps its payload and stands where n questions lead
   pub obs-asked : (n : ℕ) (r : ObsReader) → askedTimes n r ≡ record { payload = r .payload; place = standing n (now (r .payload)) (r .place) }
   -- from place 0 they are answered by the payload's observations in order, each once, and by a refusal from then on
@@ -153,32 +154,32 @@ pub record ReadAndWritten : Type 0 where
   pub log-read : Typed logKind (λ r. M.Log r) readLog
   pub log-reads-back : (sender level : ℕ) (text buf : List ℕ) (n : ℕ)
       → sender < 65536 → planned (length (logPayload level text)) (length buf) ≡ given n
-      → (stepAt (framed logKind sender (logPayload level text) buf) 0 ≡ Found (logFrame sender level text))
-      × (readLog (payloadIn (framed logKind sender (logPayload level text) buf) (logFrame sender level text)) ≡ given (record { level = level; length = length text }))
-      × (textIn (payloadIn (framed logKind sender (logPayload level text) buf) (logFrame sender level text)) ≡ text)
+      → (stepAt (withFrame logKind sender (logPayload level text) buf) 0 ≡ Found (logFrame sender level text))
+      × (readLog (payloadIn (withFrame logKind sender (logPayload level text) buf) (logFrame sender level text)) ≡ given (record { level = level; length = length text }))
+      × (textIn (payloadIn (withFrame logKind sender (logPayload level text) buf) (logFrame sender level text)) ≡ text)
   pub log-again : (sender : ℕ) (r : Log) (buf s : List ℕ) → readLog s ≡ given r
-      → framed logKind sender (logPayload (r .level) (textIn s)) buf ≡ framed logKind sender s buf
+      → withFrame logKind sender (logPayload (r .level) (textIn s)) buf ≡ withFrame logKind sender s buf
   -- the carrier phase has one pair, which gives it back
   pub phase : ((z : ℤ) → phaseOf (partsOf z) ≡ z) × ((p : Phase) → p .«l_f» < 256 → partsOf (phaseOf p) ≡ p)
 
 -- "an epoch is reported exactly when its packets stand as document 01 says, once each"
 pub record EpochsReported : Type 0 where
   -- after any frames, feeding one more reports an epoch exactly when that frame ends it
-  pub reported-exactly : (roster : List ℕ) → made roster .number ≡ 0 → (xs : List Item) (x : Item) (e : Report)
-      → (fedItem (after (made roster .collator) xs) x .happened ≡ H.Epoch e) ↔ EndsEpoch roster xs x e
+  pub reported-exactly : (roster : List ℕ) → made roster .number ≡ 0 → (xs : List Content) (x : Content) (e : Report)
+      → (fedFrame (after (made roster .collator) xs) x .happened ≡ H.Epoch e) ↔ EndsEpoch roster xs x e
   -- which is, packet by packet, what document 01 says
   pub in-words : (p : Packet) (past : List Packet) (total : ℕ) → 1 ≤ p .key .n → EpochEnds p past total ↔ InWords p past total
   -- once each: a frame ends one epoch at most
-  pub one-at-most : (roster : List ℕ) → made roster .number ≡ 0 → (xs : List Item) (x : Item) (d e : Report)
+  pub one-at-most : (roster : List ℕ) → made roster .number ≡ 0 → (xs : List Content) (x : Content) (d e : Report)
       → EndsEpoch roster xs x d → EndsEpoch roster xs x e → d ≡ e
   -- "and the sum of k (at most 225)", of payloads that are bytes
-  pub at-most-225 : (roster : List ℕ) → made roster .number ≡ 0 → (xs : List Item) (x : Item) (e : Report) → Bytes (x .payload)
-      → fedItem (after (made roster .collator) xs) x .happened ≡ H.Epoch e → e .observations ≤ 225
+  pub at-most-225 : (roster : List ℕ) → made roster .number ≡ 0 → (xs : List Content) (x : Content) (e : Report) → Bytes (x .payload)
+      → fedFrame (after (made roster .collator) xs) x .happened ≡ H.Epoch e → e .observations ≤ 225
   -- a whole capture, read closed and fed in order to a fresh collator: its epochs are what is reported, each once and in order
   pub capture-reported : (roster : List ℕ) → made roster .number ≡ 0 → (s : List ℕ) (es : List Report)
-      → Epochs roster [] (itemsOf s) es ↔ (es ≡ reports (made roster .collator) (itemsOf s))
+      → Epochs roster [] (contentsOf s) es ↔ (es ≡ reports (made roster .collator) (contentsOf s))
   -- `collate` counts them by place
-  pub capture-counted : (roster : List ℕ) → made roster .number ≡ 0 → (s : List ℕ) (es : List Report) → length s < 2 ^ 64 → Epochs roster [] (itemsOf s) es
+  pub capture-counted : (roster : List ℕ) → made roster .number ≡ 0 → (s : List ℕ) (es : List Report) → length s < 2 ^ 64 → Epochs roster [] (contentsOf s) es
       → (i : ℕ) → i < length roster → getD (collated s roster .reports) i 0 ≡ length (reportsOf (getD roster i 0) es)
 
 -- document 01, "`sbplist`"
@@ -266,7 +267,7 @@ epochs-reported = record {
   in-words = runs.in-words;
   one-at-most = λ roster ok xs x d e v w. one-epoch roster ok v w;
   at-most-225 = epoch-small;
-  capture-reported = λ roster ok s es. (λ w. only-reported roster ok w, λ e. subst (Epochs roster [] (itemsOf s)) (sym e) (reported roster ok [] (itemsOf s)));
+  capture-reported = λ roster ok s es. (λ w. only-reported roster ok w, λ e. subst (Epochs roster [] (contentsOf s)) (sym e) (reported roster ok [] (contentsOf s)));
   capture-counted = λ roster ok s es small w i below.
       collated-counts s roster ok small i below ∙ ap (λ (rs : List Report). length (reportsOf (getD roster i 0) rs)) (sym (only-reported roster ok w));
 }

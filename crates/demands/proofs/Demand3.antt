@@ -7,7 +7,8 @@ use mathlib.Core.Bool.{true, false, true≢false}
 use mathlib.Core.List.{List, [], _∷_, _++_}
 use Prim.Native.Nat.{ℕ}
 use Rattle.epochs.specs.Collator.{names, made}
-use Rattle.epochs.specs.Epoch.{Item, after, reports, reportsOf, SameFrames, itemsOf}
+use Rattle.epochs.specs.Epoch.{after, reports, reportsOf, SameFrames, contentsOf}
+use Rattle.frames.specs.Frame.{Content}
 use Rattle.epochs.specs.Capture.{collated}
 use Rattle.epochs.specs.declared.collating.Report.{Report}
 use Rattle.epochs.proofs.Collations.{same-captures}
@@ -21,25 +22,25 @@ use Rattle.demands.proofs.Shuffled.{change-places, nobodys}
 -- what two captures come to, es and fs being their epochs by demand 2
 pub record Unmixed (roster a b : List ℕ) (es fs : List Report) : Type 0 where
   -- "The epochs are those of demand 2": they are what is reported, so that no collator will do that reports other things, or nothing
-  pub first-reported : es ≡ reports (made roster .collator) (itemsOf a)
-  pub second-reported : fs ≡ reports (made roster .collator) (itemsOf b)
+  pub first-reported : es ≡ reports (made roster .collator) (contentsOf a)
+  pub second-reported : fs ≡ reports (made roster .collator) (contentsOf b)
   -- "each sender gets the same epoch reports in the same order"
   pub same-reports : (sender : ℕ) → names roster sender ≡ true → reportsOf sender es ≡ reportsOf sender fs
   -- "and the two end states are equal", of the frames fed one by one and of `collate`
-  pub same-state : after (made roster .collator) (itemsOf a) ≡ after (made roster .collator) (itemsOf b)
+  pub same-state : after (made roster .collator) (contentsOf a) ≡ after (made roster .collator) (contentsOf b)
   pub same-collated : collated a roster .collator ≡ collated b roster .collator
 
 pub record Demand3 : Type 0 where
   -- "If for every listed sender the two hold the same frames in the same order": `SameFrames`
   pub unmixed : (roster : List ℕ) → made roster .number ≡ 0 → (a b : List ℕ) (es fs : List Report)
-      → Epochs roster [] (itemsOf a) es → Epochs roster [] (itemsOf b) fs → SameFrames roster (itemsOf a) (itemsOf b) → Unmixed roster a b es fs
+      → Epochs roster [] (contentsOf a) es → Epochs roster [] (contentsOf b) fs → SameFrames roster (contentsOf a) (contentsOf b) → Unmixed roster a b es fs
   -- "however frames of different senders are shuffled": where two of them change places, every sender's frames are the same
-  pub shuffled : (roster : List ℕ) (xs : List Item) (x y : Item) (ys : List Item) → (x .sender ≡ y .sender → ⊥)
+  pub shuffled : (roster : List ℕ) (xs : List Content) (x y : Content) (ys : List Content) → (x .sender ≡ y .sender → ⊥)
       → SameFrames roster (xs ++ x ∷ y ∷ ys) (xs ++ y ∷ x ∷ ys)
   -- "and whatever noise": a capture of frames with bytes between that begin no frame holds just these frames
-  pub noise : (xs : List Piece) → AllFit xs → itemsOf (captureOf xs) ≡ sentIn xs
+  pub noise : (xs : List Piece) → AllFit xs → contentsOf (captureOf xs) ≡ sentIn xs
   -- "or unlisted senders stand between": a frame of an unlisted sender is nobody's
-  pub unlisted : (roster : List ℕ) (xs : List Item) (x : Item) (ys : List Item) → names roster (x .sender) ≡ false → SameFrames roster (xs ++ x ∷ ys) (xs ++ ys)
+  pub unlisted : (roster : List ℕ) (xs : List Content) (x : Content) (ys : List Content) → names roster (x .sender) ≡ false → SameFrames roster (xs ++ x ∷ ys) (xs ++ ys)
 
 -- ---- the proof
 

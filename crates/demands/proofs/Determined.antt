@@ -14,7 +14,7 @@
 -- Assumes nothing.
 use mathlib.Core.Path.{_≡_, refl, sym, ap, ap₂, _∙_}
 use Prim.Native.Nat.{ℕ}
-use Rattle.wire.specs.Message.{Answer, given, refused}
+use Rattle.wire.specs.Refusals.{refused, given, Answer}
 use Rattle.frames.specs.Writer as Writer
 use Rattle.frames.specs.declared.write.Written.the-variants as Written
 use Rattle.navigation.specs.Dops as Dops

@@ -9,12 +9,13 @@ use Prim.Native.Nat.{ℕ, _^_, _≤_, _<_}
 use lib.ListN.{length, getD}
 use Rattle.wire.specs.Number.{Bytes, numberAt}
 use Rattle.wire.specs.Field.{Row}
-use Rattle.wire.specs.Message.{refused}
+use Rattle.wire.specs.Refusals.{refused}
 use Rattle.frames.specs.Reading.{steps, framesOf}
 use Rattle.frames.specs.Cursors.{nextOf, Told}
 use Rattle.payloads.specs.Table.{numberOf}
 use Rattle.epochs.specs.Collator.{made}
-use Rattle.epochs.specs.Epoch.{Item, SameFrames, EndsEpoch}
+use Rattle.epochs.specs.Epoch.{SameFrames, EndsEpoch}
+use Rattle.frames.specs.Frame.{Content}
 use Rattle.epochs.specs.declared.collating.Report.{Report}
 use Rattle.epochs.proofs.Rosters.{seat-listed, seat-named}
 use Rattle.epochs.proofs.Collations.{same-state}
@@ -30,7 +31,7 @@ use Rattle.exports.proofs.Refusals.{next-keeps, totals-keeps, list-keeps, colla
 
 -- demand 1: "and a refusal writes nothing and moves no state"
 pub record Kept : Type 0 where
-  pub next : (s : List ℕ) (at : ℕ) (growing : Bool) (buf : List ℕ) → nextAnswer s at growing (length buf) ≡ 32 → nextStored s at growing buf ≡ buf
+  pub next : (s : List ℕ) (at : ℕ) (opened : Bool) (buf : List ℕ) → nextAnswer s at opened (length buf) ≡ 32 → nextStored s at opened buf ≡ buf
   pub totals : (s buf : List ℕ) → totalsAnswer (length buf) ≡ 32 → totalsStored s buf ≡ buf
   pub list : (s buf : List ℕ) (before n : ℕ) → listAnswer s (length buf) ≡ refused n
       → (numberOf (listAnswer s (length buf)) ≡ n) × (listed s buf ≡ buf) × (sizeAfter (listAnswer s (length buf)) before ≡ before)
@@ -40,7 +41,7 @@ pub record Kept : Type 0 where
       → (fedIn s kind sender payload report .state ≡ s) × (fedIn s kind sender payload report .report ≡ report)
 
 -- bytes that `sbp_collator` filled for a roster, and frames of bytes fed to them by `sbp_feed`
-pub record Filled (roster s report : List ℕ) (xs : List Item) : Type 0 where
+pub record Filled (roster s report : List ℕ) (xs : List Content) : Type 0 where
   pub taken : made roster .number ≡ 0
   pub senders : (i : ℕ) → getD roster i 0 < 65536
   pub long : 105 ≤ length s
@@ -58,16 +59,16 @@ pub record Shown (row : List ℕ) (e : Report) : Type 0 where
 pub record Exported : Type 0 where
   pub kept : Kept
   -- demand 2: from a position on `sbp_next` tells the first frame left of the reading there, and where the others are left, or that there is none
-  pub frames-left : (s : List ℕ) → length s < 2 ^ 64 → (at : ℕ) (growing : Bool) → at ≤ length s
-      → Told growing s (framesOf (steps growing s at)) (nextOf s (startAt at growing))
+  pub frames-left : (s : List ℕ) → length s < 2 ^ 64 → (at : ℕ) (opened : Bool) → at ≤ length s
+      → Told opened s (framesOf (steps opened s at)) (nextOf s (startAt at opened))
   -- `sbp_feed` answers 1 exactly where the frame ends an epoch
-  pub epochs-told : (roster s report : List ℕ) (xs : List Item) → Filled roster s report xs → (x : Item) → Bytes (x .payload) → (lent : List ℕ) → 11 ≤ length lent
+  pub epochs-told : (roster s report : List ℕ) (xs : List Content) → Filled roster s report xs → (x : Content) → Bytes (x .payload) → (lent : List ℕ) → 11 ≤ length lent
       → (fedIn (afterIn (madeStored roster s) report xs) (x .kind) (x .sender) (x .payload) lent .answer ≡ 1) ↔ ((e : Report) × EndsEpoch roster xs x e)
   -- and then the lent bytes show that epoch
-  pub epochs-stored : (roster s report : List ℕ) (xs : List Item) → Filled roster s report xs → (x : Item) → Bytes (x .payload) → (lent : List ℕ) → 11 ≤ length lent
+  pub epochs-stored : (roster s report : List ℕ) (xs : List Content) → Filled roster s report xs → (x : Content) → Bytes (x .payload) → (lent : List ℕ) → 11 ≤ length lent
       → (e : Report) → EndsEpoch roster xs x e → Shown (fedIn (afterIn (madeStored roster s) report xs) (x .kind) (x .sender) (x .payload) lent .report) e
   -- demand 3: the same frames of every listed sender leave bytes that stand for the same state
-  pub unmixed : (roster s t report other : List ℕ) (xs ys : List Item) → Filled roster s report xs → Filled roster t other ys → SameFrames roster xs ys
+  pub unmixed : (roster s t report other : List ℕ) (xs ys : List Content) → Filled roster s report xs → Filled roster t other ys → SameFrames roster xs ys
       → stateIn (afterIn (madeStored roster s) report xs) ≡ stateIn (afterIn (madeStored roster t) other ys)
 
 -- ---- the proof

@@ -16,7 +16,8 @@ use Rattle.frames.specs.declared.cursor.Cursor.{Cursor}
 use Rattle.frames.specs.declared.cursor.Next as Next
 use Rattle.frames.proofs.Tiling.{only-closed}
 use Rattle.epochs.specs.Collator.{made}
-use Rattle.epochs.specs.Epoch.{countdown, Item, fedItem, after, EndsEpoch}
+use Rattle.epochs.specs.Epoch.{countdown, fedFrame, after, EndsEpoch}
+use Rattle.frames.specs.Frame.{Content}
 use Rattle.epochs.specs.declared.collating.Collator.{Collator}
 use Rattle.epochs.specs.declared.collating.Happened.the-variants as H
 use Rattle.epochs.proofs.Rosters.{names-at}
@@ -31,7 +32,7 @@ use Rattle.demands.proofs.TwoPackets.{bothOf, second-ends, second-alone
 
 -- what that rule says of one frame, and of nothing
 past-blank : Cursor
-past-blank = record { at = 8; growing = false; framed = 8; junk = 0; bad = 0; short = 0 }
+past-blank = record { at = 8; opened = false; framed = 8; junk = 0; bad = 0; short = 0 }
 
 finds-blank : nextOf blank (begun false) ≡ Next.the-variants.Frame blankFrame past-blank
 unfolding past-blank numberAt bitStep bitSteps byteStep crcFrom nextOf
@@ -59,7 +60,7 @@ answering-alike x rule =
 -- ---- "A collator that never moves: by demand 2's epochs of two packets or more."
 
 module _ {C : Type 0} (m : Machine C) where
-  still : NeverMoves m → (c : C) (xs : List Item) → standing m c xs ≡ c
+  still : NeverMoves m → (c : C) (xs : List Content) → standing m c xs ≡ c
   still stays c [] = refl
   still stays c (x ∷ xs) = still stays (m .feed c x .0) xs ∙ stays c x
 
@@ -73,16 +74,16 @@ module _ {C : Type 0} (m : Machine C) where
 
 -- the collator itself meets that demand
 abbrev collator : List ℕ → Machine Collator
-collator roster = record { start = made roster .collator; feed = λ c x. (fedItem c x .collator, fedItem c x .happened) }
+collator roster = record { start = made roster .collator; feed = λ c x. (fedFrame c x .collator, fedFrame c x .happened) }
 
-stands : (roster : List ℕ) (c : Collator) (xs : List Item) → standing (collator roster) c xs ≡ after c xs
+stands : (roster : List ℕ) (c : Collator) (xs : List Content) → standing (collator roster) c xs ≡ after c xs
 unfolding after
 stands roster c [] = refl
-stands roster c (x ∷ xs) = stands roster (fedItem c x .collator) xs
+stands roster c (x ∷ xs) = stands roster (fedFrame c x .collator) xs
 
 pub moving : (roster : List ℕ) → made roster .number ≡ 0 → ReportsEpochs roster (collator roster)
 moving roster ok xs x e =
-    subst (λ (c : Collator). (fedItem c x .happened ≡ H.Epoch e) ↔ EndsEpoch roster xs x e) (sym (stands roster (made roster .collator) xs)) (epoch-told roster ok xs x e)
+    subst (λ (c : Collator). (fedFrame c x .happened ≡ H.Epoch e) ↔ EndsEpoch roster xs x e) (sym (stands roster (made roster .collator) xs)) (epoch-told roster ok xs x e)
 
 -- ---- "A reader honest for its first frame and calling the rest junk: by step 5 holding at every position reached."
 

@@ -7,11 +7,11 @@ use lib.Dec.{eqb, leb}
 use lib.IntN.{ℤ}
 use lib.ListN.{length}
 use Rattle.wire.specs.Field.{size, decode}
-use Rattle.wire.specs.Message.{given, refused, Message, readAs}
-use Rattle.wire.specs.Message as wire
-use Rattle.wire.specs.Tests.{Tests, ordered}
+use Rattle.wire.specs.Description.{Description, readAs}
+use Rattle.wire.specs.Refusals.{refused, given, Tests, ordered}
+use Rattle.wire.specs.Description as wire
 use Rattle.frames.specs.Writer.{planned}
-use Rattle.frames.specs.Message.{writeAnswer}
+use Rattle.frames.specs.Faithful.{writeAnswer}
 use Rattle.observation.specs.Layout.{first, fitting, startOf}
 use Rattle.observation.specs.Obs.{entryAt, readEntry, obsIn, readObs}
 use Rattle.observation.specs.ObsWriter.{obsWriteAnswer}
@@ -30,8 +30,8 @@ use Rattle.demands.specs.Order.{known, lineFor, readingAny, reading, rea
 
 -- ---- each call
 
-pub reads-ordered : {R : Type 0} (m : Message R) (s : List ℕ) → readAs m s ≡ ordered (reading m s) (m .make (decode (m .fields) s 0))
-unfolding readAs wire.judged
+pub reads-ordered : {R : Type 0} (m : Description R) (s : List ℕ) → readAs m s ≡ ordered (reading m s) (m .make (decode (m .fields) s 0))
+unfolding readAs
 reads-ordered m s = refl
 
 pub reads-obs-ordered : (s : List ℕ) → readObs s ≡ ordered (readingObs s) (obsIn s)
@@ -50,7 +50,7 @@ pub plans-ordered : (n room : ℕ) → planned n room ≡ ordered (writingBytes 
 unfolding planned
 plans-ordered n room = refl
 
-pub writes-ordered : {R : Type 0} (m : Message R) (r : R) (room : ℕ) → writeAnswer m r room ≡ ordered (writing m r room) (size (m .fields) + 8)
+pub writes-ordered : {R : Type 0} (m : Description R) (r : R) (room : ℕ) → writeAnswer m r room ≡ ordered (writing m r room) (size (m .fields) + 8)
 unfolding writeAnswer planned
 writes-ordered m r room = refl
 

@@ -9,10 +9,10 @@ use lib.Dec.{eqb, leb}
 use lib.ListN.{length}
 use borrow.Author.Tests.{leb-true, leb-false}
 use Rattle.wire.specs.Field.{allowedRow}
-use Rattle.wire.specs.Message.{Answer, given, refused, Message}
-use Rattle.wire.specs.Tests.{ordered}
-use Rattle.frames.specs.Message.{writeAnswer, writtenAs}
-use Rattle.frames.proofs.Messages as messages
+use Rattle.wire.specs.Description.{Description}
+use Rattle.wire.specs.Refusals.{refused, given, Answer, ordered}
+use Rattle.frames.specs.Faithful.{writeAnswer, writtenAs}
+use Rattle.frames.proofs.Promised as messages
 use Rattle.observation.specs.Layout.{first, fitting}
 use Rattle.observation.specs.ObsWriter.{obsWriteAnswer, obsWritten}
 use Rattle.observation.specs.declared.entry.Observation.{Observation}
@@ -20,7 +20,8 @@ use Rattle.observation.specs.declared.obs.Obs.{Obs}
 use Rattle.observation.proofs.ObsWritten as obs
 use Rattle.epochs.specs.Packet.{obsKind, judged}
 use Rattle.epochs.specs.Collator.{fresh, names, made}
-use Rattle.epochs.specs.Epoch.{Item, fedItem, after}
+use Rattle.epochs.specs.Epoch.{fedFrame, after}
+use Rattle.frames.specs.Frame.{Content}
 use Rattle.epochs.specs.declared.judging.Judged.the-variants as J
 use Rattle.epochs.specs.declared.collating.Collator.{Collator}
 use Rattle.epochs.specs.declared.collating.Made.{Made}
@@ -32,7 +33,7 @@ use Rattle.demands.proofs.Order.{made-ordered, judged-ordered}
 
 -- ---- a refused writer
 
-pub record-unwritten : {R : Type 0} (m : Message R) (sender : ℕ) (r : R) (buf : List ℕ) {n : ℕ} → writeAnswer m r (length buf) ≡ refused n → writtenAs m sender r buf ≡ buf
+pub record-unwritten : {R : Type 0} (m : Description R) (sender : ℕ) (r : R) (buf : List ℕ) {n : ℕ} → writeAnswer m r (length buf) ≡ refused n → writtenAs m sender r buf ≡ buf
 record-unwritten m sender r buf e = by (allowedRow (m .fields) (m .row r)) refl
   where
     by : (t : Bool) → allowedRow (m .fields) (m .row r) ≡ t → writtenAs m sender r buf ≡ buf
@@ -59,7 +60,7 @@ lists-nobody roster refuses = by (ordered (rostering roster) (fresh roster)) (ma
     by (given c) e = absurd (refuses (ap (λ (m : Made). m .number) e))
     by (refused n) e = ap (λ (m : Made). m .collator) e
 
-module _ (x : Item) where
+module _ (x : Content) where
   nobody-judges : (n : ℕ) × ((n ≡ 46) ⊎ (n ≡ 22) ⊎ (n ≡ 43)) × (judged [] (x .kind) (x .sender) (x .payload) ≡ J.Refused n)
   unfolding names
   nobody-judges = by (eqb (x .kind) obsKind) (fitting first (length (x .payload))) (judged-ordered [] (x .kind) (x .sender) (x .payload))
@@ -70,13 +71,13 @@ module _ (x : Item) where
       by true false e = (22, inr (inl refl), e)
       by true true e = (43, inr (inr refl), e)
 
-  nobody-fed : fedItem (fresh []) x ≡ record { collator = fresh []; happened = H.Refused (nobody-judges .0) }
+  nobody-fed : fedFrame (fresh []) x ≡ record { collator = fresh []; happened = H.Refused (nobody-judges .0) }
   nobody-fed = fed-refused (fresh []) (x .kind) (x .sender) (x .payload) (nobody-judges .2)
 
-pub nobody-listed : (roster : List ℕ) → (made roster .number ≡ 0 → ⊥) → (xs : List Item) (x : Item)
-    → (n : ℕ) × ((n ≡ 46) ⊎ (n ≡ 22) ⊎ (n ≡ 43)) × (fedItem (after (made roster .collator) xs) x ≡ record { collator = fresh []; happened = H.Refused n })
+pub nobody-listed : (roster : List ℕ) → (made roster .number ≡ 0 → ⊥) → (xs : List Content) (x : Content)
+    → (n : ℕ) × ((n ≡ 46) ⊎ (n ≡ 22) ⊎ (n ≡ 43)) × (fedFrame (after (made roster .collator) xs) x ≡ record { collator = fresh []; happened = H.Refused n })
 nobody-listed roster refuses xs x = (
   nobody-judges x .0,
   nobody-judges x .1,
-  ap (λ (c : Collator). fedItem (after c xs) x) (lists-nobody roster refuses) ∙ ap (λ (c : Collator). fedItem c x) (nobody-moves xs) ∙ nobody-fed x,
+  ap (λ (c : Collator). fedFrame (after c xs) x) (lists-nobody roster refuses) ∙ ap (λ (c : Collator). fedFrame c x) (nobody-moves xs) ∙ nobody-fed x,
 )

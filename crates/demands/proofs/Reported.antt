@@ -3,7 +3,8 @@ use mathlib.Core.Path.{_≡_, refl, sym, ap, ap₂, _∙_, subst}
 use mathlib.Core.List.{List, [], _∷_, _++_}
 use Prim.Native.Nat.{ℕ}
 use Rattle.epochs.specs.Collator.{made}
-use Rattle.epochs.specs.Epoch.{Item, fedItem, after, reportIn, reports, EndsEpoch}
+use Rattle.epochs.specs.Epoch.{fedFrame, after, reportIn, reports, EndsEpoch}
+use Rattle.frames.specs.Frame.{Content}
 use Rattle.epochs.specs.declared.collating.Collator.{Collator}
 use Rattle.epochs.specs.declared.collating.Report.{Report}
 use Rattle.epochs.specs.declared.collating.Happened.{Happened}
@@ -14,18 +15,18 @@ use Rattle.listing.proofs.EpochLines.{after-one}
 use Rattle.demands.specs.Reported.{Epochs, none, ending, passing}
 
 module _ (roster : List ℕ) (ok : made roster .number ≡ 0) where
-  abbrev at : List Item → Collator
+  abbrev at : List Content → Collator
   at past = after (made roster .collator) past
 
-  abbrev told : List Item → Item → Happened
-  told past x = fedItem (at past) x .happened
+  abbrev told : List Content → Content → Happened
+  told past x = fedFrame (at past) x .happened
 
   -- what a frame tells, and what is told of those after it
-  on : (past : List Item) (x : Item) (xs : List Item) → reports (at past) (x ∷ xs) ≡ reportIn (told past x) (reports (at (past ++ x ∷ [])) xs)
+  on : (past : List Content) (x : Content) (xs : List Content) → reports (at past) (x ∷ xs) ≡ reportIn (told past x) (reports (at (past ++ x ∷ [])) xs)
   unfolding reports
   on past x xs = ap (λ (c : Collator). reportIn (told past x) (reports c xs)) (sym (after-one (made roster .collator) past x))
 
-  pub reported : (past xs : List Item) → Epochs roster past xs (reports (after (made roster .collator) past) xs)
+  pub reported : (past xs : List Content) → Epochs roster past xs (reports (after (made roster .collator) past) xs)
   unfolding reports
   reported past [] = none
   reported past (x ∷ xs) = subst (Epochs roster past (x ∷ xs)) (sym (on past x xs)) (by (told past x) refl (reported (past ++ x ∷ []) xs))
@@ -35,7 +36,7 @@ module _ (roster : List ℕ) (ok : made roster .number ≡ 0) where
       by H.Taken q rest = passing (λ e w. never-taken (sym q ∙ epoch-told roster ok past x e .1 w)) rest
       by (H.Epoch e) q rest = ending (epoch-told roster ok past x e .0 q) rest
 
-  pub only-reported : {past xs : List Item} {es : List Report} → Epochs roster past xs es → es ≡ reports (after (made roster .collator) past) xs
+  pub only-reported : {past xs : List Content} {es : List Report} → Epochs roster past xs es → es ≡ reports (after (made roster .collator) past) xs
   unfolding reports
   only-reported none = refl
   only-reported (ending {past = past} {xs = xs} {x = x} {e = e} w rest) =
@@ -49,5 +50,5 @@ module _ (roster : List ℕ) (ok : made roster .number ≡ 0) where
       by (H.Epoch e) q = absurd (not-one e (epoch-told roster ok past x e .0 q))
 
   -- a frame ends one epoch at most
-  pub one-epoch : {past : List Item} {x : Item} {d e : Report} → EndsEpoch roster past x d → EndsEpoch roster past x e → d ≡ e
+  pub one-epoch : {past : List Content} {x : Content} {d e : Report} → EndsEpoch roster past x d → EndsEpoch roster past x e → d ≡ e
   one-epoch {past} {x} {d} {e} v w = same-report (sym (epoch-told roster ok past x d .1 v) ∙ epoch-told roster ok past x e .1 w)

@@ -6,7 +6,7 @@ use native.Mathlib.Omega.{arith}
 use lib.ListN.{length, drop}
 use borrow.Author.Tests.{le-leb}
 use Rattle.wire.specs.Number.{Bytes}
-use Rattle.wire.specs.Message.{Answer, given}
+use Rattle.wire.specs.Refusals.{given, Answer}
 use Rattle.wire.proofs.Ordered.{exactly-all}
 use Rattle.listing.specs.Listing.{textOf, listAnswer, listedAs, listed}
 use Rattle.listing.proofs.Sizes.{text-size}

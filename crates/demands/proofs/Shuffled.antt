@@ -5,15 +5,16 @@ use mathlib.Core.List.{List, [], _∷_, _++_}
 use Prim.Native.Nat.{ℕ}
 use lib.Dec.{eqb}
 use borrow.Author.Tests.{eqb-true}
-use Rattle.epochs.specs.Epoch.{Item, ofSender}
+use Rattle.epochs.specs.Epoch.{ofSender}
+use Rattle.frames.specs.Frame.{Content}
 
 -- what stands before changes nothing of what comes after
-before : (s : ℕ) (xs ys zs : List Item) → ofSender s ys ≡ ofSender s zs → ofSender s (xs ++ ys) ≡ ofSender s (xs ++ zs)
+before : (s : ℕ) (xs ys zs : List Content) → ofSender s ys ≡ ofSender s zs → ofSender s (xs ++ ys) ≡ ofSender s (xs ++ zs)
 unfolding ofSender
 before s [] ys zs e = e
-before s (x ∷ xs) ys zs e = ap (λ (zs : List Item). cond (eqb (x .sender) s) (x ∷ zs) zs) (before s xs ys zs e)
+before s (x ∷ xs) ys zs e = ap (λ (zs : List Content). cond (eqb (x .sender) s) (x ∷ zs) zs) (before s xs ys zs e)
 
-pub change-places : (s : ℕ) (xs : List Item) (x y : Item) (ys : List Item) → (x .sender ≡ y .sender → ⊥) → ofSender s (xs ++ x ∷ y ∷ ys) ≡ ofSender s (xs ++ y ∷ x ∷ ys)
+pub change-places : (s : ℕ) (xs : List Content) (x y : Content) (ys : List Content) → (x .sender ≡ y .sender → ⊥) → ofSender s (xs ++ x ∷ y ∷ ys) ≡ ofSender s (xs ++ y ∷ x ∷ ys)
 unfolding ofSender
 change-places s xs x y ys other = before s xs (x ∷ y ∷ ys) (y ∷ x ∷ ys) (by (eqb (x .sender) s) (eqb (y .sender) s) refl refl)
   where
@@ -25,7 +26,7 @@ change-places s xs x y ys other = before s xs (x ∷ y ∷ ys) (y ∷ x ∷ ys) 
     by false true p q = refl
     by false false p q = refl
 
-pub nobodys : (s : ℕ) (xs : List Item) (x : Item) (ys : List Item) → (x .sender ≡ s → ⊥) → ofSender s (xs ++ x ∷ ys) ≡ ofSender s (xs ++ ys)
+pub nobodys : (s : ℕ) (xs : List Content) (x : Content) (ys : List Content) → (x .sender ≡ s → ⊥) → ofSender s (xs ++ x ∷ ys) ≡ ofSender s (xs ++ ys)
 unfolding ofSender
 nobodys s xs x ys other = before s xs (x ∷ ys) ys (by (eqb (x .sender) s) refl)
   where

@@ -5,7 +5,7 @@ use mathlib.Core.Path.{_≡_}
 use mathlib.Core.Bool.{Bool, true, false}
 use mathlib.Core.List.{List, [], _∷_}
 use lib.IntN.{ℤ, pos, negℤ}
-use Rattle.wire.specs.Message.{Answer, given, refused}
+use Rattle.wire.specs.Refusals.{refused, given, Answer}
 use Rattle.crc.specs.Crc.{crcFrom}
 use Rattle.frames.specs.Step.{stepAt, ends, payloadIn}
 use Rattle.frames.specs.Reading.{closedSteps, countsOf}
@@ -22,7 +22,8 @@ use Rattle.payloads.specs.declared.Message.{Message}
 use Rattle.payloads.specs.declared.Message.the-variants as M
 use Rattle.epochs.specs.Packet.{obsKind}
 use Rattle.epochs.specs.Collator.{made}
-use Rattle.epochs.specs.Epoch.{Item, fedItem}
+use Rattle.epochs.specs.Epoch.{fedFrame}
+use Rattle.frames.specs.Frame.{Content}
 use Rattle.epochs.specs.declared.collating.Happened.{Happened}
 use Rattle.epochs.specs.declared.collating.Happened.the-variants as H
 
@@ -34,7 +35,7 @@ pub data Example : Type 0 where
   step : List ℕ → ℕ → Step → ℕ → Example
   -- what a frame's payload reads as
   payload : List ℕ → Frame → Answer Message → Example
-  -- the first answer about a capture, open (growing) or closed
+  -- the first answer about a capture, open (opened) or closed
   reading : Bool → List ℕ → Next.Next → Example
   -- the counts of the whole capture, closed
   counts : List ℕ → Counts → Example
@@ -44,7 +45,7 @@ pub data Example : Type 0 where
   phase : Phase → ℤ → Example
 
 -- an observation frame of a sender, with this n_obs and no observations
-abbrev pub packetFrom : ℕ → ℕ → Item
+abbrev pub packetFrom : ℕ → ℕ → Content
 packetFrom sender nObs = record { kind = obsKind; sender = sender; payload = 0 ∷ 0 ∷ 0 ∷ 0 ∷ 0 ∷ 0 ∷ nObs ∷ [] }
 
 -- an example, over the definitions that the contracts cite
@@ -52,9 +53,9 @@ abbrev pub Holds : Example → Type 0
 Holds (crc s n) = crcFrom 0 s ≡ n
 Holds (step s p x next) = (stepAt s p ≡ x) × (ends s p ≡ next)
 Holds (payload s f answer) = readFor (f .kind) (payloadIn s f) ≡ answer
-Holds (reading growing s next) = nextOf s (begun growing) ≡ next
+Holds (reading opened s next) = nextOf s (begun opened) ≡ next
 Holds (counts s totals) = countsOf (closedSteps s) ≡ totals
-Holds (feeding n happened) = fedItem (made (0 ∷ []) .collator) (packetFrom 0 n) .happened ≡ happened
+Holds (feeding n happened) = fedFrame (made (0 ∷ []) .collator) (packetFrom 0 n) .happened ≡ happened
 Holds (phase p z) = (phaseOf p ≡ z) × (readPhase z ≡ given p)
 
 abbrev pub AllHold : List Example → Type 0

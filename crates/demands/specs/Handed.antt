@@ -10,13 +10,13 @@ use Rattle.frames.specs.declared.cursor.Next as Next
 
 -- a reading stops at the end or, open, where it needs more
 abbrev pub Stops : Bool → Next.Next → Type 0
-Stops growing (Next.the-variants.Frame f c) = ⊥
-Stops growing (Next.the-variants.End c) = Unit {0}
-Stops growing (Next.the-variants.Needs n c) = growing ≡ true
+Stops opened (Next.the-variants.Frame f c) = ⊥
+Stops opened (Next.the-variants.End c) = Unit {0}
+Stops opened (Next.the-variants.Needs n c) = opened ≡ true
 
 -- they have handed out the frames of the reading's steps, in order, and end with the counts of these steps
-pub record Handed (growing : Bool) (s : List ℕ) : Type 0 where
+pub record Handed (opened : Bool) (s : List ℕ) : Type 0 where
   pub last : Cursor
-  pub frames : Led growing s (framesOf (steps growing s 0)) last
-  pub stops : Stops growing (nextOf s last)
-  pub counts : countsIn (after (nextOf s last)) ≡ countsOf (steps growing s 0)
+  pub frames : Led opened s (framesOf (steps opened s 0)) last
+  pub stops : Stops opened (nextOf s last)
+  pub counts : countsIn (after (nextOf s last)) ≡ countsOf (steps opened s 0)

@@ -15,7 +15,8 @@ use Rattle.frames.specs.declared.step.Step.the-variants.{Finished, Junk, Short,
 use Rattle.frames.specs.declared.cursor.Counts.{Counts}
 use Rattle.frames.specs.declared.cursor.Cursor.{Cursor}
 use Rattle.frames.specs.declared.cursor.Next as Next
-use Rattle.epochs.specs.Epoch.{Item, EndsEpoch}
+use Rattle.epochs.specs.Epoch.{EndsEpoch}
+use Rattle.frames.specs.Frame.{Content}
 use Rattle.epochs.specs.declared.collating.Report.{Report}
 use Rattle.epochs.specs.declared.collating.Happened.{Happened}
 use Rattle.epochs.specs.declared.collating.Happened.the-variants as H
@@ -45,21 +46,21 @@ alike x s c = x
 
 pub record Machine (C : Type 0) : Type 0 where
   pub start : C
-  pub feed : C → Item → C × Happened
+  pub feed : C → Content → C × Happened
 
 -- the state after some frames
-abbrev pub standing : {C : Type 0} → Machine C → C → List Item → C
+abbrev pub standing : {C : Type 0} → Machine C → C → List Content → C
 standing m c [] = c
 standing m c (x ∷ xs) = standing m (m .feed c x .0) xs
 
 -- demand 2: after any frames a frame is answered with an epoch exactly when it ends one
 abbrev pub ReportsEpochs : {C : Type 0} → List ℕ → Machine C → Type 0
 ReportsEpochs roster m =
-    (xs : List Item) (x : Item) (e : Report) → (m .feed (standing m (m .start) xs) x .1 ≡ H.Epoch e) ↔ EndsEpoch roster xs x e
+    (xs : List Content) (x : Content) (e : Report) → (m .feed (standing m (m .start) xs) x .1 ≡ H.Epoch e) ↔ EndsEpoch roster xs x e
 
 -- never moving: any collator whose state stays as it is, whatever it answers
 abbrev pub NeverMoves : {C : Type 0} → Machine C → Type 0
-NeverMoves {C} m = (c : C) (x : Item) → m .feed c x .0 ≡ c
+NeverMoves {C} m = (c : C) (x : Content) → m .feed c x .0 ≡ c
 
 -- ---- honest for its first frame, calling the rest junk
 

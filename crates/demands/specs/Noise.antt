@@ -3,11 +3,10 @@
 use Prim.Native.Nat.{ℕ}
 use mathlib.Core.Path.{_≡_}
 use mathlib.Core.List.{List, [], _∷_, _++_}
-use Rattle.frames.specs.Frame.{Outgoing, Sendable, frameOf}
-use Rattle.epochs.specs.Epoch.{Item}
+use Rattle.frames.specs.Frame.{Content, Sendable, frameOf}
 
 pub data Piece : Type 0 where
-  frame : Outgoing → Piece
+  frame : Content → Piece
   noise : ℕ → Piece
 
 abbrev pub Fits : Piece → Type 0
@@ -23,7 +22,7 @@ abbrev pub bytesIn : Piece → List ℕ → List ℕ
 bytesIn (frame m) rest = frameOf m ++ rest
 bytesIn (noise b) rest = b ∷ rest
 
-abbrev pub sentBy : Piece → List Item → List Item
+abbrev pub sentBy : Piece → List Content → List Content
 sentBy (frame m) rest = record { kind = m .kind; sender = m .sender; payload = m .payload } ∷ rest
 sentBy (noise b) rest = rest
 
@@ -31,6 +30,6 @@ unfoldable pub captureOf : List Piece → List ℕ
 captureOf [] = []
 captureOf (x ∷ xs) = bytesIn x (captureOf xs)
 
-unfoldable pub sentIn : List Piece → List Item
+unfoldable pub sentIn : List Piece → List Content
 sentIn [] = []
 sentIn (x ∷ xs) = sentBy x (sentIn xs)

@@ -7,8 +7,8 @@ use lib.Dec.{eqb, leb, ltb}
 use lib.ListN.{length}
 use lib.IntN.{ℤ}
 use Rattle.wire.specs.Field.{size, decode, allowedRow}
-use Rattle.wire.specs.Message.{Answer, given, refused, Message}
-use Rattle.wire.specs.Tests.{Tests}
+use Rattle.wire.specs.Description.{Description}
+use Rattle.wire.specs.Refusals.{refused, given, Answer, Tests}
 use Rattle.observation.specs.Layout.{first, fitting, countIn, startOf}
 use Rattle.observation.specs.Obs.{obsIn}
 use Rattle.observation.specs.Phase.{inPhase}
@@ -42,7 +42,7 @@ abbrev pub readingAny : List Line → ℕ → List ℕ → Tests
 readingAny ls kind s = (known ls kind, 21) ∷ (lineFor ls kind .lengths (length s), 22) ∷ (lineFor ls kind .ranges s, 23) ∷ []
 
 -- a typed reader knows its type
-abbrev pub reading : {R : Type 0} → Message R → List ℕ → Tests
+abbrev pub reading : {R : Type 0} → Description R → List ℕ → Tests
 reading m s = (eqb (length s) (size (m .fields)), 22) ∷ (allowedRow (m .fields) (decode (m .fields) s 0), 23) ∷ []
 
 abbrev pub readingObs : List ℕ → Tests
@@ -61,7 +61,7 @@ oneObservation s i = (fitting first (length s), 22) ∷ (ltb i (countIn first (l
 abbrev pub writingBytes : ℕ → ℕ → Tests
 writingBytes n room = (leb n 255, 31) ∷ (leb (n + 8) room, 32) ∷ []
 
-abbrev pub writing : {R : Type 0} → Message R → R → ℕ → Tests
+abbrev pub writing : {R : Type 0} → Description R → R → ℕ → Tests
 writing m r room = (allowedRow (m .fields) (m .row r), 23) ∷ writingBytes (size (m .fields)) room
 
 abbrev pub writingObs : Obs → ℕ → Tests

@@ -21,7 +21,8 @@ use Rattle.frames.specs.declared.cursor.Next as Next
 use Rattle.frames.proofs.Walks.{Walking, left, walking-begun, walking-on, walking-end}
 use Rattle.epochs.specs.Packet.{seatOf}
 use Rattle.epochs.specs.Collator.{rosterOf, made, repeats}
-use Rattle.epochs.specs.Epoch.{Item, fedItem, after, reportIn, reports, reportsOf, itemIn, itemsOf}
+use Rattle.epochs.specs.Epoch.{fedFrame, after, reportIn, reports, reportsOf, contentIn, contentsOf}
+use Rattle.frames.specs.Frame.{Content}
 use Rattle.epochs.specs.Capture.{begun, oneMore, counted, fedInto, fedAll, collated}
 use Rattle.epochs.specs.declared.judging.Seat.{Seat}
 use Rattle.epochs.specs.declared.judging.Seat.the-variants.{At, Nowhere}
@@ -44,13 +45,13 @@ module _ (s roster : List ℕ) {m : Made} (e : m ≡ made roster) where
   unfolding collated
   collated-refused h = rw (sym e, ne-eqb (m .number) 0 h)
 
-  pub collated-fed : m .number ≡ 0 → collated s roster ≡ fedAll (begun m) (itemsOf s)
+  pub collated-fed : m .number ≡ 0 → collated s roster ≡ fedAll (begun m) (contentsOf s)
   unfolding collated
   collated-fed h = rw (sym e, eq-eqb (m .number) 0 h)
 
 -- ---- one frame
 
-pub fed-into : (t : Collated) (x : Item) {f : Fed} {ns : List ℕ} → f ≡ fedItem (t .collator) x → ns ≡ counted (t .collator) (f .happened) (t .reports)
+pub fed-into : (t : Collated) (x : Content) {f : Fed} {ns : List ℕ} → f ≡ fedFrame (t .collator) x → ns ≡ counted (t .collator) (f .happened) (t .reports)
     → record { number = t .number; collator = f .collator; reports = ns } ≡ fedInto t x
 fed-into t x {f} e q =
     ap {B = Collated} (λ (ns : List ℕ). record { number = t .number; collator = f .collator; reports = ns }) q
@@ -60,11 +61,11 @@ fed-into t x {f} e q =
 
 -- the frames that are left, fed to the state, make the end
 pub record Going (s : List ℕ) (end t : Collated) (fs : List Frame) : Type 0 where
-  pub rest : end ≡ fedAll t (map (itemIn s) fs)
+  pub rest : end ≡ fedAll t (map (contentIn s) fs)
 
 module _ (s : List ℕ) (small : length s < 2 ^ 64) where
-  pub going-begun : (end t : Collated) {c : Cursor} → end ≡ fedAll t (itemsOf s) → c ≡ cursors.begun false → Walking s (Going s end t) c
-  unfolding itemsOf
+  pub going-begun : (end t : Collated) {c : Cursor} → end ≡ fedAll t (contentsOf s) → c ≡ cursors.begun false → Walking s (Going s end t) c
+  unfolding contentsOf
   going-begun end t e b = walking-begun s small (Going s end t) (record { rest = e }) b
 
   -- a frame is fed
@@ -73,7 +74,7 @@ module _ (s : List ℕ) (small : length s < 2 ^ 64) where
   unfolding fedAll
   going-on {t = t} going {f} {d} e p q =
       let state = q ∙ ap (λ (payload : List ℕ). fedInto t (record { kind = f .kind; sender = f .sender; payload = payload })) p in
-      walking-on s small going e (λ r. record { rest = r .rest ∙ ap (λ (t : Collated). fedAll t (map (itemIn s) (left s d))) (sym state) })
+      walking-on s small going e (λ r. record { rest = r .rest ∙ ap (λ (t : Collated). fedAll t (map (contentIn s) (left s d))) (sym state) })
 
   -- or there is none left
   pub going-end : {end t : Collated} {c d : Cursor} → Walking s (Going s end t) c → nextOf s c ≡ Next.the-variants.End d → t ≡ end
@@ -83,7 +84,7 @@ module _ (s : List ℕ) (small : length s < 2 ^ 64) where
 -- ---- what the answer is
 
 -- the frames are fed one after the other
-pub fed-after : (t : Collated) (xs : List Item) → fedAll t xs .collator ≡ after (t .collator) xs
+pub fed-after : (t : Collated) (xs : List Content) → fedAll t xs .collator ≡ after (t .collator) xs
 unfolding fedAll after
 fed-after t [] = refl
 fed-after t (x ∷ xs) = fed-after (fedInto t x) xs
@@ -139,13 +140,13 @@ module _ (roster : List ℕ) (once : repeats roster ≡ false) (few : length ros
       by true = omega arith
       by false = omega arith
 
-  all-counted : (t : Collated) → rosterOf (t .collator) ≡ roster → length (t .reports) ≡ 8 → (xs : List Item) → getD (t .reports) i 0 + length xs < 2 ^ 64
+  all-counted : (t : Collated) → rosterOf (t .collator) ≡ roster → length (t .reports) ≡ 8 → (xs : List Content) → getD (t .reports) i 0 + length xs < 2 ^ 64
       → getD (fedAll t xs .reports) i 0 ≡ getD (t .reports) i 0 + length (reportsOf sender (reports (t .collator) xs))
   unfolding fedAll reports reportsOf
   all-counted t e size [] h = omega arith
   all-counted t e size (x ∷ xs) h =
       let c = t .collator in
-      let f = fedItem c x in
+      let f = fedFrame c x in
       let fits : getD (t .reports) i 0 + 1 < 2 ^ 64 = omega arith in
       let one = one-counted c e (f .happened) (t .reports) size fits [] in
       let next : getD (counted c (f .happened) (t .reports)) i 0 + length xs < 2 ^ 64 = omega (arith, one, one-report (f .happened)) in
@@ -153,10 +154,10 @@ module _ (roster : List ℕ) (once : repeats roster ≡ false) (few : length ros
       ∙ one-counted c e (f .happened) (t .reports) size fits (reports (f .collator) xs)
 
 -- a capture has no more frames than bytes
-frames-few : (growing : Bool) (k p : ℕ) (t : List ℕ) → length (framesOf (readFrom growing k p t)) ≤ length t
+frames-few : (opened : Bool) (k p : ℕ) (t : List ℕ) → length (framesOf (readFrom opened k p t)) ≤ length t
 unfolding readFrom framesOf
-frames-few growing k p [] = omega arith
-frames-few growing zero p (b ∷ t) = by (stops growing (stepOf p (b ∷ t))) (stepOf p (b ∷ t)) (readFrom growing (pred (passed (stepOf p (b ∷ t)))) (suc p) t) (frames-few growing (pred (passed (stepOf p (b ∷ t)))) (suc p) t)
+frames-few opened k p [] = omega arith
+frames-few opened zero p (b ∷ t) = by (stops opened (stepOf p (b ∷ t))) (stepOf p (b ∷ t)) (readFrom opened (pred (passed (stepOf p (b ∷ t)))) (suc p) t) (frames-few opened (pred (passed (stepOf p (b ∷ t)))) (suc p) t)
   where
     one : (x : Step) (fs : List Frame) → length (framesIn x fs) ≤ suc (length fs)
     one Finished fs = omega arith
@@ -168,25 +169,25 @@ frames-few growing zero p (b ∷ t) = by (stops growing (stepOf p (b ∷ t))) (s
     by : (stop : Bool) (x : Step) (rest : List Placed) → length (framesOf rest) ≤ length t → length (framesOf (cond stop [] (record { at = p; step = x } ∷ rest))) ≤ suc (length t)
     by true x rest h = omega arith
     by false x rest h = omega (arith, one x (framesOf rest))
-frames-few growing (suc k) p (b ∷ t) = omega (arith, frames-few growing k (suc p) t)
+frames-few opened (suc k) p (b ∷ t) = omega (arith, frames-few opened k (suc p) t)
 
 module _ (s roster : List ℕ) (ok : made roster .number ≡ 0) where
-  whole : collated s roster ≡ fedAll (begun (made roster)) (itemsOf s)
+  whole : collated s roster ≡ fedAll (begun (made roster)) (contentsOf s)
   whole = collated-fed s roster refl ok
 
   -- the end state is that of the capture's frames
-  pub collated-state : collated s roster .collator ≡ after (made roster .collator) (itemsOf s)
-  collated-state = ap (λ (t : Collated). t .collator) whole ∙ fed-after (begun (made roster)) (itemsOf s)
+  pub collated-state : collated s roster .collator ≡ after (made roster .collator) (contentsOf s)
+  collated-state = ap (λ (t : Collated). t .collator) whole ∙ fed-after (begun (made roster)) (contentsOf s)
 
   -- and each place's count is the number of its sender's reports
   pub collated-counts : length s < 2 ^ 64 → (i : ℕ) → i < length roster
-      → getD (collated s roster .reports) i 0 ≡ length (reportsOf (getD roster i 0) (reports (made roster .collator) (itemsOf s)))
-  unfolding itemsOf
+      → getD (collated s roster .reports) i 0 ≡ length (reportsOf (getD roster i 0) (reports (made roster .collator) (contentsOf s)))
+  unfolding contentsOf
   collated-counts small i below =
       let is = accepted roster ok in
       let listed : rosterOf (made roster .collator) ≡ roster
       = ap (λ (m : Made). rosterOf (m .collator)) (is .whole) ∙ roster-kept roster (is .few) (λ (k : ℕ). []) in
       let none : _≡_ {A = ℕ} (getD (replicate 8 0) i 0) 0 = getD-replicate 8 i 0 0 (omega (arith, is .few)) in
-      let frames : length (itemsOf s) ≤ length s = rw length-map (frames-few false 0 0 s) in
-      let sum = all-counted roster (is .once) (is .few) i below (begun (made roster)) listed refl (itemsOf s) (omega arith) in
+      let frames : length (contentsOf s) ≤ length s = rw length-map (frames-few false 0 0 s) in
+      let sum = all-counted roster (is .once) (is .few) i below (begun (made roster)) listed refl (contentsOf s) (omega arith) in
       ap (λ (t : Collated). getD (t .reports) i 0) whole ∙ sum ∙ (omega arith)

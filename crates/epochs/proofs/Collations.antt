@@ -11,7 +11,8 @@ use lib.ListN.{length, take, replicate}
 use borrow.Author.Tests.{eqb-true, eqb-false, eq-eqb}
 use Rattle.wire.specs.Number.{Bytes}
 use Rattle.epochs.specs.Collator.{idle, stepped, told, names, made}
-use Rattle.epochs.specs.Epoch.{Item, own, kept, packetsOf, ofSender, historyOf, fedItem, after, reportIn, reports, reportsOf, EndsEpoch, SameFrames, itemsOf}
+use Rattle.epochs.specs.Epoch.{own, kept, packetsOf, ofSender, historyOf, fedFrame, after, reportIn, reports, reportsOf, EndsEpoch, SameFrames, contentsOf}
+use Rattle.frames.specs.Frame.{Content}
 use Rattle.epochs.specs.declared.judging.Packet.{Packet}
 use Rattle.epochs.specs.declared.judging.Judged.{Judged}
 use Rattle.epochs.specs.declared.judging.Judged.the-variants as J
@@ -35,10 +36,10 @@ use Rattle.epochs.proofs.Senders.{heardBy, tells, fresh-state, fed-list
 
 -- ---- what is kept of frames is well-formed
 
-own-formed : (x : Item) {i : ℕ} {p : Packet} → own x ≡ J.For i p → Formed p
+own-formed : (x : Content) {i : ℕ} {p : Packet} → own x ≡ J.For i p → Formed p
 own-formed x q = judged-formed (x .sender ∷ []) (x .kind) (x .sender) (x .payload) q
 
-pub packets-formed : (xs : List Item) (past : List Packet) → AllFormed past → AllFormed (packetsOf xs past)
+pub packets-formed : (xs : List Content) (past : List Packet) → AllFormed past → AllFormed (packetsOf xs past)
 unfolding packetsOf
 packets-formed [] past all = all
 packets-formed (x ∷ xs) past all = packets-formed xs (kept (own x) past) (one (own x) refl)
@@ -47,12 +48,12 @@ packets-formed (x ∷ xs) past all = packets-formed xs (kept (own x) past) (one 
     one (J.Refused n) q = all
     one (J.For i p) q = (own-formed x q, all)
 
-pub history-formed : (s : ℕ) (xs : List Item) → AllFormed (historyOf s xs)
+pub history-formed : (s : ℕ) (xs : List Content) → AllFormed (historyOf s xs)
 unfolding historyOf
 history-formed s xs = packets-formed (ofSender s xs) [] tt
 
 -- a frame by itself has the only seat
-own-seat : (x : Item) {i : ℕ} {p : Packet} → own x ≡ J.For i p → i ≡ 0
+own-seat : (x : Content) {i : ℕ} {p : Packet} → own x ≡ J.For i p → i ≡ 0
 own-seat x q = same-seat (heard (x .sender ∷ []) (x .kind) (x .sender) (x .payload) q .found .seat ∙ seat-alone (x .sender))
 
 pub same-report : {a b : Report} → H.Epoch a ≡ H.Epoch b → a ≡ b
@@ -60,7 +61,7 @@ same-report e = cc
 
 -- ---- the reports of one sender, from its own frames alone
 
-unfoldable ownReports : ℕ → List Packet → List Item → List Report
+unfoldable ownReports : ℕ → List Packet → List Content → List Report
 ownReports s past [] = []
 ownReports s past (x ∷ xs) = reportIn (tells s past (own x)) (ownReports s (kept (own x) past) xs)
 
@@ -81,7 +82,7 @@ module _ (roster : List ℕ) (ok : made roster .number ≡ 0) where
   is = accepted roster ok
 
   -- the end state is one place for each listed sender, made of that sender's own packets
-  pub standing : (xs : List Item) → after (made roster .collator) xs ≡ stateOf roster (λ (s : ℕ). historyOf s xs)
+  pub standing : (xs : List Content) → after (made roster .collator) xs ≡ stateOf roster (λ (s : ℕ). historyOf s xs)
   unfolding historyOf
   standing xs =
       ap (λ (m : Made). after (m .collator) xs) (is .whole)
@@ -90,7 +91,7 @@ module _ (roster : List ℕ) (ok : made roster .number ≡ 0) where
 
   -- ---- demand 2
 
-  module _ (xs : List Item) (x : Item) (e : Report) where
+  module _ (xs : List Content) (x : Content) (e : Report) where
     abbrev past : ℕ → List Packet
     past s = historyOf s xs
 
@@ -98,13 +99,13 @@ module _ (roster : List ℕ) (ok : made roster .number ≡ 0) where
     formed-on q = (own-formed x q, history-formed (x .sender) xs)
 
     -- a frame that is fed after others tells of an epoch exactly when it ends one
-    pub epoch-told : (fedItem (after (made roster .collator) xs) x .happened ≡ H.Epoch e) ↔ EndsEpoch roster xs x e
+    pub epoch-told : (fedFrame (after (made roster .collator) xs) x .happened ≡ H.Epoch e) ↔ EndsEpoch roster xs x e
     epoch-told = (λ h. there (names roster (x .sender)) refl (sym at ∙ h), λ w. at ∙ back w)
       where
-        at : fedItem (after start xs) x .happened ≡ fedItem (stateOf roster past) x .happened
-        at = ap (λ (c : Collator). fedItem c x .happened) (standing xs)
+        at : fedFrame (after start xs) x .happened ≡ fedFrame (stateOf roster past) x .happened
+        at = ap (λ (c : Collator). fedFrame c x .happened) (standing xs)
 
-        listed-tells : names roster (x .sender) ≡ true → fedItem (stateOf roster past) x .happened ≡ tells (x .sender) (past (x .sender)) (own x)
+        listed-tells : names roster (x .sender) ≡ true → fedFrame (stateOf roster past) x .happened ≡ tells (x .sender) (past (x .sender)) (own x)
         listed-tells n = ap (λ (f : Fed). f .happened) (fed-listed roster (is .few) (is .once) past x n)
 
         by-ended : names roster (x .sender) ≡ true → (p : Packet) → own x ≡ J.For 0 p → (d : Ended) → stepped (placeOf (past (x .sender))) p .ended ≡ d
@@ -117,13 +118,13 @@ module _ (roster : List ℕ) (ok : made roster .number ≡ 0) where
         by-own n (J.Refused m) q h = absurd (never-refused h)
         by-own n (J.For i p) q h = by-ended n p (q ∙ ap (λ (i : ℕ). J.For i p) (own-seat x q)) (stepped (placeOf (past (x .sender))) p .ended) refl h
 
-        there : (t : Bool) → names roster (x .sender) ≡ t → fedItem (stateOf roster past) x .happened ≡ H.Epoch e → EndsEpoch roster xs x e
+        there : (t : Bool) → names roster (x .sender) ≡ t → fedFrame (stateOf roster past) x .happened ≡ H.Epoch e → EndsEpoch roster xs x e
         there true n h = by-own n (own x) refl (sym (listed-tells n) ∙ h)
         there false n h =
             let r = fed-unlisted roster (is .few) (is .once) past x n in
             absurd (never-refused (sym (ap (λ (f : Fed). f .happened) (r .1)) ∙ h))
 
-        back : EndsEpoch roster xs x e → fedItem (stateOf roster past) x .happened ≡ H.Epoch e
+        back : EndsEpoch roster xs x e → fedFrame (stateOf roster past) x .happened ≡ H.Epoch e
         back w =
             listed-tells (w .listed)
             ∙ ap (tells (x .sender) (past (x .sender))) (w .formed)
@@ -131,7 +132,7 @@ module _ (roster : List ℕ) (ok : made roster .number ≡ 0) where
             ∙ ap H.Epoch (sym (w .report))
 
     -- with at most 225 observations, where the payload is of bytes
-    pub epoch-small : Bytes (x .payload) → fedItem (after (made roster .collator) xs) x .happened ≡ H.Epoch e → e .observations ≤ 225
+    pub epoch-small : Bytes (x .payload) → fedFrame (after (made roster .collator) xs) x .happened ≡ H.Epoch e → e .observations ≤ 225
     epoch-small bytes h =
         let w = epoch-told .0 h in
         let n = judged-n (x .sender ∷ []) (x .kind) (x .sender) (x .payload) bytes (w .formed) in
@@ -139,50 +140,50 @@ module _ (roster : List ℕ) (ok : made roster .number ≡ 0) where
 
   -- ---- demand 3
 
-  pub same-state : (xs ys : List Item) → SameFrames roster xs ys → after (made roster .collator) xs ≡ after (made roster .collator) ys
+  pub same-state : (xs ys : List Content) → SameFrames roster xs ys → after (made roster .collator) xs ≡ after (made roster .collator) ys
   unfolding historyOf
   same-state xs ys same =
       let places : placesOf roster (λ (s : ℕ). historyOf s xs) ≡ placesOf roster (λ (s : ℕ). historyOf s ys)
-      = map-listed roster (λ s n. ap (λ (zs : List Item). placeOf (packetsOf zs [])) (same s n)) in
+      = map-listed roster (λ s n. ap (λ (zs : List Content). placeOf (packetsOf zs [])) (same s n)) in
       standing xs
       ∙ ap (λ (ps : List Place). record { places = take 8 (ps ++ replicate 8 idle); roster = take 8 (roster ++ replicate 8 0); count = length roster }) places
       ∙ sym (standing ys)
 
-  own-reports : (s : ℕ) → names roster s ≡ true → (xs : List Item) (past : ℕ → List Packet)
+  own-reports : (s : ℕ) → names roster s ≡ true → (xs : List Content) (past : ℕ → List Packet)
       → reportsOf s (reports (stateOf roster past) xs) ≡ ownReports s (past s) (ofSender s xs)
   unfolding reports reportsOf ofSender ownReports
   own-reports s n [] past = refl
   own-reports s n (x ∷ xs) past = by (eqb (x .sender) s) refl (own-reports s n xs (heardBy x past))
     where
-      rest : reportsOf s (reports (fedItem (stateOf roster past) x .collator) xs) ≡ reportsOf s (reports (stateOf roster (heardBy x past)) xs)
+      rest : reportsOf s (reports (fedFrame (stateOf roster past) x .collator) xs) ≡ reportsOf s (reports (stateOf roster (heardBy x past)) xs)
       rest = ap (λ (c : Collator). reportsOf s (reports c xs)) (fed-state roster (is .few) (is .once) past x)
 
       by : (t : Bool) → eqb (x .sender) s ≡ t
           → reportsOf s (reports (stateOf roster (heardBy x past)) xs) ≡ ownReports s (cond t (kept (own x) (past s)) (past s)) (ofSender s xs)
-          → reportsOf s (reportIn (fedItem (stateOf roster past) x .happened) (reports (fedItem (stateOf roster past) x .collator) xs))
+          → reportsOf s (reportIn (fedFrame (stateOf roster past) x .happened) (reports (fedFrame (stateOf roster past) x .collator) xs))
           ≡ ownReports s (past s) (cond t (x ∷ ofSender s xs) (ofSender s xs))
       by true q all =
           let own-sender = eqb-true (x .sender) s q in
-          let heard-of : fedItem (stateOf roster past) x .happened ≡ tells s (past s) (own x)
+          let heard-of : fedFrame (stateOf roster past) x .happened ≡ tells s (past s) (own x)
           = ap (λ (f : Fed). f .happened) (fed-listed roster (is .few) (is .once) past x (ap (names roster) own-sender ∙ n))
           ∙ ap (λ (k : ℕ). tells k (past k) (own x)) own-sender in
-          ap (λ (h : Happened). reportsOf s (reportIn h (reports (fedItem (stateOf roster past) x .collator) xs))) heard-of
-          ∙ tells-own s (past s) (own x) (reports (fedItem (stateOf roster past) x .collator) xs)
+          ap (λ (h : Happened). reportsOf s (reportIn h (reports (fedFrame (stateOf roster past) x .collator) xs))) heard-of
+          ∙ tells-own s (past s) (own x) (reports (fedFrame (stateOf roster past) x .collator) xs)
           ∙ ap (reportIn (tells s (past s) (own x))) (rest ∙ all)
-      by false q all = report-own (stateOf roster past) (x .kind) (x .sender) (x .payload) (reports (fedItem (stateOf roster past) x .collator) xs) (eqb-false (x .sender) s q) ∙ rest ∙ all
+      by false q all = report-own (stateOf roster past) (x .kind) (x .sender) (x .payload) (reports (fedFrame (stateOf roster past) x .collator) xs) (eqb-false (x .sender) s q) ∙ rest ∙ all
 
-  from-start : (s : ℕ) → names roster s ≡ true → (xs : List Item) → reportsOf s (reports start xs) ≡ ownReports s [] (ofSender s xs)
+  from-start : (s : ℕ) → names roster s ≡ true → (xs : List Content) → reportsOf s (reports start xs) ≡ ownReports s [] (ofSender s xs)
   from-start s n xs =
       ap (λ (m : Made). reportsOf s (reports (m .collator) xs)) (is .whole)
       ∙ ap (λ (c : Collator). reportsOf s (reports c xs)) (fresh-state roster (is .few))
       ∙ own-reports s n xs (λ (s : ℕ). [])
 
-  pub same-reports : (xs ys : List Item) → SameFrames roster xs ys → (s : ℕ) → names roster s ≡ true
+  pub same-reports : (xs ys : List Content) → SameFrames roster xs ys → (s : ℕ) → names roster s ≡ true
       → reportsOf s (reports (made roster .collator) xs) ≡ reportsOf s (reports (made roster .collator) ys)
   same-reports xs ys same s n = from-start s n xs ∙ ap (ownReports s []) (same s n) ∙ sym (from-start s n ys)
 
   -- and so for two captures, read closed
-  pub same-captures : (a b : List ℕ) → SameFrames roster (itemsOf a) (itemsOf b)
-      → (after (made roster .collator) (itemsOf a) ≡ after (made roster .collator) (itemsOf b))
-      × ((s : ℕ) → names roster s ≡ true → reportsOf s (reports (made roster .collator) (itemsOf a)) ≡ reportsOf s (reports (made roster .collator) (itemsOf b)))
-  same-captures a b same = (same-state (itemsOf a) (itemsOf b) same, same-reports (itemsOf a) (itemsOf b) same)
+  pub same-captures : (a b : List ℕ) → SameFrames roster (contentsOf a) (contentsOf b)
+      → (after (made roster .collator) (contentsOf a) ≡ after (made roster .collator) (contentsOf b))
+      × ((s : ℕ) → names roster s ≡ true → reportsOf s (reports (made roster .collator) (contentsOf a)) ≡ reportsOf s (reports (made roster .collator) (contentsOf b)))
+  same-captures a b same = (same-state (contentsOf a) (contentsOf b) same, same-reports (contentsOf a) (contentsOf b) same)

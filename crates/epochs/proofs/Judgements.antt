@@ -9,7 +9,7 @@ use lib.Dec.{eqb, leb}
 use lib.ListN.{length}
 use borrow.Author.Tests.{eq-eqb, ne-eqb, eqb-true, eqb-false, le-leb, lt-leb, leb-true, leb-false}
 use Rattle.wire.specs.Number.{Bytes}
-use Rattle.wire.specs.Message.{Answer, given, refused}
+use Rattle.wire.specs.Refusals.{refused, given, Answer}
 use Rattle.wire.proofs.Numbers.{number-lt}
 use Rattle.observation.specs.Layout.{first, fitting}
 use Rattle.observation.specs.Obs.{obsIn, readObs}

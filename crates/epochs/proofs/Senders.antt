@@ -11,7 +11,8 @@ use lib.Seq.{take-take, take-append-seam, getD-take, take-set-lt, set-append-lef
 use borrow.Author.Tests.{eq-eqb, ne-eqb}
 use Rattle.epochs.specs.Packet.{seatOf, judged}
 use Rattle.epochs.specs.Collator.{idle, stepped, told, rosterOf, fed, fresh, names, repeats}
-use Rattle.epochs.specs.Epoch.{Item, own, kept, packetsOf, ofSender, fedItem, after}
+use Rattle.epochs.specs.Epoch.{own, kept, packetsOf, ofSender, fedFrame, after}
+use Rattle.frames.specs.Frame.{Content}
 use Rattle.epochs.specs.declared.judging.Packet.{Packet}
 use Rattle.epochs.specs.declared.judging.Seat.the-variants.{At}
 use Rattle.epochs.specs.declared.judging.Judged.{Judged}
@@ -27,7 +28,7 @@ use Rattle.epochs.proofs.Judgements.{moved, judged-listed, judged-unlis
 use Rattle.epochs.proofs.Feeding.{fed-refused, fed-for}
 
 -- the packets of every sender once a frame is fed: its own sender's has one more, where it is well-formed
-abbrev pub heardBy : Item → (ℕ → List Packet) → ℕ → List Packet
+abbrev pub heardBy : Content → (ℕ → List Packet) → ℕ → List Packet
 heardBy x past s = cond (eqb (x .sender) s) (kept (own x) (past s)) (past s)
 
 -- what a frame of a listed sender tells
@@ -39,10 +40,10 @@ pub state-ext : (roster : List ℕ) {a b : ℕ → List Packet} → ((s : ℕ) �
 state-ext roster e = ap (stateOf roster) (λ i s. e s i)
 
 -- the frame's own sender, and the others
-heard-own : (x : Item) (past : ℕ → List Packet) → heardBy x past (x .sender) ≡ kept (own x) (past (x .sender))
+heard-own : (x : Content) (past : ℕ → List Packet) → heardBy x past (x .sender) ≡ kept (own x) (past (x .sender))
 heard-own x past = rw (eq-eqb (x .sender) (x .sender) refl)
 
-heard-other : (x : Item) (past : ℕ → List Packet) (s : ℕ) → (s ≡ x .sender → ⊥) → past s ≡ heardBy x past s
+heard-other : (x : Content) (past : ℕ → List Packet) (s : ℕ) → (s ≡ x .sender → ⊥) → past s ≡ heardBy x past s
 heard-other x past s other = rw (ne-eqb (x .sender) s (λ e. other (sym e)))
 
 module _ (roster : List ℕ) (few : length roster ≤ 8) where
@@ -60,7 +61,7 @@ module _ (roster : List ℕ) (few : length roster ≤ 8) where
       all-idle [] (suc m) (suc n) h = ap (λ (ps : List Place). idle ∷ ps) (all-idle [] m n (omega arith))
       all-idle (x ∷ xs) (suc m) n h = ap (λ (ps : List Place). idle ∷ ps) (all-idle xs m n (omega arith))
 
-  module _ (once : repeats roster ≡ false) (past : ℕ → List Packet) (x : Item) where
+  module _ (once : repeats roster ≡ false) (past : ℕ → List Packet) (x : Content) where
     abbrev c : Collator
     c = stateOf roster past
 
@@ -137,16 +138,16 @@ module _ (roster : List ℕ) (few : length roster ≤ 8) where
         )
 
     -- either way the state is that of each sender's own packets
-    pub fed-state : fedItem c x .collator ≡ stateOf roster (heardBy x past)
+    pub fed-state : fedFrame c x .collator ≡ stateOf roster (heardBy x past)
     fed-state = by (names roster (x .sender)) refl
       where
-        by : (t : Bool) → names roster (x .sender) ≡ t → fedItem c x .collator ≡ stateOf roster (heardBy x past)
+        by : (t : Bool) → names roster (x .sender) ≡ t → fedFrame c x .collator ≡ stateOf roster (heardBy x past)
         by true n = ap (λ (f : Fed). f .collator) (fed-listed n)
         by false n = ap (λ (f : Fed). f .collator) (fed-unlisted n .1)
 
   -- ---- frames fed in order
 
-  packets-on : (x : Item) (xs : List Item) (past : ℕ → List Packet) (s : ℕ) → packetsOf (ofSender s xs) (heardBy x past s) ≡ packetsOf (ofSender s (x ∷ xs)) (past s)
+  packets-on : (x : Content) (xs : List Content) (past : ℕ → List Packet) (s : ℕ) → packetsOf (ofSender s xs) (heardBy x past s) ≡ packetsOf (ofSender s (x ∷ xs)) (past s)
   unfolding packetsOf ofSender
   packets-on x xs past s = by (eqb (x .sender) s)
     where
@@ -155,7 +156,7 @@ module _ (roster : List ℕ) (few : length roster ≤ 8) where
       by false = refl
 
   -- the end state is one place for each listed sender, made of that sender's own packets
-  pub after-state : repeats roster ≡ false → (xs : List Item) (past : ℕ → List Packet) → after (stateOf roster past) xs ≡ stateOf roster (λ (s : ℕ). packetsOf (ofSender s xs) (past s))
+  pub after-state : repeats roster ≡ false → (xs : List Content) (past : ℕ → List Packet) → after (stateOf roster past) xs ≡ stateOf roster (λ (s : ℕ). packetsOf (ofSender s xs) (past s))
   unfolding after packetsOf ofSender
   after-state once [] past = refl
   after-state once (x ∷ xs) past =

@@ -6,7 +6,8 @@ use lib.Dec.{eqb}
 use lib.ListN.{getD, set, replicate}
 use Rattle.epochs.specs.Packet.{seatOf}
 use Rattle.epochs.specs.Collator.{rosterOf, made}
-use Rattle.epochs.specs.Epoch.{Item, fedItem, itemsOf}
+use Rattle.epochs.specs.Epoch.{fedFrame, contentsOf}
+use Rattle.frames.specs.Frame.{Content}
 use Rattle.epochs.specs.declared.judging.Seat.{Seat}
 use Rattle.epochs.specs.declared.judging.Seat.the-variants.{At, Nowhere}
 use Rattle.epochs.specs.declared.collating.Collator.{Collator}
@@ -29,16 +30,16 @@ counted c (Refused n) counts = counts
 counted c Taken counts = counts
 counted c (Epoch r) counts = oneMore counts (seatOf (rosterOf c) (r .sender) 0)
 
-abbrev pub fedInto : Collated → Item → Collated
+abbrev pub fedInto : Collated → Content → Collated
 fedInto t x =
-    let f = fedItem (t .collator) x in
+    let f = fedFrame (t .collator) x in
     record { number = t .number; collator = f .collator; reports = counted (t .collator) (f .happened) (t .reports) }
 
-unfoldable pub fedAll : Collated → List Item → Collated
+unfoldable pub fedAll : Collated → List Content → Collated
 fedAll t [] = t
 fedAll t (x ∷ xs) = fedAll (fedInto t x) xs
 
 -- a refused roster is fed nothing
 unfoldable pub collated : List ℕ → List ℕ → Collated
 unfolding fedAll made
-collated s roster = let m = made roster in cond (eqb (m .number) 0) (fedAll (begun m) (itemsOf s)) (begun m)
+collated s roster = let m = made roster in cond (eqb (m .number) 0) (fedAll (begun m) (contentsOf s)) (begun m)

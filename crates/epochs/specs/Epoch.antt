@@ -6,6 +6,7 @@ use mathlib.Core.Bool.{true, cond}
 use mathlib.Core.List.{List, [], _∷_, _++_, map}
 use lib.Dec.{eqb}
 use lib.ListN.{replicate}
+use Rattle.frames.specs.Frame.{Content}
 use Rattle.frames.specs.Step.{payloadIn}
 use Rattle.frames.specs.Reading.{closedSteps, framesOf}
 use Rattle.frames.specs.declared.step.Frame.{Frame}
@@ -51,13 +52,8 @@ pub record InWords (p : Packet) (past : List Packet) (total : ℕ) : Type 0 wher
 
 -- ---- frames, in the order in which they are fed
 
-pub record Item : Type 0 where
-  pub kind : ℕ
-  pub sender : ℕ
-  pub payload : List ℕ
-
 -- what a frame is by itself: as its own sender's collator judges it
-abbrev pub own : Item → Judged
+abbrev pub own : Content → Judged
 own x = judged (x .sender ∷ []) (x .kind) (x .sender) (x .payload)
 
 -- the packet of a well-formed frame comes to those before it
@@ -65,35 +61,35 @@ abbrev pub kept : Judged → List Packet → List Packet
 kept (J.Refused n) past = past
 kept (J.For i p) past = p ∷ past
 
-unfoldable pub packetsOf : List Item → List Packet → List Packet
+unfoldable pub packetsOf : List Content → List Packet → List Packet
 packetsOf [] past = past
 packetsOf (x ∷ xs) past = packetsOf xs (kept (own x) past)
 
-unfoldable pub ofSender : ℕ → List Item → List Item
+unfoldable pub ofSender : ℕ → List Content → List Content
 ofSender sender [] = []
 ofSender sender (x ∷ xs) = cond (eqb (x .sender) sender) (x ∷ ofSender sender xs) (ofSender sender xs)
 
 -- a sender's own well-formed packets, the latest first
-unfoldable pub historyOf : ℕ → List Item → List Packet
+unfoldable pub historyOf : ℕ → List Content → List Packet
 unfolding packetsOf ofSender
 historyOf sender xs = packetsOf (ofSender sender xs) []
 
-abbrev pub fedItem : Collator → Item → Fed
-fedItem c x = fed c (x .kind) (x .sender) (x .payload)
+abbrev pub fedFrame : Collator → Content → Fed
+fedFrame c x = fed c (x .kind) (x .sender) (x .payload)
 
 -- what feeding frames leaves, and what it reports
-unfoldable pub after : Collator → List Item → Collator
+unfoldable pub after : Collator → List Content → Collator
 after c [] = c
-after c (x ∷ xs) = after (fedItem c x .collator) xs
+after c (x ∷ xs) = after (fedFrame c x .collator) xs
 
 abbrev pub reportIn : Happened → List Report → List Report
 reportIn (H.Refused n) rs = rs
 reportIn H.Taken rs = rs
 reportIn (H.Epoch r) rs = r ∷ rs
 
-unfoldable pub reports : Collator → List Item → List Report
+unfoldable pub reports : Collator → List Content → List Report
 reports c [] = []
-reports c (x ∷ xs) = reportIn (fedItem c x .happened) (reports (fedItem c x .collator) xs)
+reports c (x ∷ xs) = reportIn (fedFrame c x .happened) (reports (fedFrame c x .collator) xs)
 
 unfoldable pub reportsOf : ℕ → List Report → List Report
 reportsOf sender [] = []
@@ -103,7 +99,7 @@ reportsOf sender (r ∷ rs) = cond (eqb (r .sender) sender) (r ∷ reportsOf sen
 
 -- the frame x, fed after xs, ends the epoch that e reports: its sender is listed, it is well-formed, and it is the last of an epoch of its
 -- sender's own packets
-pub record EndsEpoch (roster : List ℕ) (xs : List Item) (x : Item) (e : Report) : Type 0 where
+pub record EndsEpoch (roster : List ℕ) (xs : List Content) (x : Content) (e : Report) : Type 0 where
   pub packet : Packet
   pub total : ℕ
   pub listed : names roster (x .sender) ≡ true
@@ -112,12 +108,12 @@ pub record EndsEpoch (roster : List ℕ) (xs : List Item) (x : Item) (e : Report
   pub report : e ≡ reportOf (x .sender) packet total
 
 -- every listed sender sent the same frames in the same order
-abbrev pub SameFrames : List ℕ → List Item → List Item → Type 0
+abbrev pub SameFrames : List ℕ → List Content → List Content → Type 0
 SameFrames roster xs ys = (s : ℕ) → names roster s ≡ true → ofSender s xs ≡ ofSender s ys
 
 -- the frames of a capture, read closed
-abbrev pub itemIn : List ℕ → Frame → Item
-itemIn s f = record { kind = f .kind; sender = f .sender; payload = payloadIn s f }
+abbrev pub contentIn : List ℕ → Frame → Content
+contentIn s f = record { kind = f .kind; sender = f .sender; payload = payloadIn s f }
 
-unfoldable pub itemsOf : List ℕ → List Item
-itemsOf s = map (itemIn s) (framesOf (closedSteps s))
+unfoldable pub contentsOf : List ℕ → List Content
+contentsOf s = map (contentIn s) (framesOf (closedSteps s))

@@ -4,7 +4,7 @@ use mathlib.Core.Path.{_≡_}
 use mathlib.Core.Bool.{Bool, _&&_, not, cond}
 use mathlib.Core.List.{List, [], _∷_}
 use lib.Dec.{eqb, leb}
-use Rattle.wire.specs.Message.{Answer, given, refused}
+use Rattle.wire.specs.Refusals.{refused, given, Answer}
 use Rattle.observation.specs.Layout.{first}
 use Rattle.observation.specs.Obs.{readObs}
 use Rattle.observation.specs.declared.obs.Obs.{Obs}

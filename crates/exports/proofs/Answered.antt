@@ -37,5 +37,5 @@ module _ (fs : List Field) (n : ℕ) (v : Row fs) (buf : List ℕ) where
       by false e = refl
 
 -- from a position on it tells the first frame that is left of the reading there, and where the others are left; or that there is none
-pub next-left : (s : List ℕ) → length s < 2 ^ 64 → (at : ℕ) (growing : Bool) → at ≤ length s → Told growing s (framesOf (steps growing s at)) (nextOf s (startAt at growing))
-next-left s small at growing h = told s small growing (startAt at growing) refl h
+pub next-left : (s : List ℕ) → length s < 2 ^ 64 → (at : ℕ) (opened : Bool) → at ≤ length s → Told opened s (framesOf (steps opened s at)) (nextOf s (startAt at opened))
+next-left s small at opened h = told s small opened (startAt at opened) refl h

@@ -8,7 +8,7 @@ use lib.ListN.{length, getD, set, length-take}
 use borrow.Author.Tests.{le-leb, lt-leb}
 use Rattle.wire.specs.Number.{Bytes}
 use Rattle.wire.specs.Field.{decode}
-use Rattle.crc.specs.Table.{listed}
+use Rattle.crc.specs.Table.{tabulated}
 use Rattle.crc.proofs.Table.{listed-at}
 use Rattle.epochs.specs.Packet.{judged}
 use Rattle.epochs.specs.Collator.{idle, stepped, told, acted, rosterOf, fed}
@@ -70,7 +70,7 @@ module _ (s : List ℕ) (kind sender : ℕ) (payload report : List ℕ) where
 
 -- the place of a packet is one of the eight
 pub eight : (s : List ℕ) (kind sender : ℕ) (payload : List ℕ) {i : ℕ} {p : Packet} → judged (rosterOf (stateIn s)) kind sender payload ≡ J.For i p → i < 8
-unfolding listed
+unfolding tabulated
 eight s kind sender payload e = omega (arith, simp length-take at (judged-below (rosterOf (stateIn s)) kind sender payload e))
 
 -- ---- tied to the collator
@@ -100,7 +100,7 @@ module _ (s : List ℕ) (kind sender : ℕ) (payload report : List ℕ) (long : 
       by (J.For i p) e =
           let h : i < 8 = eight s kind sender payload e in
           let c = stateIn s in
-          let own : getD (listed (placeIn s) 8) i idle ≡ placeIn s i = listed-at (placeIn s) 8 i idle h in
+          let own : getD (tabulated (placeIn s) 8) i idle ≡ placeIn s i = listed-at (placeIn s) 8 i idle h in
           let same : stepped (placeIn s i) p ≡ stepped (getD (c .places) i idle) p = ap (λ (q : Place). stepped q p) (sym own) in
           record {
             state =

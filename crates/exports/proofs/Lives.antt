@@ -11,7 +11,8 @@ use Rattle.wire.specs.Field.{decode}
 use Rattle.wire.proofs.Fields.{length-row}
 use Rattle.epochs.specs.Packet.{judged, Verdict, otherKind, wrongLength, unlisted, noPackets, pastTheLast, wellFormed}
 use Rattle.epochs.specs.Collator.{idle, stepped, told, acted, rosterOf, fed, made}
-use Rattle.epochs.specs.Epoch.{Item, fedItem, after, EndsEpoch}
+use Rattle.epochs.specs.Epoch.{fedFrame, after, EndsEpoch}
+use Rattle.frames.specs.Frame.{Content}
 use Rattle.epochs.specs.declared.judging.Packet.{Packet}
 use Rattle.epochs.specs.declared.judging.Judged.{Judged}
 use Rattle.epochs.specs.declared.judging.Judged.the-variants as J
@@ -51,11 +52,11 @@ module _ (s : List ℕ) (kind sender : ℕ) (payload report : List ℕ) (long : 
 
 -- ---- frames one after the other
 
-abbrev pub AllBytes : List Item → Type 0
+abbrev pub AllBytes : List Content → Type 0
 AllBytes [] = Unit {0}
 AllBytes (x ∷ xs) = Bytes (x .payload) × AllBytes xs
 
-pub feeds-all : (xs : List Item) (s report : List ℕ) → 105 ≤ length s → 11 ≤ length report → AllBytes xs
+pub feeds-all : (xs : List Content) (s report : List ℕ) → 105 ≤ length s → 11 ≤ length report → AllBytes xs
     → (stateIn (afterIn s report xs) ≡ after (stateIn s) xs) × (105 ≤ length (afterIn s report xs))
 unfolding afterIn after
 feeds-all [] s report long room bytes = (refl, long)
@@ -99,7 +100,7 @@ one-told c kind sender payload = by (judged (rosterOf c) kind sender payload) re
 -- ---- from the making on
 
 module _ (roster : List ℕ) (ok : made roster .number ≡ 0) (senders : (i : ℕ) → getD roster i 0 < 65536)
-    (s report : List ℕ) (long : 105 ≤ length s) (room : 11 ≤ length report) (xs : List Item) (bytes : AllBytes xs) where
+    (s report : List ℕ) (long : 105 ≤ length s) (room : 11 ≤ length report) (xs : List Content) (bytes : AllBytes xs) where
   led : (stateIn (afterIn (madeStored roster s) report xs) ≡ after (stateIn (madeStored roster s)) xs) × (105 ≤ length (afterIn (madeStored roster s) report xs))
   led = feeds-all xs (madeStored roster s) report (omega (arith, length-made roster s)) room bytes
 
@@ -107,12 +108,12 @@ module _ (roster : List ℕ) (ok : made roster .number ≡ 0) (senders : (i : �
   pub stands : stateIn (afterIn (madeStored roster s) report xs) ≡ after (made roster .collator) xs
   stands = led .0 ∙ ap (λ (c : Collator). after c xs) (makes roster s ok senders long)
 
-  module _ (x : Item) (byte : Bytes (x .payload)) (lent : List ℕ) (enough : 11 ≤ length lent) where
+  module _ (x : Content) (byte : Bytes (x .payload)) (lent : List ℕ) (enough : 11 ≤ length lent) where
     -- and what comes out of one frame more is what comes out of that collator
-    pub comes-out : Tied (fedIn (afterIn (madeStored roster s) report xs) (x .kind) (x .sender) (x .payload) lent) (fedItem (after (made roster .collator) xs) x) lent
+    pub comes-out : Tied (fedIn (afterIn (madeStored roster s) report xs) (x .kind) (x .sender) (x .payload) lent) (fedFrame (after (made roster .collator) xs) x) lent
     comes-out =
         let t = afterIn (madeStored roster s) report xs in
-        subst (λ (c : Collator). Tied (fedIn t (x .kind) (x .sender) (x .payload) lent) (fedItem c x) lent) stands
+        subst (λ (c : Collator). Tied (fedIn t (x .kind) (x .sender) (x .payload) lent) (fedFrame c x) lent) stands
         (feeds t (x .kind) (x .sender) (x .payload) lent (led .1) enough byte)
 
     -- 1 is answered exactly where the frame ends an epoch
@@ -132,4 +133,4 @@ module _ (roster : List ℕ) (ok : made roster .number ≡ 0) (senders : (i : �
         → decode reportFields (fedIn (afterIn (madeStored roster s) report xs) (x .kind) (x .sender) (x .payload) lent .report) 0 ≡ reportRow e
     epoch-row {e} h w =
         report-back (afterIn (madeStored roster s) report xs) (x .kind) (x .sender) (x .payload) lent (led .1) enough byte h
-        (ap (λ (c : Collator). fedItem c x .happened) stands ∙ epoch-told roster ok xs x e .1 w)
+        (ap (λ (c : Collator). fedFrame c x .happened) stands ∙ epoch-told roster ok xs x e .1 w)

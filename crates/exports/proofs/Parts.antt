@@ -7,7 +7,7 @@ use native.Mathlib.Omega.{arith}
 use lib.ListN.{length, take, drop, set}
 use lib.Seq.{sets, sets-eq, drop-drop, take-take, take-at, drop-at, length-take-le, take-set-le, drop-set-lt}
 use Rattle.wire.specs.Number.{little, numberAt}
-use Rattle.wire.specs.Field.{Field, kindOf, width, valueOf, Row, HeldRow, SettledRow, size, encode, decode, rowStored}
+use Rattle.wire.specs.Field.{Field, formatOf, width, valueOf, Row, HeldRow, SettledRow, size, encode, decode, rowStored}
 use Rattle.wire.proofs.Fields.{again-settled, length-encode, decode-encode, row-sets}
 use Rattle.exports.specs.Rows.{atFront}
 
@@ -30,11 +30,11 @@ number-part w s at n k h = ap little (take-inner k w n (drop at s) h ∙ ap (tak
 decode-part : (fs : List Field) (s : List ℕ) (at n k : ℕ) → k + size fs ≤ n → decode fs (part at n s) k ≡ decode fs s (at + k)
 decode-part [] s at n k h = refl
 decode-part (f ∷ fs) s at n k h =
-    let w = width (kindOf f) in
+    let w = width (formatOf f) in
     let first : numberAt w (part at n s) k ≡ numberAt w s (at + k) = number-part w s at n k (omega arith) in
     let on : at + (k + w) ≡ at + k + w = omega arith in
     let rest : decode fs (part at n s) (k + w) ≡ decode fs s (at + k + w) = decode-part fs s at n (k + w) (omega arith) ∙ ap (decode fs s) on in
-    λ i. (valueOf (kindOf f) (first i), rest i)
+    λ i. (valueOf (formatOf f) (first i), rest i)
 
 decode-own : (fs : List Field) (s : List ℕ) (at : ℕ) → decode fs (part at (size fs) s) 0 ≡ decode fs s at
 decode-own fs s at = decode-part fs s at (size fs) 0 (omega arith) ∙ ap (decode fs s) (add-zero at)

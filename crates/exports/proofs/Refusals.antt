@@ -7,7 +7,7 @@ use native.Mathlib.Omega.{arith}
 use lib.Dec.{eqb, leb}
 use lib.ListN.{length}
 use Rattle.wire.specs.Field.{size}
-use Rattle.wire.specs.Message.{Answer, refused}
+use Rattle.wire.specs.Refusals.{refused, Answer}
 use Rattle.frames.specs.Cursors.{nextOf}
 use Rattle.frames.specs.declared.cursor.Next as Next
 use Rattle.payloads.specs.Table.{numberOf}
@@ -32,8 +32,8 @@ never-32 (Next.the-variants.Frame f c) e = absurd (omega (arith, e))
 never-32 (Next.the-variants.End c) e = absurd (omega (arith, e))
 never-32 (Next.the-variants.Needs n c) e = absurd (omega (arith, e))
 
-pub next-keeps : (s : List ℕ) (at : ℕ) (growing : Bool) (buf : List ℕ) → nextAnswer s at growing (length buf) ≡ 32 → nextStored s at growing buf ≡ buf
-next-keeps s at growing buf = row-keeps foundFields _ _ buf (never-32 (nextOf s (startAt at growing)))
+pub next-keeps : (s : List ℕ) (at : ℕ) (opened : Bool) (buf : List ℕ) → nextAnswer s at opened (length buf) ≡ 32 → nextStored s at opened buf ≡ buf
+next-keeps s at opened buf = row-keeps foundFields _ _ buf (never-32 (nextOf s (startAt at opened)))
 
 pub totals-keeps : (s buf : List ℕ) → totalsAnswer (length buf) ≡ 32 → totalsStored s buf ≡ buf
 totals-keeps s buf = row-keeps countsFields 0 _ buf (λ e. absurd (omega (arith, e)))

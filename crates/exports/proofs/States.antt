@@ -10,7 +10,7 @@ use borrow.Author.Tests.{ltb-true, ltb-false}
 use Rattle.wire.specs.Number.{numberAt}
 use Rattle.wire.specs.Field.{any, u8, u16, HeldRow, SettledRow, rowStored, Row}
 use Rattle.wire.proofs.Fields.{length-row}
-use Rattle.crc.specs.Table.{listed}
+use Rattle.crc.specs.Table.{tabulated}
 use Rattle.epochs.specs.Collator.{idle, stepped}
 use Rattle.epochs.specs.declared.judging.Packet.{Packet}
 use Rattle.epochs.specs.declared.placing.Part.{Part}
@@ -103,8 +103,8 @@ module _ (s : List ℕ) (long : 105 ≤ length s) (i : ℕ) (h : i < 8) (place :
   pub state-place : Small place
       → stateIn (placeStored s i place) ≡ record { places = set (stateIn s .places) i place; roster = stateIn s .roster; count = stateIn s .count }
   state-place small =
-      let places : listed (placeIn (placeStored s i place)) 8 ≡ set (listed (placeIn s) 8) i place
-      = listed-set (placeIn s) (placeIn (placeStored s i place)) 8 i h (λ k b. other-place k) ∙ ap (set (listed (placeIn s) 8) i) (own-place small) in
+      let places : tabulated (placeIn (placeStored s i place)) 8 ≡ set (tabulated (placeIn s) 8) i place
+      = listed-set (placeIn s) (placeIn (placeStored s i place)) 8 i h (λ k b. other-place k) ∙ ap (set (tabulated (placeIn s) 8) i) (own-place small) in
       λ k. record { places = places k; roster = same-seats k; count = same-count k }
 
 -- ---- a whole collator stored
@@ -161,8 +161,8 @@ module _ (c : Collator) (h : Held c) (s : List ℕ) (long : 105 ≤ length s) wh
   state-stored =
       let t = collatorStored c s in
       let seat : ℕ → ℕ = λ j. numberAt 2 t (1 + j * 2) in
-      let seats : listed seat 8 ≡ c .roster
-      = ap (listed seat) (sym (h .seats)) ∙ listed-all seat (c .roster) 0 (λ j b. seat-back j (omega (arith, h .seats))) in
-      let places : listed (placeIn t) 8 ≡ c .places
-      = ap (listed (placeIn t)) (sym (h .eight)) ∙ listed-all (placeIn t) (c .places) idle (λ j b. place-back j (omega (arith, h .eight))) in
+      let seats : tabulated seat 8 ≡ c .roster
+      = ap (tabulated seat) (sym (h .seats)) ∙ listed-all seat (c .roster) 0 (λ j b. seat-back j (omega (arith, h .seats))) in
+      let places : tabulated (placeIn t) 8 ≡ c .places
+      = ap (tabulated (placeIn t)) (sym (h .eight)) ∙ listed-all (placeIn t) (c .places) idle (λ j b. place-back j (omega (arith, h .eight))) in
       λ k. record { places = places k; roster = seats k; count = count-back k }

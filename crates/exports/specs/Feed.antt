@@ -7,7 +7,7 @@ use lib.ListN.{length}
 use Rattle.wire.specs.Field.{Field, any, u8, u16, u32, Row, size}
 use Rattle.epochs.specs.Packet.{judged}
 use Rattle.epochs.specs.Collator.{stepped, told, rosterOf, made}
-use Rattle.epochs.specs.Epoch.{Item}
+use Rattle.frames.specs.Frame.{Content}
 use Rattle.epochs.specs.declared.judging.Packet.{Packet}
 use Rattle.epochs.specs.declared.judging.Judged.{Judged}
 use Rattle.epochs.specs.declared.judging.Judged.the-variants as J
@@ -84,7 +84,7 @@ fedIn state kind sender payload report =
     (untouched state report)
 
 -- frames fed one after the other
-unfoldable pub afterIn : List ℕ → List ℕ → List Item → List ℕ
+unfoldable pub afterIn : List ℕ → List ℕ → List Content → List ℕ
 unfolding fedIn
 afterIn state report [] = state
 afterIn state report (x ∷ xs) =

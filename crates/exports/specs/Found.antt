@@ -18,7 +18,7 @@ foundRow f = (f .at, (f .next, (f .needed, (f .junk, (f .bad, (f .short, (f .kin
 
 -- a reading that begins at a position, having passed over nothing
 abbrev pub startAt : ℕ → Bool → Cursor
-startAt at growing = record { at = at; growing = growing; framed = 0; junk = 0; bad = 0; short = 0 }
+startAt at opened = record { at = at; opened = opened; framed = 0; junk = 0; bad = 0; short = 0 }
 
 -- no frame: the reading stands at the cursor, and needs so many bytes from there
 abbrev pub nothingAt : Cursor → ℕ → Found
@@ -39,7 +39,7 @@ numberIn (Next.the-variants.Needs n c) = 2
 
 -- the answer, 32 where the row has no room, and the buffer after it
 abbrev pub nextAnswer : List ℕ → ℕ → Bool → ℕ → ℕ
-nextAnswer s at growing room = rowAnswer foundFields (numberIn (nextOf s (startAt at growing))) room
+nextAnswer s at opened room = rowAnswer foundFields (numberIn (nextOf s (startAt at opened))) room
 
 abbrev pub nextStored : List ℕ → ℕ → Bool → List ℕ → List ℕ
-nextStored s at growing buf = rowLaid foundFields (foundRow (foundIn (nextOf s (startAt at growing)))) buf
+nextStored s at opened buf = rowLaid foundFields (foundRow (foundIn (nextOf s (startAt at opened)))) buf

@@ -1,4 +1,4 @@
--- A collator in 105 bytes: how many senders are listed, the eight seats of the roster, the eight places. Assumes nothing.
+-- A collator in 105 bytes: how many senders are tabulated, the eight seats of the roster, the eight places. Assumes nothing.
 use Prim.Native.Nat.{ℕ, _+_, _*_}
 use mathlib.Core.Bool.{cond}
 use mathlib.Core.List.{List, [], _∷_}
@@ -6,7 +6,7 @@ use lib.Dec.{eqb}
 use lib.ListN.{getD}
 use Rattle.wire.specs.Number.{numberAt}
 use Rattle.wire.specs.Field.{Field, any, u8, u16, u32, Row, decode, rowStored}
-use Rattle.crc.specs.Table.{listed}
+use Rattle.crc.specs.Table.{tabulated}
 use Rattle.epochs.specs.Collator.{idle}
 use Rattle.epochs.specs.declared.placing.Run.{Run}
 use Rattle.epochs.specs.declared.placing.Run.the-variants.{Idle, Open}
@@ -56,16 +56,16 @@ placeIn s i = placeOf (slotIn s i)
 abbrev pub placeStored : List ℕ → ℕ → Place → List ℕ
 placeStored s i place = slotStored s i (slotOf place)
 
--- ---- what the bytes stand for; `listed f 8` is f at 0, 1, .. 7
+-- ---- what the bytes stand for; `tabulated f 8` is f at 0, 1, .. 7
 
 abbrev pub countIn : List ℕ → ℕ
 countIn s = numberAt 1 s 0
 
 abbrev pub seatsIn : List ℕ → List ℕ
-seatsIn s = listed (λ i. numberAt 2 s (1 + i * 2)) 8
+seatsIn s = tabulated (λ i. numberAt 2 s (1 + i * 2)) 8
 
 abbrev pub stateIn : List ℕ → Collator
-stateIn s = record { places = listed (placeIn s) 8; roster = seatsIn s; count = countIn s }
+stateIn s = record { places = tabulated (placeIn s) 8; roster = seatsIn s; count = countIn s }
 
 -- ---- a collator stored
 

@@ -82,18 +82,18 @@ fn put_found(buf: &mut [u8], f: Found)
     wire::store_u8(buf, 52, f.length);
 }
 
-// The next frame from a position on, closed or (growing) open: 0, 1 or 2, and its row at found[0..53]; 32 where that has no room.
+// The next frame from a position on, closed or (opened) open: 0, 1 or 2, and its row at found[0..53]; 32 where that has no room.
 #[no_mangle]
-pub extern "C" fn sbp_next(capture: &[u8], at: usize, growing: bool, found: &mut [u8]) -> u8
-    ensures { λ r. ⌜ r ≡ nextAnswer (now (capture .entry)) at growing (length (now (found .entry))) ⌝ }
-    ensures { λ _. ⌜ now (found .exit) ≡ nextStored (now (capture .entry)) at growing (now (found .entry)) ⌝ }
+pub extern "C" fn sbp_next(capture: &[u8], at: usize, opened: bool, found: &mut [u8]) -> u8
+    ensures { λ r. ⌜ r ≡ nextAnswer (now (capture .entry)) at opened (length (now (found .entry))) ⌝ }
+    ensures { λ _. ⌜ now (found .exit) ≡ nextStored (now (capture .entry)) at opened (now (found .entry)) ⌝ }
 {
     if found.len() < 53 {
         return 32;
     }
     let start = Cursor {
         at,
-        growing,
+        opened,
         framed: 0,
         junk: 0,
         bad: 0,

@@ -23,16 +23,16 @@ abbrev pub here : List ℕ → Cursor → Step
 here s c = stepAt s (c .at)
 
 -- how a reading comes to an answer: past the steps that it passes over, to one that it does not
-pub data Answered (growing : Bool) (s : List ℕ) : Cursor → Next.Next → Type 0 where
-  pass : {c : Cursor} {n : Next.Next} → passes growing (here s c) ≡ true → Answered growing s (over c (here s c)) n → Answered growing s c n
-  end : {c : Cursor} → passes growing (here s c) ≡ false → Answered growing s c (ended c (here s c))
+pub data Answered (opened : Bool) (s : List ℕ) : Cursor → Next.Next → Type 0 where
+  pass : {c : Cursor} {n : Next.Next} → passes opened (here s c) ≡ true → Answered opened s (over c (here s c)) n → Answered opened s c n
+  end : {c : Cursor} → passes opened (here s c) ≡ false → Answered opened s c (ended c (here s c))
 
 -- a cursor that stands in the capture; its counts are those of the bytes behind it, and with those of the steps left they make the reading's
-pub record Honest (growing : Bool) (s : List ℕ) (c : Cursor) : Type 0 where
-  pub mode : c .growing ≡ growing
+pub record Honest (opened : Bool) (s : List ℕ) (c : Cursor) : Type 0 where
+  pub mode : c .opened ≡ opened
   pub inside : c .at ≤ length s
   pub every : sumOf (countsIn c) ≡ c .at
-  pub whole : added (countsIn c) (countsOf (steps growing s (c .at))) ≡ countsOf (steps growing s 0)
+  pub whole : added (countsIn c) (countsOf (steps opened s (c .at))) ≡ countsOf (steps opened s 0)
 
 -- ---- past a step
 
@@ -51,13 +51,13 @@ over-counts c x h =
       plain (c .short) (k .short) (omega arith),
     )
 
-pub passed-on : (growing : Bool) (x : Step) → passes growing x ≡ true → stops growing x ≡ false
-passed-on growing Finished e = absurd (false≢true e)
-passed-on growing Junk e = refl
+pub passed-on : (opened : Bool) (x : Step) → passes opened x ≡ true → stops opened x ≡ false
+passed-on opened Finished e = absurd (false≢true e)
+passed-on opened Junk e = refl
 passed-on true (Short n) e = absurd (false≢true e)
 passed-on false (Short n) e = refl
-passed-on growing Bad e = refl
-passed-on growing (Found f) e = refl
+passed-on opened Bad e = refl
+passed-on opened (Found f) e = refl
 
 -- ---- counts
 
@@ -80,103 +80,103 @@ added-none c = λ i. record { framed = add-zero (c .framed) i; junk = add-zero (
 module _ (s : List ℕ) (small : length s < 2 ^ 64) where
   -- ---- the cursor past the step where it stands
 
-  pub over-ends : (growing : Bool) (c : Cursor) → stops growing (here s c) ≡ false → over c (here s c) .at ≡ ends s (c .at)
-  over-ends growing c e = plain (c .at) (passed (here s c)) (omega (arith, goes-on growing s (c .at) e))
+  pub over-ends : (opened : Bool) (c : Cursor) → stops opened (here s c) ≡ false → over c (here s c) .at ≡ ends s (c .at)
+  over-ends opened c e = plain (c .at) (passed (here s c)) (omega (arith, goes-on opened s (c .at) e))
 
   -- it comes further, and stays within the capture
-  pub over-further : (growing : Bool) (c : Cursor) → stops growing (here s c) ≡ false → (c .at < over c (here s c) .at) × (over c (here s c) .at ≤ length s)
-  over-further growing c e = rw (over-ends growing c e) (goes-on growing s (c .at) e)
+  pub over-further : (opened : Bool) (c : Cursor) → stops opened (here s c) ≡ false → (c .at < over c (here s c) .at) × (over c (here s c) .at ≤ length s)
+  over-further opened c e = rw (over-ends opened c e) (goes-on opened s (c .at) e)
 
   -- ---- the two laws of the loop of `next`
 
-  next-is : (c : Cursor) → nextOf s c ≡ answer s c (steps (c .growing) s (c .at))
+  next-is : (c : Cursor) → nextOf s c ≡ answer s c (steps (c .opened) s (c .at))
   unfolding nextOf
   next-is c = refl
 
   -- a step that is passed over leaves the answer as it is
-  pub next-over : (c : Cursor) → passes (c .growing) (here s c) ≡ true → nextOf s c ≡ nextOf s (over c (here s c))
+  pub next-over : (c : Cursor) → passes (c .opened) (here s c) ≡ true → nextOf s c ≡ nextOf s (over c (here s c))
   unfolding answer
   next-over c e =
-      let on = passed-on (c .growing) (here s c) e in
+      let on = passed-on (c .opened) (here s c) e in
       next-is c
-      ∙ ap (answer s c) (steps-go (c .growing) s (c .at) on)
-      ∙ rw e (ap (λ (p : ℕ). answer s (over c (here s c)) (steps (c .growing) s p)) (sym (over-ends (c .growing) c on)))
+      ∙ ap (answer s c) (steps-go (c .opened) s (c .at) on)
+      ∙ rw e (ap (λ (p : ℕ). answer s (over c (here s c)) (steps (c .opened) s p)) (sym (over-ends (c .opened) c on)))
       ∙ sym (next-is (over c (here s c)))
 
   -- at any other the reading to the next frame ends
-  next-ended : (c : Cursor) → passes (c .growing) (here s c) ≡ false → nextOf s c ≡ ended c (here s c)
+  next-ended : (c : Cursor) → passes (c .opened) (here s c) ≡ false → nextOf s c ≡ ended c (here s c)
   unfolding answer
-  next-ended c e = next-is c ∙ by (stops (c .growing) (here s c)) refl
+  next-ended c e = next-is c ∙ by (stops (c .opened) (here s c)) refl
     where
-      by : (t : Bool) → stops (c .growing) (here s c) ≡ t → answer s c (steps (c .growing) s (c .at)) ≡ ended c (here s c)
-      by true h = ap (answer s c) (steps-stop (c .growing) s (c .at) h)
-      by false h = ap (answer s c) (steps-go (c .growing) s (c .at) h) ∙ rw e
+      by : (t : Bool) → stops (c .opened) (here s c) ≡ t → answer s c (steps (c .opened) s (c .at)) ≡ ended c (here s c)
+      by true h = ap (answer s c) (steps-stop (c .opened) s (c .at) h)
+      by false h = ap (answer s c) (steps-go (c .opened) s (c .at) h) ∙ rw e
 
   -- and by these two every answer comes about
-  turn : (c : Cursor) → (c .at < over c (here s c) .at → over c (here s c) .at ≤ length s → Answered (c .growing) s (over c (here s c)) (nextOf s (over c (here s c)))) → Answered (c .growing) s c (nextOf s c)
-  turn c rest = by (passes (c .growing) (here s c)) refl
+  turn : (c : Cursor) → (c .at < over c (here s c) .at → over c (here s c) .at ≤ length s → Answered (c .opened) s (over c (here s c)) (nextOf s (over c (here s c)))) → Answered (c .opened) s c (nextOf s c)
+  turn c rest = by (passes (c .opened) (here s c)) refl
     where
-      by : (t : Bool) → passes (c .growing) (here s c) ≡ t → Answered (c .growing) s c (nextOf s c)
+      by : (t : Bool) → passes (c .opened) (here s c) ≡ t → Answered (c .opened) s c (nextOf s c)
       by true e =
-          let further = over-further (c .growing) c (passed-on (c .growing) (here s c) e) in
-          subst⁻¹ (Answered (c .growing) s c) (next-over c e) (pass e (rest (further .0) (further .1)))
-      by false e = subst⁻¹ (Answered (c .growing) s c) (next-ended c e) (end e)
+          let further = over-further (c .opened) c (passed-on (c .opened) (here s c) e) in
+          subst⁻¹ (Answered (c .opened) s c) (next-over c e) (pass e (rest (further .0) (further .1)))
+      by false e = subst⁻¹ (Answered (c .opened) s c) (next-ended c e) (end e)
 
   -- where no more than n bytes are left
-  answered-within : (n : ℕ) (c : Cursor) → length s ≤ c .at + n → Answered (c .growing) s c (nextOf s c)
+  answered-within : (n : ℕ) (c : Cursor) → length s ≤ c .at + n → Answered (c .opened) s c (nextOf s c)
   answered-within zero c h = turn c (λ further within. absurd (omega arith))
   answered-within (suc n) c h = turn c (λ further within. answered-within n (over c (here s c)) (omega arith))
 
-  pub answered : (growing : Bool) (c : Cursor) → c .growing ≡ growing → Answered growing s c (nextOf s c)
-  answered growing c m = subst (λ (g : Bool). Answered g s c (nextOf s c)) m (answered-within (length s) c (omega arith))
+  pub answered : (opened : Bool) (c : Cursor) → c .opened ≡ opened → Answered opened s c (nextOf s c)
+  answered opened c m = subst (λ (g : Bool). Answered g s c (nextOf s c)) m (answered-within (length s) c (omega arith))
 
   -- what a loop keeps that goes on by calls: x is the step at c, and d the cursor past it
   module _ (c : Cursor) {x : Step} (step : x ≡ here s c) where
-    pub next-given : {n : Next.Next} → passes (c .growing) x ≡ false → n ≡ ended c x → n ≡ nextOf s c
-    next-given e given = given ∙ ap (ended c) step ∙ sym (next-ended c (ap (passes (c .growing)) (sym step) ∙ e))
+    pub next-given : {n : Next.Next} → passes (c .opened) x ≡ false → n ≡ ended c x → n ≡ nextOf s c
+    next-given e given = given ∙ ap (ended c) step ∙ sym (next-ended c (ap (passes (c .opened)) (sym step) ∙ e))
 
     module _ {d : Cursor} (past : d ≡ over c x) where
       past-here : d ≡ over c (here s c)
       past-here = past ∙ ap (over c) step
 
-      pub next-kept : passes (c .growing) x ≡ true → nextOf s d ≡ nextOf s c
-      next-kept e = ap (nextOf s) past-here ∙ sym (next-over c (ap (passes (c .growing)) (sym step) ∙ e))
+      pub next-kept : passes (c .opened) x ≡ true → nextOf s d ≡ nextOf s c
+      next-kept e = ap (nextOf s) past-here ∙ sym (next-over c (ap (passes (c .opened)) (sym step) ∙ e))
 
-      pub comes-further : (growing : Bool) → stops growing x ≡ false → (c .at < d .at) × (d .at ≤ length s)
-      comes-further growing e =
-          subst⁻¹ (λ (k : Cursor). (c .at < k .at) × (k .at ≤ length s)) past-here (over-further growing c (ap (stops growing) (sym step) ∙ e))
+      pub comes-further : (opened : Bool) → stops opened x ≡ false → (c .at < d .at) × (d .at ≤ length s)
+      comes-further opened e =
+          subst⁻¹ (λ (k : Cursor). (c .at < k .at) × (k .at ≤ length s)) past-here (over-further opened c (ap (stops opened) (sym step) ∙ e))
 
-  module _ (growing : Bool) where
+  module _ (opened : Bool) where
     -- ---- the counts of a cursor
 
-    pub honest-begun : Honest growing s (begun growing)
+    pub honest-begun : Honest opened s (begun opened)
     unfolding countsOf
-    honest-begun = record { mode = refl; inside = omega arith; every = refl; whole = none-added (countsOf (steps growing s 0)) }
+    honest-begun = record { mode = refl; inside = omega arith; every = refl; whole = none-added (countsOf (steps opened s 0)) }
 
-    pub honest-over : (c : Cursor) → Honest growing s c → stops growing (here s c) ≡ false → Honest growing s (over c (here s c))
+    pub honest-over : (c : Cursor) → Honest opened s c → stops opened (here s c) ≡ false → Honest opened s (over c (here s c))
     unfolding countsOf
     honest-over c h e =
-        let counts : countsIn (over c (here s c)) ≡ added (countsIn c) (counted (here s c)) = over-counts c (here s c) (omega (arith, goes-on growing s (c .at) e, h .every)) in
+        let counts : countsIn (over c (here s c)) ≡ added (countsIn c) (counted (here s c)) = over-counts c (here s c) (omega (arith, goes-on opened s (c .at) e, h .every)) in
         record {
           mode = h .mode;
-          inside = over-further growing c e .1;
-          every = ap sumOf counts ∙ omega (arith, added-sum (countsIn c) (counted (here s c)), counted-sum (here s c), h .every, over-ends growing c e);
+          inside = over-further opened c e .1;
+          every = ap sumOf counts ∙ omega (arith, added-sum (countsIn c) (counted (here s c)), counted-sum (here s c), h .every, over-ends opened c e);
           whole =
-              ap₂ (λ (k : Counts) (p : ℕ). added k (countsOf (steps growing s p))) counts (over-ends growing c e)
-              ∙ added-assoc (countsIn c) (counted (here s c)) (countsOf (steps growing s (ends s (c .at))))
-              ∙ ap (λ (xs : List Placed). added (countsIn c) (countsOf xs)) (sym (steps-go growing s (c .at) e))
+              ap₂ (λ (k : Counts) (p : ℕ). added k (countsOf (steps opened s p))) counts (over-ends opened c e)
+              ∙ added-assoc (countsIn c) (counted (here s c)) (countsOf (steps opened s (ends s (c .at))))
+              ∙ ap (λ (xs : List Placed). added (countsIn c) (countsOf xs)) (sym (steps-go opened s (c .at) e))
               ∙ h .whole;
         }
 
     -- where the reading stops they are those of the whole reading
-    pub honest-counts : (c : Cursor) → Honest growing s c → stops growing (here s c) ≡ true → countsIn c ≡ countsOf (steps growing s 0)
+    pub honest-counts : (c : Cursor) → Honest opened s c → stops opened (here s c) ≡ true → countsIn c ≡ countsOf (steps opened s 0)
     honest-counts c h e =
-        sym (added-none (countsIn c)) ∙ ap (λ (xs : List Placed). added (countsIn c) (countsOf xs)) (sym (steps-stop growing s (c .at) e)) ∙ h .whole
+        sym (added-none (countsIn c)) ∙ ap (λ (xs : List Placed). added (countsIn c) (countsOf xs)) (sym (steps-stop opened s (c .at) e)) ∙ h .whole
 
     -- the same by calls
-    module _ (c : Cursor) (h : Honest growing s c) {x : Step} (step : x ≡ here s c) where
-      pub honest-past : {d : Cursor} → d ≡ over c x → stops growing x ≡ false → Honest growing s d
-      honest-past past e = subst⁻¹ (Honest growing s) (past-here c step past) (honest-over c h (ap (stops growing) (sym step) ∙ e))
+    module _ (c : Cursor) (h : Honest opened s c) {x : Step} (step : x ≡ here s c) where
+      pub honest-past : {d : Cursor} → d ≡ over c x → stops opened x ≡ false → Honest opened s d
+      honest-past past e = subst⁻¹ (Honest opened s) (past-here c step past) (honest-over c h (ap (stops opened) (sym step) ∙ e))
 
-      pub honest-given : {k : Counts} → k ≡ countsIn c → stops growing x ≡ true → k ≡ countsOf (steps growing s 0)
-      honest-given given e = given ∙ honest-counts c h (ap (stops growing) (sym step) ∙ e)
+      pub honest-given : {k : Counts} → k ≡ countsIn c → stops opened x ≡ true → k ≡ countsOf (steps opened s 0)
+      honest-given given e = given ∙ honest-counts c h (ap (stops opened) (sym step) ∙ e)

@@ -10,4 +10,4 @@ pub mod WrittenPlan
 pub mod Written
 pub mod WrittenRead
 pub mod WrittenStream
-pub mod Messages
+pub mod Promised

@@ -14,16 +14,16 @@ use Rattle.frames.specs.declared.step.Step.{Step}
 use Rattle.frames.specs.declared.step.Step.the-variants.{Finished, Junk, Short, Bad, Found}
 use Rattle.frames.proofs.Steps.{within}
 
-module _ (growing : Bool) where
+module _ (opened : Bool) where
   -- skipping k bytes is reading from k further on
-  skipped : (k p : ℕ) (t : List ℕ) → readFrom growing k p t ≡ readFrom growing 0 (p + k) (drop k t)
+  skipped : (k p : ℕ) (t : List ℕ) → readFrom opened k p t ≡ readFrom opened 0 (p + k) (drop k t)
   unfolding readFrom
   skipped zero p t = rw add-zero
   skipped (suc k) p [] = refl
   skipped (suc k) p (b ∷ t) = skipped k (suc p) t ∙ rw (suc-add, add-suc)
 
   -- a step that a reading goes on by passes some bytes
-  passes-some : (x : Step) → stops growing x ≡ false → 0 < passed x
+  passes-some : (x : Step) → stops opened x ≡ false → 0 < passed x
   passes-some Finished e = absurd (true≢false e)
   passes-some Junk e = omega arith
   passes-some (Short n) e = omega arith
@@ -31,34 +31,34 @@ module _ (growing : Bool) where
   passes-some (Found f) e = omega arith
 
   first : (p b : ℕ) (t : List ℕ)
-      → readFrom growing 0 p (b ∷ t)
-      ≡ cond (stops growing (stepOf p (b ∷ t))) [] (record { at = p; step = stepOf p (b ∷ t) } ∷ readFrom growing (pred (passed (stepOf p (b ∷ t)))) (suc p) t)
+      → readFrom opened 0 p (b ∷ t)
+      ≡ cond (stops opened (stepOf p (b ∷ t))) [] (record { at = p; step = stepOf p (b ∷ t) } ∷ readFrom opened (pred (passed (stepOf p (b ∷ t)))) (suc p) t)
   unfolding readFrom
   first p b t = refl
 
-  past-first : (n p b : ℕ) (t : List ℕ) → 0 < n → readFrom growing (pred n) (suc p) t ≡ readFrom growing 0 (p + n) (drop n (b ∷ t))
+  past-first : (n p b : ℕ) (t : List ℕ) → 0 < n → readFrom opened (pred n) (suc p) t ≡ readFrom opened 0 (p + n) (drop n (b ∷ t))
   past-first zero p b t h = absurd (not-suc-le-zero h)
   past-first (suc n) p b t h = skipped n (suc p) t ∙ rw (suc-add, add-suc)
 
-  stop-at : (p : ℕ) (t : List ℕ) → stops growing (stepOf p t) ≡ true → readFrom growing 0 p t ≡ []
+  stop-at : (p : ℕ) (t : List ℕ) → stops opened (stepOf p t) ≡ true → readFrom opened 0 p t ≡ []
   unfolding readFrom
   stop-at p [] e = refl
   stop-at p (b ∷ t) e = first p b t ∙ rw e
 
-  pub go-at : (p : ℕ) (t : List ℕ) → stops growing (stepOf p t) ≡ false
-      → readFrom growing 0 p t ≡ record { at = p; step = stepOf p t } ∷ readFrom growing 0 (p + passed (stepOf p t)) (drop (passed (stepOf p t)) t)
+  pub go-at : (p : ℕ) (t : List ℕ) → stops opened (stepOf p t) ≡ false
+      → readFrom opened 0 p t ≡ record { at = p; step = stepOf p t } ∷ readFrom opened 0 (p + passed (stepOf p t)) (drop (passed (stepOf p t)) t)
   unfolding stepOf
   go-at p [] e = absurd (true≢false e)
   go-at p (b ∷ t) e =
       first p b t ∙ rw e (ap (λ (xs : List Placed). record { at = p; step = stepOf p (b ∷ t) } ∷ xs) (past-first (passed (stepOf p (b ∷ t))) p b t (passes-some (stepOf p (b ∷ t)) e)))
 
-module _ (growing : Bool) (s : List ℕ) where
-  pub steps-stop : (p : ℕ) → stops growing (stepAt s p) ≡ true → steps growing s p ≡ []
-  steps-stop p e = stop-at growing p (drop p s) e
+module _ (opened : Bool) (s : List ℕ) where
+  pub steps-stop : (p : ℕ) → stops opened (stepAt s p) ≡ true → steps opened s p ≡ []
+  steps-stop p e = stop-at opened p (drop p s) e
 
-  pub steps-go : (p : ℕ) → stops growing (stepAt s p) ≡ false → steps growing s p ≡ placed s p ∷ steps growing s (ends s p)
-  steps-go p e = go-at growing p (drop p s) e ∙ rw drop-drop
+  pub steps-go : (p : ℕ) → stops opened (stepAt s p) ≡ false → steps opened s p ≡ placed s p ∷ steps opened s (ends s p)
+  steps-go p e = go-at opened p (drop p s) e ∙ rw drop-drop
 
   -- a step that a reading goes on by ends further on, and within the capture
-  pub goes-on : (p : ℕ) → stops growing (stepAt s p) ≡ false → (p < ends s p) × (ends s p ≤ length s)
-  goes-on p e = (omega (arith, passes-some growing (stepAt s p) e), within s p growing e)
+  pub goes-on : (p : ℕ) → stops opened (stepAt s p) ≡ false → (p < ends s p) × (ends s p ≤ length s)
+  goes-on p e = (omega (arith, passes-some opened (stepAt s p) e), within s p opened e)

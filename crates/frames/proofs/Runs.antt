@@ -139,7 +139,7 @@ fused c n =
     let more : 1 + n ≡ suc n = omega arith in
     λ i. record {
       at = plus-plus (c .at) 1 n (suc n) more i;
-      growing = c .growing;
+      opened = c .opened;
       framed = plus-plus (c .framed) 0 0 0 refl i;
       junk = plus-plus (c .junk) 1 n (suc n) more i;
       bad = plus-plus (c .bad) 0 0 0 refl i;
@@ -193,13 +193,13 @@ module _ (s : List ℕ) (small : length s < 2 ^ 64) where
     past-junk-next =
         ap (nextOf s) past
         ∙ past-junk-keeps (λ (k : Cursor). nextOf s k ≡ nextOf s c)
-        (λ k j far e. ap (λ (x : Step). nextOf s (over k x)) (sym j) ∙ sym (next-over s small k (ap (passes (k .growing)) j)) ∙ e) c refl
+        (λ k j far e. ap (λ (x : Step). nextOf s (over k x)) (sym j) ∙ sym (next-over s small k (ap (passes (k .opened)) j)) ∙ e) c refl
 
-    pub past-junk-honest : (growing : Bool) → Honest growing s c → Honest growing s d
-    past-junk-honest growing h =
-        subst⁻¹ (Honest growing s) past
-        (past-junk-keeps (Honest growing s)
-        (λ k j far h. subst (λ (x : Step). Honest growing s (over k x)) j (honest-over s small growing k h (ap (stops growing) j))) c h)
+    pub past-junk-honest : (opened : Bool) → Honest opened s c → Honest opened s d
+    past-junk-honest opened h =
+        subst⁻¹ (Honest opened s) past
+        (past-junk-keeps (Honest opened s)
+        (λ k j far h. subst (λ (x : Step). Honest opened s (over k x)) j (honest-over s small opened k h (ap (stops opened) j))) c h)
 
     pub past-junk-further : c .at ≤ d .at
     past-junk-further =

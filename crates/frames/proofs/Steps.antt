@@ -132,10 +132,10 @@ module _ (s : List ℕ) (p : ℕ) where
       by-end false e = by-byte (leb-false (length s) p e) (eqb (getD s p 0) 0x55) refl
 
   -- a step that a reading goes on by passes no more bytes than there are
-  pub within : (growing : Bool) → stops growing (stepAt s p) ≡ false → p + passed (stepAt s p) ≤ length s
-  within growing = go line
+  pub within : (opened : Bool) → stops opened (stepAt s p) ≡ false → p + passed (stepAt s p) ≤ length s
+  within opened = go line
     where
-      go : {x : Step} → Line x → stops growing x ≡ false → p + passed x ≤ length s
+      go : {x : Step} → Line x → stops opened x ≡ false → p + passed x ≤ length s
       go (finished h) e = absurd (true≢false e)
       go (junk h b) e = omega arith
       go (headless h b l) e = omega arith
@@ -156,5 +156,5 @@ module _ (s : List ℕ) (p : ℕ) where
       go (found b l x) e = absurd (false≢true e)
 
   -- every reading stops there
-  pub past-end : (growing : Bool) → length s ≤ p → stops growing (stepAt s p) ≡ true
-  past-end growing h = ap (stops growing) (sym (decides (finished h)))
+  pub past-end : (opened : Bool) → length s ≤ p → stops opened (stepAt s p) ≡ true
+  past-end opened h = ap (stops opened) (sym (decides (finished h)))

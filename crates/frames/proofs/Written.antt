@@ -8,12 +8,12 @@ use lib.ListN.{length, getD, take, drop, length-append, length-drop, take-append
 use lib.Seq.{sets, drop-drop, drop-cons, take-append-seam, drop-append-add, take-at, drop-at, length-take-le, length-sets, sets-eq}
 use Rattle.wire.specs.Number.{bytesOf, storedAt}
 use Rattle.wire.specs.Field.{Field, Row, size, encode, rowStored}
-use Rattle.wire.specs.Message.{given, refused}
+use Rattle.wire.specs.Refusals.{refused, given}
 use Rattle.wire.proofs.Numbers.{length-bytesOf, stored-sets, set-byte}
 use Rattle.wire.proofs.Fields.{length-encode, row-sets}
 use Rattle.crc.specs.Crc.{crcFrom}
 use Rattle.frames.specs.Frame.{covered, frameBytes}
-use Rattle.frames.specs.Writer.{planned, head, headRow, headed, sealed, framed}
+use Rattle.frames.specs.Writer.{planned, head, headRow, headed, sealed, withFrame}
 use Rattle.frames.proofs.WrittenPlan.{fits, fitting-true, unfit}
 
 -- ---- lengths
@@ -102,16 +102,16 @@ module _ (kind sender n : ℕ) (buf : List ℕ) where
 -- ---- the payload, then the seal
 
 module _ (kind sender : ℕ) (payload buf : List ℕ) where
-  pub framed-fits : length payload ≤ 255 → length payload + 8 ≤ length buf → framed kind sender payload buf ≡ frameBytes kind sender payload ++ drop (length payload + 8) buf
-  unfolding framed
+  pub framed-fits : length payload ≤ 255 → length payload + 8 ≤ length buf → withFrame kind sender payload buf ≡ frameBytes kind sender payload ++ drop (length payload + 8) buf
+  unfolding withFrame
   framed-fits h room = rw (fitting-true (length payload) (length buf) h room)
 
-  pub framed-unfit : {k : ℕ} → planned (length payload) (length buf) ≡ refused k → framed kind sender payload buf ≡ buf
-  unfolding framed
+  pub framed-unfit : {k : ℕ} → planned (length payload) (length buf) ≡ refused k → withFrame kind sender payload buf ≡ buf
+  unfolding withFrame
   framed-unfit r = rw (unfit (length payload) (length buf) r)
 
   -- a payload stored at 6 and sealed is the frame
-  sealed-framed : length payload ≤ 255 → length payload + 8 ≤ length buf → sealed kind sender (length payload) (sets buf 6 payload) ≡ framed kind sender payload buf
+  sealed-framed : length payload ≤ 255 → length payload + 8 ≤ length buf → sealed kind sender (length payload) (sets buf 6 payload) ≡ withFrame kind sender payload buf
   sealed-framed h room =
       let n = length payload in
       let six : length (take 6 buf) ≡ 6 = length-take-le 6 buf (omega arith) in
@@ -129,14 +129,14 @@ module _ (kind sender : ℕ) (payload buf : List ℕ) where
 
   -- what a writer does where its plan says that the frame fits
   pub writes : {m : ℕ} {first last : List ℕ} → planned (length payload) (length buf) ≡ given m → first ≡ sets buf 6 payload
-      → last ≡ sealed kind sender (length payload) first → last ≡ framed kind sender payload buf
+      → last ≡ sealed kind sender (length payload) first → last ≡ withFrame kind sender payload buf
   writes g p q =
       let room = fits (length payload) (length buf) g in
       q ∙ ap (sealed kind sender (length payload)) p ∙ sealed-framed (room .0) (room .1)
 
 -- the same of a row that is stored field after field, as the typed writers do
 pub writes-row : (kind sender : ℕ) (fs : List Field) (v : Row fs) (buf : List ℕ) {m : ℕ} {first last : List ℕ} → planned (size fs) (length buf) ≡ given m
-    → first ≡ rowStored fs v buf 6 → last ≡ sealed kind sender (size fs) first → last ≡ framed kind sender (encode fs v) buf
+    → first ≡ rowStored fs v buf 6 → last ≡ sealed kind sender (size fs) first → last ≡ withFrame kind sender (encode fs v) buf
 writes-row kind sender fs v buf {first = first} g p q =
     let room = fits (size fs) (length buf) g in
     writes kind sender (encode fs v) buf (ap (λ (n : ℕ). planned n (length buf)) (length-encode fs v) ∙ g) (p ∙ row-sets fs v buf 6 (omega arith)) (q ∙ ap (λ (n : ℕ). sealed kind sender n first) (sym (length-encode fs v)))

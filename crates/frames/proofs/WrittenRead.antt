@@ -14,7 +14,7 @@ use Rattle.crc.specs.Crc.{crcFrom}
 use Rattle.crc.proofs.Fold.{crcFrom-fits}
 use Rattle.frames.specs.Frame.{covered, frameBytes}
 use Rattle.frames.specs.Step.{stated, frameAt, stepOf, stepAt, payloadIn}
-use Rattle.frames.specs.Writer.{framed}
+use Rattle.frames.specs.Writer.{withFrame}
 use Rattle.frames.specs.declared.step.Step.the-variants.{Found}
 use Rattle.frames.proofs.Written.{length-covered, length-frame-then, framed-fits}
 
@@ -91,10 +91,10 @@ module _ (kind sender : ℕ) (payload rest : List ℕ) where
 
 -- what a frame writer leaves is read back
 module _ (kind sender : ℕ) (payload buf : List ℕ) (k : kind < 65536) (s : sender < 65536) (n : length payload ≤ 255) (room : length payload + 8 ≤ length buf) where
-  pub framed-reads-back : stepAt (framed kind sender payload buf) 0 ≡ Found (record { at = 0; kind = kind; sender = sender; length = length payload })
+  pub framed-reads-back : stepAt (withFrame kind sender payload buf) 0 ≡ Found (record { at = 0; kind = kind; sender = sender; length = length payload })
   framed-reads-back = ap (stepOf 0) (framed-fits kind sender payload buf n room) ∙ reads-back kind sender payload (drop (length payload + 8) buf) k s n 0
 
-  pub framed-payload-back : payloadIn (framed kind sender payload buf) (record { at = 0; kind = kind; sender = sender; length = length payload }) ≡ payload
+  pub framed-payload-back : payloadIn (withFrame kind sender payload buf) (record { at = 0; kind = kind; sender = sender; length = length payload }) ≡ payload
   framed-payload-back =
       ap (λ (t : List ℕ). payloadIn t (record { at = 0; kind = kind; sender = sender; length = length payload })) (framed-fits kind sender payload buf n room)
       ∙ payload-back-at kind sender payload (drop (length payload + 8) buf) []

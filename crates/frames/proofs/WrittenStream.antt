@@ -6,7 +6,7 @@ use Prim.Native.Nat.{ℕ, _+_}
 use native.Mathlib.Omega.{arith}
 use lib.ListN.{length, drop, length-append}
 use lib.Seq.{drop-at}
-use Rattle.frames.specs.Frame.{Outgoing, Sendable, AllSendable, frameOf, stream}
+use Rattle.frames.specs.Frame.{Content, Sendable, AllSendable, frameOf, stream}
 use Rattle.frames.specs.Step.{payloadIn, passed}
 use Rattle.frames.specs.Reading.{Placed, stops, readFrom, closedSteps, framesOf, counted, added, countsOf}
 use Rattle.frames.specs.Writer.{asRead, foundFrom}
@@ -17,7 +17,7 @@ use Rattle.frames.proofs.Written.{length-frame, length-frame-then}
 use Rattle.frames.proofs.WrittenRead.{reads-back, payload-back-at}
 
 -- past a written frame the reading goes on after it
-pub past-written : (p : ℕ) (m : Outgoing) (rest : List ℕ) → Sendable m
+pub past-written : (p : ℕ) (m : Content) (rest : List ℕ) → Sendable m
     → readFrom false 0 p (frameOf m ++ rest)
     ≡ record { at = p; step = Found (asRead p m) } ∷ readFrom false 0 (p + (length (m .payload) + 8)) rest
 past-written p m rest h =
@@ -27,18 +27,18 @@ past-written p m rest h =
     ∙ ap (λ (x : Step). record { at = p; step = x } ∷ readFrom false 0 (p + passed x) (drop (passed x) t)) step
     ∙ ap (λ (u : List ℕ). record { at = p; step = Found (asRead p m) } ∷ readFrom false 0 (p + (length (m .payload) + 8)) u) (drop-at (frameOf m) rest (length (m .payload) + 8) (length-frame (m .kind) (m .sender) (m .payload)))
 
-stream-from : (p : ℕ) (ms : List Outgoing) → AllSendable ms → readFrom false 0 p (stream ms) ≡ foundFrom p ms
+stream-from : (p : ℕ) (ms : List Content) → AllSendable ms → readFrom false 0 p (stream ms) ≡ foundFrom p ms
 unfolding stream foundFrom readFrom
 stream-from p [] h = refl
 stream-from p (m ∷ ms) h =
     past-written p m (stream ms) (h .0)
     ∙ ap (λ (xs : List Placed). record { at = p; step = Found (asRead p m) } ∷ xs) (stream-from (p + (length (m .payload) + 8)) ms (h .1))
 
-pub closed-stream : (ms : List Outgoing) → AllSendable ms → closedSteps (stream ms) ≡ foundFrom 0 ms
+pub closed-stream : (ms : List Content) → AllSendable ms → closedSteps (stream ms) ≡ foundFrom 0 ms
 closed-stream = stream-from 0
 
 -- all of it is frames
-found-counts : (p : ℕ) (ms : List Outgoing) → countsOf (foundFrom p ms) ≡ record { framed = length (stream ms); junk = 0; bad = 0; short = 0 }
+found-counts : (p : ℕ) (ms : List Content) → countsOf (foundFrom p ms) ≡ record { framed = length (stream ms); junk = 0; bad = 0; short = 0 }
 unfolding stream foundFrom countsOf
 found-counts p [] = refl
 found-counts p (m ∷ ms) =
@@ -46,11 +46,11 @@ found-counts p (m ∷ ms) =
     let size : n + 8 + length (stream ms) ≡ length (frameOf m ++ stream ms) = omega (arith, length-frame-then (m .kind) (m .sender) (m .payload) (stream ms)) in
     ap (added (counted (Found (asRead p m)))) (found-counts (p + (n + 8)) ms) ∙ (λ i. record { framed = size i; junk = 0; bad = 0; short = 0 })
 
-pub stream-counts : (ms : List Outgoing) → AllSendable ms → countsOf (closedSteps (stream ms)) ≡ record { framed = length (stream ms); junk = 0; bad = 0; short = 0 }
+pub stream-counts : (ms : List Content) → AllSendable ms → countsOf (closedSteps (stream ms)) ≡ record { framed = length (stream ms); junk = 0; bad = 0; short = 0 }
 stream-counts ms h = ap countsOf (closed-stream ms h) ∙ found-counts 0 ms
 
 -- and the frames show the payloads
-payloads-from : (before : List ℕ) (ms : List Outgoing) → map (payloadIn (before ++ stream ms)) (framesOf (foundFrom (length before) ms)) ≡ map (λ (m : Outgoing). m .payload) ms
+payloads-from : (before : List ℕ) (ms : List Content) → map (payloadIn (before ++ stream ms)) (framesOf (foundFrom (length before) ms)) ≡ map (λ (m : Content). m .payload) ms
 unfolding stream foundFrom framesOf
 payloads-from before [] = refl
 payloads-from before (m ∷ ms) =
@@ -58,5 +58,5 @@ payloads-from before (m ∷ ms) =
     ap₂ (λ (x : List ℕ) (xs : List (List ℕ)). x ∷ xs) (payload-back-at (m .kind) (m .sender) (m .payload) (stream ms) before)
     (ap₂ (λ (s : List ℕ) (q : ℕ). map (payloadIn s) (framesOf (foundFrom q ms))) (sym (append-assoc before (frameOf m) (stream ms))) place ∙ payloads-from (before ++ frameOf m) ms)
 
-pub stream-payloads : (ms : List Outgoing) → AllSendable ms → map (payloadIn (stream ms)) (framesOf (closedSteps (stream ms))) ≡ map (λ (m : Outgoing). m .payload) ms
+pub stream-payloads : (ms : List Content) → AllSendable ms → map (payloadIn (stream ms)) (framesOf (closedSteps (stream ms))) ≡ map (λ (m : Content). m .payload) ms
 stream-payloads ms h = ap (λ (xs : List Placed). map (payloadIn (stream ms)) (framesOf xs)) (closed-stream ms h) ∙ payloads-from [] ms

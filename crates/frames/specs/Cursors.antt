@@ -14,7 +14,7 @@ use Rattle.frames.specs.declared.cursor.Cursor.{Cursor}
 use Rattle.frames.specs.declared.cursor.Next as Next
 
 abbrev pub begun : Bool → Cursor
-begun growing = record { at = 0; growing = growing; framed = 0; junk = 0; bad = 0; short = 0 }
+begun opened = record { at = 0; opened = opened; framed = 0; junk = 0; bad = 0; short = 0 }
 
 abbrev pub countsIn : Cursor → Counts
 countsIn c = record { framed = c .framed; junk = c .junk; bad = c .bad; short = c .short }
@@ -26,7 +26,7 @@ plus a b = (a + b) % 2 ^ 64
 -- further by n bytes, and with what they count
 abbrev pub past : Cursor → ℕ → Counts → Cursor
 past c n k =
-    record { at = plus (c .at) n; growing = c .growing; framed = plus (c .framed) (k .framed); junk = plus (c .junk) (k .junk); bad = plus (c .bad) (k .bad); short = plus (c .short) (k .short) }
+    record { at = plus (c .at) n; opened = c .opened; framed = plus (c .framed) (k .framed); junk = plus (c .junk) (k .junk); bad = plus (c .bad) (k .bad); short = plus (c .short) (k .short) }
 
 -- past a step
 abbrev pub over : Cursor → Step → Cursor
@@ -34,11 +34,11 @@ over c x = past c (passed x) (counted x)
 
 -- what a cursor passes over on its way to the next frame
 abbrev pub passes : Bool → Step → Bool
-passes growing Finished = false
-passes growing Junk = true
-passes growing (Short n) = not growing
-passes growing Bad = true
-passes growing (Found f) = false
+passes opened Finished = false
+passes opened Junk = true
+passes opened (Short n) = not opened
+passes opened Bad = true
+passes opened (Found f) = false
 
 -- its answer at a step that it does not pass over
 abbrev pub ended : Cursor → Step → Next.Next
@@ -51,11 +51,11 @@ ended c (Found f) = Next.the-variants.Frame f (over c (Found f))
 -- over the steps that are left to the first frame, or to where the reading stops
 unfoldable pub answer : List ℕ → Cursor → List Placed → Next.Next
 answer s c [] = ended c (stepAt s (c .at))
-answer s c (x ∷ xs) = cond (passes (c .growing) (x .step)) (answer s (over c (x .step)) xs) (ended c (x .step))
+answer s c (x ∷ xs) = cond (passes (c .opened) (x .step)) (answer s (over c (x .step)) xs) (ended c (x .step))
 
 unfoldable pub nextOf : List ℕ → Cursor → Next.Next
 unfolding readFrom answer
-nextOf s c = answer s c (steps (c .growing) s (c .at))
+nextOf s c = answer s c (steps (c .opened) s (c .at))
 
 -- the cursor that an answer hands back
 abbrev pub after : Next.Next → Cursor
@@ -67,15 +67,15 @@ after (Next.the-variants.Needs n c) = c
 
 -- the frames that a cursor has left
 abbrev pub remaining : Bool → List ℕ → Cursor → List Frame
-remaining growing s c = framesOf (steps growing s (c .at))
+remaining opened s c = framesOf (steps opened s (c .at))
 
 -- what an answer tells, where fs are the frames that were left: the first of them and a cursor from which the others are left, or that there are none
 abbrev pub Told : Bool → List ℕ → List Frame → Next.Next → Type 0
-Told growing s fs (Next.the-variants.Frame f c) = fs ≡ f ∷ remaining growing s c
-Told growing s fs (Next.the-variants.End c) = (fs ≡ []) × (c .at ≡ length s)
-Told growing s fs (Next.the-variants.Needs n c) = (fs ≡ []) × (stepAt s (c .at) ≡ Short n) × (growing ≡ true)
+Told opened s fs (Next.the-variants.Frame f c) = fs ≡ f ∷ remaining opened s c
+Told opened s fs (Next.the-variants.End c) = (fs ≡ []) × (c .at ≡ length s)
+Told opened s fs (Next.the-variants.Needs n c) = (fs ≡ []) × (stepAt s (c .at) ≡ Short n) × (opened ≡ true)
 
 -- calls of next from the start on have handed out the frames fs, and led to the cursor c
-pub data Led (growing : Bool) (s : List ℕ) : List Frame → Cursor → Type 0 where
-  start : Led growing s [] (begun growing)
-  more : {fs : List Frame} {c d : Cursor} {f : Frame} → Led growing s fs c → nextOf s c ≡ Next.the-variants.Frame f d → Led growing s (fs ++ f ∷ []) d
+pub data Led (opened : Bool) (s : List ℕ) : List Frame → Cursor → Type 0 where
+  start : Led opened s [] (begun opened)
+  more : {fs : List Frame} {c d : Cursor} {f : Frame} → Led opened s fs c → nextOf s c ≡ Next.the-variants.Frame f d → Led opened s (fs ++ f ∷ []) d

@@ -15,22 +15,22 @@ unfolding covered
 frameBytes kind sender payload = 0x55 ∷ covered kind sender payload ++ bytesOf 2 (crcFrom 0 (covered kind sender payload))
 
 -- a frame to be written, and what its fields have room for
-pub record Outgoing : Type 0 where
+pub record Content : Type 0 where
   pub kind : ℕ
   pub sender : ℕ
   pub payload : List ℕ
 
-abbrev pub Sendable : Outgoing → Type 0
+abbrev pub Sendable : Content → Type 0
 Sendable m = (m .kind < 65536) × (m .sender < 65536) × (length (m .payload) ≤ 255)
 
-abbrev pub AllSendable : List Outgoing → Type 0
+abbrev pub AllSendable : List Content → Type 0
 AllSendable [] = Unit {0}
 AllSendable (m ∷ ms) = Sendable m × AllSendable ms
 
-abbrev pub frameOf : Outgoing → List ℕ
+abbrev pub frameOf : Content → List ℕ
 frameOf m = frameBytes (m .kind) (m .sender) (m .payload)
 
 -- frames one after the other
-unfoldable pub stream : List Outgoing → List ℕ
+unfoldable pub stream : List Content → List ℕ
 stream [] = []
 stream (m ∷ ms) = frameOf m ++ stream ms

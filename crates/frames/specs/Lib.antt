@@ -4,4 +4,4 @@ pub mod Reading
 pub mod Cursors
 pub mod Junk
 pub mod Writer
-pub mod Message
+pub mod Faithful

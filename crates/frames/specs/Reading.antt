@@ -17,26 +17,26 @@ pub record Placed : Type 0 where
   pub at : ℕ
   pub step : Step
 
--- where a reading stops: at the end and, where the capture is growing (open reading), at a short
+-- where a reading stops: at the end and, where the capture is opened (open reading), at a short
 abbrev pub stops : Bool → Step → Bool
-stops growing Finished = true
-stops growing Junk = false
-stops growing (Short n) = growing
-stops growing Bad = false
-stops growing (Found f) = false
+stops opened Finished = true
+stops opened Junk = false
+stops opened (Short n) = opened
+stops opened Bad = false
+stops opened (Found f) = false
 
 -- the steps from position p on, when k bytes of the frame before are still to be skipped
 unfoldable pub readFrom : Bool → ℕ → ℕ → List ℕ → List Placed
 unfolding stepOf
-readFrom growing k p [] = []
-readFrom growing zero p (b ∷ t) =
+readFrom opened k p [] = []
+readFrom opened zero p (b ∷ t) =
     let step = stepOf p (b ∷ t) in
-    cond (stops growing step) [] (record { at = p; step = step } ∷ readFrom growing (pred (passed step)) (suc p) t)
-readFrom growing (suc k) p (b ∷ t) = readFrom growing k (suc p) t
+    cond (stops opened step) [] (record { at = p; step = step } ∷ readFrom opened (pred (passed step)) (suc p) t)
+readFrom opened (suc k) p (b ∷ t) = readFrom opened k (suc p) t
 
 -- the steps from a position of a capture on
 abbrev pub steps : Bool → List ℕ → ℕ → List Placed
-steps growing s p = readFrom growing 0 p (drop p s)
+steps opened s p = readFrom opened 0 p (drop p s)
 
 abbrev pub closedSteps : List ℕ → List Placed
 closedSteps s = steps false s 0

@@ -5,8 +5,8 @@ use mathlib.Core.List.{List, [], _∷_, _++_}
 use lib.Dec.{leb}
 use lib.ListN.{length, take, drop}
 use Rattle.wire.specs.Field.{Field, any, u8, u16, Row, rowStored}
-use Rattle.wire.specs.Message.{Answer, given, refused}
-use Rattle.frames.specs.Frame.{frameBytes, Outgoing}
+use Rattle.wire.specs.Refusals.{refused, given, Answer}
+use Rattle.frames.specs.Frame.{frameBytes, Content}
 use Rattle.frames.specs.Reading.{Placed}
 use Rattle.frames.specs.declared.step.Frame.{Frame}
 use Rattle.frames.specs.declared.step.Step.the-variants.{Found}
@@ -33,8 +33,8 @@ abbrev pub fitting : ℕ → ℕ → Bool
 fitting n room = leb n 255 && leb (n + 8) room
 
 -- the buffer with a frame at its start, the bytes after untouched; as it was where the frame does not fit
-unfoldable pub framed : ℕ → ℕ → List ℕ → List ℕ → List ℕ
-framed kind sender payload buf =
+unfoldable pub withFrame : ℕ → ℕ → List ℕ → List ℕ → List ℕ
+withFrame kind sender payload buf =
     cond (fitting (length payload) (length buf)) (frameBytes kind sender payload ++ drop (length payload + 8) buf) buf
 
 -- the same, of the n payload bytes that stand in the buffer at 6
@@ -54,10 +54,10 @@ abbrev pub headed : ℕ → ℕ → ℕ → List ℕ → List ℕ
 headed kind sender n buf = rowStored head (headRow kind sender n) buf 0
 
 -- what a written frame reads back as, at a position
-abbrev pub asRead : ℕ → Outgoing → Frame
+abbrev pub asRead : ℕ → Content → Frame
 asRead p m = record { at = p; kind = m .kind; sender = m .sender; length = length (m .payload) }
 
 -- the steps over frames that stand one after the other
-unfoldable pub foundFrom : ℕ → List Outgoing → List Placed
+unfoldable pub foundFrom : ℕ → List Content → List Placed
 foundFrom p [] = []
 foundFrom p (m ∷ ms) = record { at = p; step = Found (asRead p m) } ∷ foundFrom (p + (length (m .payload) + 8)) ms

@@ -21,7 +21,7 @@ pub struct Counts {
 // A place in a reading, open or closed, with the counts so far.
 pub struct Cursor {
     pub at: usize,
-    pub growing: bool,
+    pub opened: bool,
     pub framed: usize,
     pub junk: usize,
     pub bad: usize,
@@ -74,25 +74,25 @@ fn counted(step: Step) -> Counts
 }
 
 // Whether a reading passes over a step on the way to the next frame.
-fn passes(growing: bool, step: Step) -> bool
-    ensures { λ r. ⌜ r ≡ passes growing step ⌝ }
+fn passes(opened: bool, step: Step) -> bool
+    ensures { λ r. ⌜ r ≡ passes opened step ⌝ }
 {
     match step {
         Step::Finished => false,
         Step::Junk => true,
-        Step::Short(_) => !growing,
+        Step::Short(_) => !opened,
         Step::Bad => true,
         Step::Found(_) => false,
     }
 }
 
 impl Cursor {
-    fn begun(growing: bool) -> Self
-        ensures { λ r. ⌜ r ≡ begun growing ⌝ }
+    fn begun(opened: bool) -> Self
+        ensures { λ r. ⌜ r ≡ begun opened ⌝ }
     {
         Cursor {
             at: 0,
-            growing,
+            opened,
             framed: 0,
             junk: 0,
             bad: 0,
@@ -120,7 +120,7 @@ impl Cursor {
     {
         Cursor {
             at: std::num::wrapping_add_usize(self.at, n),
-            growing: self.growing,
+            opened: self.opened,
             framed: std::num::wrapping_add_usize(self.framed, k.framed),
             junk: std::num::wrapping_add_usize(self.junk, k.junk),
             bad: std::num::wrapping_add_usize(self.bad, k.bad),
@@ -171,7 +171,7 @@ impl Cursor {
         let mut c = self;
         loop {
             let step = step_by(&table, s, c.at);
-            if passes(c.growing, step) {
+            if passes(c.opened, step) {
                 c = c.over(step).past_junk(s);
             } else {
                 return c.ended(step);

@@ -1,6 +1,6 @@
 // Frames: found in a lent capture by document 01's five lines, and written into a lent buffer.
 // Read specs/Frame.antt (a frame's bytes), specs/Step.antt (the five lines), specs/Reading.antt (whole readings and their
-// counts), specs/Cursors.antt, then specs/Writer.antt and specs/Message.antt. specs/Junk.antt serves speed alone.
+// counts), specs/Cursors.antt, then specs/Writer.antt and specs/Faithful.antt. specs/Junk.antt serves speed alone.
 mod cursor;
 mod junk;
 mod step;

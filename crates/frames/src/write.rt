@@ -2,7 +2,7 @@
 ghost use mathlib.Core.Path.{_≡_};
 ghost use lib.ListN.{length};
 ghost use lib.Seq.{sets};
-ghost use Rattle.frames.specs.Writer.{writtenAnswer, senderOf, planned, headed, sealed, framed};
+ghost use Rattle.frames.specs.Writer.{writtenAnswer, senderOf, planned, headed, sealed, withFrame};
 
 // Who sends: a number, or nobody in particular, which is written as 0x42.
 pub enum Sender {
@@ -74,7 +74,7 @@ pub fn place(buf: &mut [u8], payload: &[u8])
 // A frame of any type with any payload.
 pub fn write_frame(buf: &mut [u8], kind: u16, sender: Sender, payload: &[u8]) -> Written
     ensures { λ r. ⌜ writtenAnswer r ≡ planned (length (now (payload .entry))) (length (now (buf .entry))) ⌝ }
-    ensures { λ _. ⌜ now (buf .exit) ≡ framed kind (senderOf sender) (now (payload .entry)) (now (buf .entry)) ⌝ }
+    ensures { λ _. ⌜ now (buf .exit) ≡ withFrame kind (senderOf sender) (now (payload .entry)) (now (buf .entry)) ⌝ }
 {
     let n = payload.len();
     let answer = plan(n, buf.len());

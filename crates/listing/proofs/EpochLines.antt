@@ -9,7 +9,8 @@ use Rattle.frames.specs.Reading.{closedSteps, framesOf}
 use Rattle.frames.specs.declared.step.Frame.{Frame}
 use Rattle.epochs.specs.Packet.{seatOf}
 use Rattle.epochs.specs.Collator.{names, fresh, made}
-use Rattle.epochs.specs.Epoch.{Item, itemIn, fedItem, after, EndsEpoch}
+use Rattle.epochs.specs.Epoch.{contentIn, fedFrame, after, EndsEpoch}
+use Rattle.frames.specs.Frame.{Content}
 use Rattle.epochs.specs.declared.collating.Collator.{Collator}
 use Rattle.epochs.specs.declared.collating.Report.{Report}
 use Rattle.epochs.specs.declared.collating.Fed.{Fed}
@@ -25,13 +26,13 @@ use Rattle.listing.proofs.Accepted.{roster-accepted, lists-nobody, rost
 
 -- ---- a collator that lists nobody
 
-pub nobody-fed : (x : Item) → (n : ℕ) × (fedItem (fresh []) x ≡ record { collator = fresh []; happened = H.Refused n })
+pub nobody-fed : (x : Content) → (n : ℕ) × (fedFrame (fresh []) x ≡ record { collator = fresh []; happened = H.Refused n })
 unfolding seatOf
 nobody-fed x =
     let refuses = judged-unlisted [] (x .kind) (x .sender) (x .payload) refl in
     (refuses .0, fed-refused (fresh []) (x .kind) (x .sender) (x .payload) (refuses .1))
 
-pub nobody-moves : (xs : List Item) → after (fresh []) xs ≡ fresh []
+pub nobody-moves : (xs : List Content) → after (fresh []) xs ≡ fresh []
 unfolding after
 nobody-moves [] = refl
 nobody-moves (x ∷ xs) = ap (λ (f : Fed). after (f .collator) xs) (nobody-fed x .1) ∙ nobody-moves xs
@@ -39,12 +40,12 @@ nobody-moves (x ∷ xs) = ap (λ (f : Fed). after (f .collator) xs) (nobody-fed 
 -- ---- after any frames, feeding one more tells of an epoch exactly when that frame ends it
 
 abbrev Exactly : List ℕ → Type 0
-Exactly roster = (past : List Item) (x : Item) (e : Report) → (fedItem (after (made roster .collator) past) x .happened ≡ H.Epoch e) ↔ EndsEpoch roster past x e
+Exactly roster = (past : List Content) (x : Content) (e : Report) → (fedFrame (after (made roster .collator) past) x .happened ≡ H.Epoch e) ↔ EndsEpoch roster past x e
 
 nobody-exactly : Exactly []
 unfolding names
 nobody-exactly past x e = (
-  λ h. absurd (never-refused (sym (ap (λ (c : Collator). fedItem (after c past) x .happened) lists-nobody ∙ ap (λ (c : Collator). fedItem c x .happened) (nobody-moves past) ∙ ap (λ (f : Fed). f .happened) (nobody-fed x .1)) ∙ h)),
+  λ h. absurd (never-refused (sym (ap (λ (c : Collator). fedFrame (after c past) x .happened) lists-nobody ∙ ap (λ (c : Collator). fedFrame c x .happened) (nobody-moves past) ∙ ap (λ (f : Fed). f .happened) (nobody-fed x .1)) ∙ h)),
   λ w. absurd (false≢true (w .listed)),
 )
 
@@ -58,51 +59,51 @@ exactly s = by (roster-accepted s)
 
 -- ---- the lines
 
-pub after-one : (c : Collator) (xs : List Item) (x : Item) → after c (xs ++ x ∷ []) ≡ fedItem (after c xs) x .collator
+pub after-one : (c : Collator) (xs : List Content) (x : Content) → after c (xs ++ x ∷ []) ≡ fedFrame (after c xs) x .collator
 unfolding after
 after-one c [] x = refl
-after-one c (y ∷ xs) x = after-one (fedItem c y .collator) xs x
+after-one c (y ∷ xs) x = after-one (fedFrame c y .collator) xs x
 
 module _ (s : List ℕ) where
-  abbrev at : List Item → Collator
+  abbrev at : List Content → Collator
   at past = after (made (rosterIn s) .collator) past
 
-  abbrev happens : List Item → Frame → Happened
-  happens past f = fedItem (at past) (itemIn s f) .happened
+  abbrev happens : List Content → Frame → Happened
+  happens past f = fedFrame (at past) (contentIn s f) .happened
 
   -- a frame's lines, and those of the frames after it
-  on : (past : List Item) (f : Frame) (fs : List Frame)
-      → framesText s (at past) (f ∷ fs) ≡ frameLine s f ++ told (happens past f) ++ framesText s (at (past ++ itemIn s f ∷ [])) fs
+  on : (past : List Content) (f : Frame) (fs : List Frame)
+      → framesText s (at past) (f ∷ fs) ≡ frameLine s f ++ told (happens past f) ++ framesText s (at (past ++ contentIn s f ∷ [])) fs
   unfolding framesText
-  on past f fs = ap (λ (c : Collator). frameLine s f ++ told (happens past f) ++ framesText s c fs) (sym (after-one (made (rosterIn s) .collator) past (itemIn s f)))
+  on past f fs = ap (λ (c : Collator). frameLine s f ++ told (happens past f) ++ framesText s c fs) (sym (after-one (made (rosterIn s) .collator) past (contentIn s f)))
 
-  lines : (past : List Item) (fs : List Frame) → Lines s (rosterIn s) past fs (framesText s (at past) fs)
+  lines : (past : List Content) (fs : List Frame) → Lines s (rosterIn s) past fs (framesText s (at past) fs)
   unfolding framesText
   lines past [] = none
-  lines past (f ∷ fs) = subst (Lines s (rosterIn s) past (f ∷ fs)) (sym (on past f fs)) (by (happens past f) refl (lines (past ++ itemIn s f ∷ []) fs))
+  lines past (f ∷ fs) = subst (Lines s (rosterIn s) past (f ∷ fs)) (sym (on past f fs)) (by (happens past f) refl (lines (past ++ contentIn s f ∷ []) fs))
     where
-      alone : {text : List ℕ} → ((e : Report) → EndsEpoch (rosterIn s) past (itemIn s f) e → ⊥) → Lines s (rosterIn s) (past ++ itemIn s f ∷ []) fs text
+      alone : {text : List ℕ} → ((e : Report) → EndsEpoch (rosterIn s) past (contentIn s f) e → ⊥) → Lines s (rosterIn s) (past ++ contentIn s f ∷ []) fs text
           → Lines s (rosterIn s) past (f ∷ fs) (frameLine s f ++ [] ++ text)
       alone {text} never rest = subst (λ (t : List ℕ). Lines s (rosterIn s) past (f ∷ fs) (t ++ text)) (sym (append-nil (frameLine s f))) (passing never rest)
 
-      by : {text : List ℕ} (h : Happened) → happens past f ≡ h → Lines s (rosterIn s) (past ++ itemIn s f ∷ []) fs text
+      by : {text : List ℕ} (h : Happened) → happens past f ≡ h → Lines s (rosterIn s) (past ++ contentIn s f ∷ []) fs text
           → Lines s (rosterIn s) past (f ∷ fs) (frameLine s f ++ told h ++ text)
-      by (H.Refused n) q rest = alone (λ e w. never-refused (sym q ∙ exactly s past (itemIn s f) e .1 w)) rest
-      by H.Taken q rest = alone (λ e w. never-taken (sym q ∙ exactly s past (itemIn s f) e .1 w)) rest
-      by (H.Epoch e) q rest = ending (exactly s past (itemIn s f) e .0 q) rest
+      by (H.Refused n) q rest = alone (λ e w. never-refused (sym q ∙ exactly s past (contentIn s f) e .1 w)) rest
+      by H.Taken q rest = alone (λ e w. never-taken (sym q ∙ exactly s past (contentIn s f) e .1 w)) rest
+      by (H.Epoch e) q rest = ending (exactly s past (contentIn s f) e .0 q) rest
 
-  only-lines : {past : List Item} {fs : List Frame} {text : List ℕ} → Lines s (rosterIn s) past fs text → text ≡ framesText s (at past) fs
+  only-lines : {past : List Content} {fs : List Frame} {text : List ℕ} → Lines s (rosterIn s) past fs text → text ≡ framesText s (at past) fs
   unfolding framesText
   only-lines none = refl
   only-lines (ending {past = past} {f = f} {fs = fs} {e = e} w rest) =
-      ap₂ (λ (h : Happened) (t : List ℕ). frameLine s f ++ told h ++ t) (sym (exactly s past (itemIn s f) e .1 w)) (only-lines rest) ∙ sym (on past f fs)
+      ap₂ (λ (h : Happened) (t : List ℕ). frameLine s f ++ told h ++ t) (sym (exactly s past (contentIn s f) e .1 w)) (only-lines rest) ∙ sym (on past f fs)
   only-lines (passing {past = past} {f = f} {fs = fs} {text = text} never rest) =
       ap₂ _++_ (by (happens past f) refl) (only-lines rest) ∙ sym (on past f fs)
     where
       by : (h : Happened) → happens past f ≡ h → frameLine s f ≡ frameLine s f ++ told h
       by (H.Refused n) q = sym (append-nil (frameLine s f))
       by H.Taken q = sym (append-nil (frameLine s f))
-      by (H.Epoch e) q = absurd (never e (exactly s past (itemIn s f) e .0 q))
+      by (H.Epoch e) q = absurd (never e (exactly s past (contentIn s f) e .0 q))
 
   -- the text is these lines, and no other lines will do
   pub text-lines : (text : List ℕ) → Lines s (rosterIn s) [] (framesOf (closedSteps s)) text ↔ (textOf s ≡ text ++ totalsLine s)
@@ -118,7 +119,7 @@ frames-alone : (s : List ℕ) (fs : List Frame) → framesText s (fresh []) fs �
 unfolding framesText flatMap
 frames-alone s [] = refl
 frames-alone s (f ∷ fs) =
-    ap (λ (x : Fed). frameLine s f ++ told (x .happened) ++ framesText s (x .collator) fs) (nobody-fed (itemIn s f) .1)
+    ap (λ (x : Fed). frameLine s f ++ told (x .happened) ++ framesText s (x .collator) fs) (nobody-fed (contentIn s f) .1)
     ∙ ap₂ _++_ (append-nil (frameLine s f)) (frames-alone s fs)
 
 pub text-alone : (s : List ℕ) → obsSendersIn s ≡ [] → textOf s ≡ flatMap (frameLine s) (framesOf (closedSteps s)) ++ totalsLine s

@@ -10,7 +10,7 @@ use lib.Dec.{eqb}
 use lib.ListN.{length, take, replicate}
 use lib.Seq.{take-append-add, take-at}
 use borrow.Author.Tests.{eq-eqb, eqb-false}
-use Rattle.wire.specs.Message.{Answer, given, refused}
+use Rattle.wire.specs.Refusals.{refused, given, Answer}
 use Rattle.observation.specs.Obs.{readObs}
 use Rattle.observation.specs.declared.obs.Obs.{Obs}
 use Rattle.frames.specs.Step.{payloadIn}
@@ -18,7 +18,8 @@ use Rattle.frames.specs.Reading.{closedSteps, framesOf}
 use Rattle.frames.specs.declared.step.Frame.{Frame}
 use Rattle.epochs.specs.Packet.{obsKind, seatOf, seated, listed, judged}
 use Rattle.epochs.specs.Collator.{idle, acted, fed, names, fresh, made}
-use Rattle.epochs.specs.Epoch.{Item, fedItem, itemIn}
+use Rattle.epochs.specs.Epoch.{fedFrame, contentIn}
+use Rattle.frames.specs.Frame.{Content}
 use Rattle.epochs.specs.declared.judging.Seat.the-variants.{At}
 use Rattle.epochs.specs.declared.judging.Judged.{Judged}
 use Rattle.epochs.specs.declared.judging.Judged.the-variants.{Refused, For}
@@ -84,18 +85,18 @@ judged-seat q r kind sender payload e = ap (cond (not (eqb kind obsKind)) (Refus
     by (given o) = ap (seated o) e
     by (refused n) = refl
 
-abbrev judgedItem : List ℕ → Item → Judged
+abbrev judgedItem : List ℕ → Content → Judged
 judgedItem roster x = judged roster (x .kind) (x .sender) (x .payload)
 
 grown-judged : (s roster : List ℕ) → Few roster → (f : Frame) (fs : List Frame)
-    → judgedItem (enlisted roster f) (itemIn s f) ≡ judgedItem (enlistedAll (enlisted roster f) fs) (itemIn s f)
+    → judgedItem (enlisted roster f) (contentIn s f) ≡ judgedItem (enlistedAll (enlisted roster f) fs) (contentIn s f)
 grown-judged s roster few f fs = by (eqb (f .kind) obsKind) refl
   where
     x : ℕ
     x = f .sender
 
     by : (t : Bool) → eqb (f .kind) obsKind ≡ t
-        → judgedItem (cond t (joined roster x) roster) (itemIn s f) ≡ judgedItem (enlistedAll (cond t (joined roster x) roster) fs) (itemIn s f)
+        → judgedItem (cond t (joined roster x) roster) (contentIn s f) ≡ judgedItem (enlistedAll (cond t (joined roster x) roster) fs) (contentIn s f)
     by true e =
         let r = joined roster x in
         judged-seat r (enlistedAll r fs) (f .kind) x (payloadIn s f) (sym (seat-stays r (few-joined roster x few) x fs (joined-settles roster x)))
@@ -109,12 +110,12 @@ grown-judged s roster few f fs = by (eqb (f .kind) obsKind) refl
 abbrev relisted : List ℕ → Fed → Fed
 relisted roster x = record { collator = heldIn (x .collator .places) roster; happened = x .happened }
 
-module _ (places : List Place) (x : Item) where
-  fed-held : (roster : List ℕ) → Few roster → fedItem (heldIn places roster) x ≡ acted (heldIn places roster) (x .sender) (judgedItem roster x)
+module _ (places : List Place) (x : Content) where
+  fed-held : (roster : List ℕ) → Few roster → fedFrame (heldIn places roster) x ≡ acted (heldIn places roster) (x .sender) (judgedItem roster x)
   unfolding fed
   fed-held roster few = ap (λ (r : List ℕ). acted (heldIn places roster) (x .sender) (judgedItem r x)) (held-list places roster few)
 
-  fed-relisted : (q r : List ℕ) → Few q → Few r → judgedItem q x ≡ judgedItem r x → fedItem (heldIn places r) x ≡ relisted r (fedItem (heldIn places q) x)
+  fed-relisted : (q r : List ℕ) → Few q → Few r → judgedItem q x ≡ judgedItem r x → fedFrame (heldIn places r) x ≡ relisted r (fedFrame (heldIn places q) x)
   fed-relisted q r few most e =
       fed-held r most ∙ ap (acted (heldIn places r) (x .sender)) (sym e) ∙ by (judgedItem q x) ∙ ap (relisted r) (sym (fed-held q few))
     where
@@ -128,7 +129,7 @@ module _ (places : List Place) (x : Item) where
 unfoldable pub grownText : List ℕ → Collator → List Frame → List ℕ
 grownText s c [] = []
 grownText s c (f ∷ fs) =
-    let fed = fedItem (enlistedTo c f) (itemIn s f) in
+    let fed = fedFrame (enlistedTo c f) (contentIn s f) in
     frameLine s f ++ told (fed .happened) ++ grownText s (fed .collator) fs
 
 grown : (s : List ℕ) (fs : List Frame) (places : List Place) (roster : List ℕ) → Few roster
@@ -139,9 +140,9 @@ grown s (f ∷ fs) places roster few =
     let q = enlisted roster f in
     let r = enlistedAll q fs in
     let here = few-enlisted f roster few in
-    let item = itemIn s f in
-    let fed = fedItem (heldIn places q) item in
-    ap (λ (c : Collator). lines (fedItem c item)) (held-enlisted places roster few f)
+    let item = contentIn s f in
+    let fed = fedFrame (heldIn places q) item in
+    ap (λ (c : Collator). lines (fedFrame c item)) (held-enlisted places roster few f)
     ∙ ap lines (fed-relisted places item q q here here refl)
     ∙ ap (λ (t : List ℕ). frameLine s f ++ told (fed .happened) ++ t) (grown s fs (fed .collator .places) q here)
     ∙ ap (λ (x : Fed). frameLine s f ++ told (x .happened) ++ framesText s (x .collator) fs)

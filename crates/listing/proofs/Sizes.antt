@@ -7,7 +7,7 @@ use native.Mathlib.Omega.{arith}
 use lib.Dec.{eqb, lit<}
 use lib.ListN.{length, length-append}
 use Rattle.wire.specs.Number.{Bytes}
-use Rattle.wire.specs.Message.{given, refused}
+use Rattle.wire.specs.Refusals.{refused, given}
 use Rattle.frames.specs.Step.{stepAt, passed, ends, payloadIn}
 use Rattle.frames.specs.Reading.{Placed, Tiled, done, then, framesIn, framesOf, countsOf, closedSteps}
 use Rattle.frames.specs.declared.step.Frame.{Frame}
@@ -18,7 +18,7 @@ use Rattle.frames.proofs.Tiling.{closed-tiled, adds-up}
 use Rattle.payloads.specs.Table.{Line, table, readLine, lookUp, numberOf, answerFor}
 use Rattle.payloads.specs.declared.Message.{Message}
 use Rattle.epochs.specs.Collator.{made}
-use Rattle.epochs.specs.Epoch.{fedItem, itemIn}
+use Rattle.epochs.specs.Epoch.{fedFrame, contentIn}
 use Rattle.epochs.specs.declared.collating.Collator.{Collator}
 use Rattle.epochs.specs.declared.collating.Happened.{Happened}
 use Rattle.epochs.specs.declared.collating.Happened.the-variants as H
@@ -82,8 +82,8 @@ module _ (s : List ℕ) (bytes : Bytes s) (short : length s ≤ 65536) where
         five 0x46 (f .at) (f .kind) (f .sender) (f .length) (answerFor (f .kind) (payloadIn s f)) 4 4 4 2 1
         (omega (arith, here, inside)) (omega (arith, small .0)) (omega (arith, small .1)) (omega (arith, small .2)) (small-answer table (f .kind) (payloadIn s f))
 
-    frame-told : (c : Collator) → length (told (fedItem c (itemIn s f) .happened)) ≤ 34
-    frame-told c = told-size (fedItem c (itemIn s f) .happened) (report-small c (f .kind) (f .sender) (payloadIn s f) (payload-bytes s p e bytes) (found-numbers s p e bytes .1))
+    frame-told : (c : Collator) → length (told (fedFrame c (contentIn s f) .happened)) ≤ 34
+    frame-told c = told-size (fedFrame c (contentIn s f) .happened) (report-small c (f .kind) (f .sender) (payloadIn s f) (payload-bytes s p e bytes) (found-numbers s p e bytes .1))
 
   -- 61 bytes of text for a frame of at least 8
   frames-size : {p e : ℕ} {xs : List Placed} → Tiled s p e xs → e ≤ length s → (c : Collator) → length (framesText s c (framesOf xs)) + 8 * p ≤ 8 * e
@@ -98,7 +98,7 @@ module _ (s : List ℕ) (bytes : Bytes s) (short : length s ≤ 65536) where
       by (Short n) q later = omega (arith, later c, ap passed q)
       by Bad q later = omega (arith, later c, ap passed q)
       by (Found f) q later =
-          let fed = fedItem c (itemIn s f) in
+          let fed = fedFrame c (contentIn s f) in
           let whole = length-append (frameLine s f ++ told (fed .happened)) (framesText s (fed .collator) (framesOf xs)) in
           let lines = length-append (frameLine s f) (told (fed .happened)) in
           let one = frame-size p q in

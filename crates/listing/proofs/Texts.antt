@@ -8,7 +8,7 @@ use lib.Dec.{leb}
 use lib.ListN.{length, drop}
 use lib.Seq.{sets, sets-eq, length-sets}
 use borrow.Author.Tests.{le-leb, lt-leb, leb-true}
-use Rattle.wire.specs.Message.{Answer, given, refused}
+use Rattle.wire.specs.Refusals.{refused, given, Answer}
 use Rattle.frames.specs.Step.{payloadIn}
 use Rattle.frames.specs.Reading.{closedSteps, framesOf}
 use Rattle.frames.specs.Cursors.{nextOf, countsIn}
@@ -20,7 +20,7 @@ use Rattle.frames.specs.declared.cursor.Next as Next
 use Rattle.frames.proofs.Walks.{Walking, left, walking-begun, walking-on, walking-end, end-counts}
 use Rattle.payloads.specs.Table.{answerFor}
 use Rattle.epochs.specs.Collator.{fresh}
-use Rattle.epochs.specs.Epoch.{fedItem, itemIn}
+use Rattle.epochs.specs.Epoch.{fedFrame, contentIn}
 use Rattle.epochs.specs.declared.collating.Collator.{Collator}
 use Rattle.epochs.specs.declared.collating.Fed.{Fed}
 use Rattle.epochs.specs.declared.collating.Happened.{Happened}
@@ -63,16 +63,16 @@ module _ (s buf : List ℕ) where
     pub putting-on : {c seated : Collator} {now : List ℕ} {at : ℕ} {cur d : Cursor} {f : Frame} {answer : ℕ} {fed : Fed} {mid after : List ℕ} {between to : ℕ}
         → Walking s (Putting c now at) cur → nextOf s cur ≡ Next.the-variants.Frame f d → answer ≡ answerFor (f .kind) (payloadIn s f)
         → between ≡ (at + length (frameShown f answer)) % 2 ^ 64 → mid ≡ laid now at (frameShown f answer)
-        → seated ≡ enlistedTo c f → fed ≡ fedItem seated (itemIn s f)
+        → seated ≡ enlistedTo c f → fed ≡ fedFrame seated (contentIn s f)
         → to ≡ (between + length (told (fed .happened))) % 2 ^ 64 → after ≡ laid mid between (told (fed .happened)) → Walking s (Putting (fed .collator) after to) d
     unfolding grownText
     putting-on {c} {now = now} {at} {d = d} {f} {answer} {fed} {mid} {after} {between} {to} w e a q1 e1 j k q2 e2 =
         walking-on s small w e
         (λ p.
         let rest = totalsLine s in
-        let h = fedItem (enlistedTo c f) (itemIn s f) in
+        let h = fedFrame (enlistedTo c f) (contentIn s f) in
         let parts = subst (Left now at) (reassoc (frameLine s f) (told (h .happened)) (grownText s (h .collator) (left s d)) rest) (p .pending) in
-        let fed-parts = subst (λ (x : Fed). Left now at (frameLine s f ++ (told (x .happened) ++ (grownText s (x .collator) (left s d) ++ rest)))) (sym (k ∙ ap (λ (c : Collator). fedItem c (itemIn s f)) j)) parts in
+        let fed-parts = subst (λ (x : Fed). Left now at (frameLine s f ++ (told (x .happened) ++ (grownText s (x .collator) (left s d) ++ rest)))) (sym (k ∙ ap (λ (c : Collator). fedFrame c (contentIn s f)) j)) parts in
         let all-parts = subst (λ (n : ℕ). Left now at (frameShown f n ++ (told (fed .happened) ++ (grownText s (fed .collator) (left s d) ++ rest)))) (sym a) fed-parts in
         let first = pending-laid (frameShown f answer) (told (fed .happened) ++ (grownText s (fed .collator) (left s d) ++ rest)) all-parts short room e1 q1 in
         record { pending = pending-laid (told (fed .happened)) (grownText s (fed .collator) (left s d) ++ rest) first short room e2 q2 })

@@ -4,14 +4,14 @@ use mathlib.Core.Bool.{cond}
 use mathlib.Core.List.{List, [], _∷_, _++_}
 use lib.Dec.{leb}
 use lib.ListN.{length, drop}
-use Rattle.wire.specs.Message.{Answer, given, refused}
+use Rattle.wire.specs.Refusals.{refused, given, Answer}
 use Rattle.frames.specs.Step.{payloadIn}
 use Rattle.frames.specs.Reading.{closedSteps, framesOf, countsOf}
 use Rattle.frames.specs.declared.step.Frame.{Frame}
 use Rattle.frames.specs.declared.cursor.Counts.{Counts}
 use Rattle.payloads.specs.Table.{answerFor}
 use Rattle.epochs.specs.Collator.{made}
-use Rattle.epochs.specs.Epoch.{fedItem, itemIn}
+use Rattle.epochs.specs.Epoch.{fedFrame, contentIn}
 use Rattle.epochs.specs.declared.collating.Collator.{Collator}
 use Rattle.epochs.specs.declared.collating.Report.{Report}
 use Rattle.epochs.specs.declared.collating.Happened.{Happened}
@@ -47,7 +47,7 @@ told (Epoch e) = epochLine e
 unfoldable pub framesText : List ℕ → Collator → List Frame → List ℕ
 framesText s c [] = []
 framesText s c (f ∷ fs) =
-    let fed = fedItem c (itemIn s f) in
+    let fed = fedFrame c (contentIn s f) in
     frameLine s f ++ told (fed .happened) ++ framesText s (fed .collator) fs
 
 -- a whole capture, fed to a collator of its roster. Where that is empty the collator lists nobody, and reports nothing

@@ -7,7 +7,8 @@ use Rattle.frames.specs.Reading.{closedSteps, framesOf}
 use Rattle.frames.specs.declared.step.Frame.{Frame}
 use Rattle.epochs.specs.Packet.{obsKind}
 use Rattle.epochs.specs.Collator.{names}
-use Rattle.epochs.specs.Epoch.{Item, itemIn, EndsEpoch}
+use Rattle.epochs.specs.Epoch.{contentIn, EndsEpoch}
+use Rattle.frames.specs.Frame.{Content}
 use Rattle.epochs.specs.declared.collating.Report.{Report}
 use Rattle.listing.specs.Listing.{frameLine, epochLine}
 
@@ -26,9 +27,9 @@ different before [] = []
 different before (x ∷ xs) = cond (names before x) (different before xs) (x ∷ different (before ++ x ∷ []) xs)
 
 -- "for each frame `F` ..; after the frame that ends an epoch, `E` ..": the lines of the frames that come after those of the past
-pub data Lines (s roster : List ℕ) : List Item → List Frame → List ℕ → Type 0 where
-  none : {past : List Item} → Lines s roster past [] []
-  ending : {past : List Item} {f : Frame} {fs : List Frame} {e : Report} {text : List ℕ} → EndsEpoch roster past (itemIn s f) e
-      → Lines s roster (past ++ itemIn s f ∷ []) fs text → Lines s roster past (f ∷ fs) (frameLine s f ++ epochLine e ++ text)
-  passing : {past : List Item} {f : Frame} {fs : List Frame} {text : List ℕ} → ((e : Report) → EndsEpoch roster past (itemIn s f) e → ⊥)
-      → Lines s roster (past ++ itemIn s f ∷ []) fs text → Lines s roster past (f ∷ fs) (frameLine s f ++ text)
+pub data Lines (s roster : List ℕ) : List Content → List Frame → List ℕ → Type 0 where
+  none : {past : List Content} → Lines s roster past [] []
+  ending : {past : List Content} {f : Frame} {fs : List Frame} {e : Report} {text : List ℕ} → EndsEpoch roster past (contentIn s f) e
+      → Lines s roster (past ++ contentIn s f ∷ []) fs text → Lines s roster past (f ∷ fs) (frameLine s f ++ epochLine e ++ text)
+  passing : {past : List Content} {f : Frame} {fs : List Frame} {text : List ℕ} → ((e : Report) → EndsEpoch roster past (contentIn s f) e → ⊥)
+      → Lines s roster (past ++ contentIn s f ∷ []) fs text → Lines s roster past (f ∷ fs) (frameLine s f ++ text)

@@ -2,12 +2,13 @@
 use mathlib.Core.Path.{refl}
 use mathlib.Core.List.{[], _∷_}
 use Rattle.wire.specs.Field.{any, u16, u32}
-use Rattle.wire.specs.Message.{Answer, given, refused, Message}
+use Rattle.wire.specs.Description.{Description}
+use Rattle.wire.specs.Refusals.{refused, given, Answer}
 use Rattle.navigation.specs.declared.dops.Dops.{Dops}
 use Rattle.navigation.specs.declared.dops.DopsRead.{DopsRead}
 use Rattle.navigation.specs.declared.dops.DopsRead.the-variants.{Record, Refused}
 
-abbrev pub dops : Message Dops
+abbrev pub dops : Description Dops
 dops = record {
   kind = 0x0206;
   fields = any u32 ∷ any u16 ∷ any u16 ∷ any u16 ∷ any u16 ∷ any u16 ∷ [];

@@ -3,13 +3,14 @@ use mathlib.Core.Path.{refl}
 use mathlib.Core.List.{[], _∷_}
 use mir.Syntax.{w8}
 use Rattle.wire.specs.Field.{any, ranged, u8, u16, u32, s32}
-use Rattle.wire.specs.Message.{Answer, given, refused, Message}
+use Rattle.wire.specs.Description.{Description}
+use Rattle.wire.specs.Refusals.{refused, given, Answer}
 use Rattle.navigation.specs.Range.{fixUpTo}
 use Rattle.navigation.specs.declared.ecef.EcefVector.{EcefVector}
 use Rattle.navigation.specs.declared.ecef.EcefVectorRead.{EcefVectorRead}
 use Rattle.navigation.specs.declared.ecef.EcefVectorRead.the-variants.{Record, Refused}
 
-abbrev pub baselineEcef : Message EcefVector
+abbrev pub baselineEcef : Description EcefVector
 baselineEcef = record {
   kind = 0x0202;
   fields = any u32 ∷ any s32 ∷ any s32 ∷ any s32 ∷ any u16 ∷ any u8 ∷ ranged w8 (fixUpTo 1) ∷ [];
@@ -20,7 +21,7 @@ baselineEcef = record {
 }
 
 -- record and row as above
-abbrev pub velEcef : Message EcefVector
+abbrev pub velEcef : Description EcefVector
 velEcef = record {
   kind = 0x0204;
   fields = any u32 ∷ any s32 ∷ any s32 ∷ any s32 ∷ any u16 ∷ any u8 ∷ any u8 ∷ [];

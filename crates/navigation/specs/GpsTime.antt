@@ -3,13 +3,14 @@ use mathlib.Core.Path.{refl}
 use mathlib.Core.List.{[], _∷_}
 use mir.Syntax.{w32}
 use Rattle.wire.specs.Field.{any, rangedSigned, u8, u16, u32}
-use Rattle.wire.specs.Message.{Answer, given, refused, Message}
+use Rattle.wire.specs.Description.{Description}
+use Rattle.wire.specs.Refusals.{refused, given, Answer}
 use Rattle.navigation.specs.Range.{inNs}
 use Rattle.navigation.specs.declared.gps_time.GpsTime.{GpsTime}
 use Rattle.navigation.specs.declared.gps_time.GpsTimeRead.{GpsTimeRead}
 use Rattle.navigation.specs.declared.gps_time.GpsTimeRead.the-variants.{Record, Refused}
 
-abbrev pub gpsTime : Message GpsTime
+abbrev pub gpsTime : Description GpsTime
 gpsTime = record {
   kind = 0x0100;
   fields = any u16 ∷ any u32 ∷ rangedSigned w32 inNs ∷ any u8 ∷ [];

@@ -3,13 +3,14 @@ use mathlib.Core.Path.{refl}
 use mathlib.Core.List.{[], _∷_}
 use mir.Syntax.{w8}
 use Rattle.wire.specs.Field.{any, ranged, u8, u32}
-use Rattle.wire.specs.Message.{Answer, given, refused, Message}
+use Rattle.wire.specs.Description.{Description}
+use Rattle.wire.specs.Refusals.{refused, given, Answer}
 use Rattle.navigation.specs.Range.{fixUpTo}
 use Rattle.navigation.specs.declared.heading.BaselineHeading.{BaselineHeading}
 use Rattle.navigation.specs.declared.heading.BaselineHeadingRead.{BaselineHeadingRead}
 use Rattle.navigation.specs.declared.heading.BaselineHeadingRead.the-variants.{Record, Refused}
 
-abbrev pub baselineHeading : Message BaselineHeading
+abbrev pub baselineHeading : Description BaselineHeading
 baselineHeading = record {
   kind = 0x0207;
   fields = any u32 ∷ any u32 ∷ any u8 ∷ ranged w8 (fixUpTo 1) ∷ [];

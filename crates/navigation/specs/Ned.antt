@@ -3,13 +3,14 @@ use mathlib.Core.Path.{refl}
 use mathlib.Core.List.{[], _∷_}
 use mir.Syntax.{w8}
 use Rattle.wire.specs.Field.{any, ranged, u8, u16, u32, s32}
-use Rattle.wire.specs.Message.{Answer, given, refused, Message}
+use Rattle.wire.specs.Description.{Description}
+use Rattle.wire.specs.Refusals.{refused, given, Answer}
 use Rattle.navigation.specs.Range.{fixUpTo}
 use Rattle.navigation.specs.declared.ned.NedVector.{NedVector}
 use Rattle.navigation.specs.declared.ned.NedVectorRead.{NedVectorRead}
 use Rattle.navigation.specs.declared.ned.NedVectorRead.the-variants.{Record, Refused}
 
-abbrev pub baselineNed : Message NedVector
+abbrev pub baselineNed : Description NedVector
 baselineNed = record {
   kind = 0x0203;
   fields = any u32 ∷ any s32 ∷ any s32 ∷ any s32 ∷ any u16 ∷ any u16 ∷ any u8 ∷ ranged w8 (fixUpTo 1) ∷ [];
@@ -20,7 +21,7 @@ baselineNed = record {
 }
 
 -- record and row as above
-abbrev pub velNed : Message NedVector
+abbrev pub velNed : Description NedVector
 velNed = record {
   kind = 0x0205;
   fields = any u32 ∷ any s32 ∷ any s32 ∷ any s32 ∷ any u16 ∷ any u16 ∷ any u8 ∷ any u8 ∷ [];

@@ -3,13 +3,14 @@ use mathlib.Core.Path.{refl}
 use mathlib.Core.List.{[], _∷_}
 use mir.Syntax.{w8}
 use Rattle.wire.specs.Field.{any, ranged, u8, u16, u32, double}
-use Rattle.wire.specs.Message.{Answer, given, refused, Message}
+use Rattle.wire.specs.Description.{Description}
+use Rattle.wire.specs.Refusals.{refused, given, Answer}
 use Rattle.navigation.specs.Range.{fixUpTo}
 use Rattle.navigation.specs.declared.pos_ecef.PosEcef.{PosEcef}
 use Rattle.navigation.specs.declared.pos_ecef.PosEcefRead.{PosEcefRead}
 use Rattle.navigation.specs.declared.pos_ecef.PosEcefRead.the-variants.{Record, Refused}
 
-abbrev pub posEcef : Message PosEcef
+abbrev pub posEcef : Description PosEcef
 posEcef = record {
   kind = 0x0200;
   fields = any u32 ∷ any double ∷ any double ∷ any double ∷ any u16 ∷ any u8 ∷ ranged w8 (fixUpTo 2) ∷ [];

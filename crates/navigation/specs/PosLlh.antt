@@ -3,13 +3,14 @@ use mathlib.Core.Path.{refl}
 use mathlib.Core.List.{[], _∷_}
 use mir.Syntax.{w8}
 use Rattle.wire.specs.Field.{any, ranged, u8, u16, u32, double}
-use Rattle.wire.specs.Message.{Answer, given, refused, Message}
+use Rattle.wire.specs.Description.{Description}
+use Rattle.wire.specs.Refusals.{refused, given, Answer}
 use Rattle.navigation.specs.Range.{fixUpTo}
 use Rattle.navigation.specs.declared.pos_llh.PosLlh.{PosLlh}
 use Rattle.navigation.specs.declared.pos_llh.PosLlhRead.{PosLlhRead}
 use Rattle.navigation.specs.declared.pos_llh.PosLlhRead.the-variants.{Record, Refused}
 
-abbrev pub posLlh : Message PosLlh
+abbrev pub posLlh : Description PosLlh
 posLlh = record {
   kind = 0x0201;
   fields = any u32 ∷ any double ∷ any double ∷ any double ∷ any u16 ∷ any u16 ∷ any u8 ∷ ranged w8 (fixUpTo 2) ∷ [];

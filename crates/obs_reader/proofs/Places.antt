@@ -9,7 +9,7 @@ use native.Mathlib.Omega.{arith}
 use lib.Dec.{ltb}
 use lib.ListN.{length}
 use borrow.Author.Tests.{ltb-true, ltb-false}
-use Rattle.wire.specs.Message.{Answer, given, refused}
+use Rattle.wire.specs.Refusals.{refused, given, Answer}
 use Rattle.wire.proofs.Answers.{never-both}
 use Rattle.observation.specs.Layout.{first, fitting, countIn}
 use Rattle.observation.specs.Obs.{readEntry}

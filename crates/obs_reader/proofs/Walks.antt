@@ -7,7 +7,7 @@ use Prim.Native.Nat.{ℕ, zero, suc, _+_}
 use native.Mathlib.Nat.{zero-add, suc-add}
 use native.Mathlib.Omega.{arith}
 use lib.ListN.{length, replicate}
-use Rattle.wire.specs.Message.{given, refused}
+use Rattle.wire.specs.Refusals.{refused, given}
 use Rattle.observation.specs.Layout.{first, fitting, countIn}
 use Rattle.observation.specs.Obs.{entryAt, readEntry, entriesFrom}
 use Rattle.observation.proofs.Payloads.{entry-22, entry-25, entry-given, length-entries}

@@ -6,7 +6,7 @@ use Prim.Native.Nat.{ℕ, _+_, _≤_, _<_}
 use native.Mathlib.Omega.{arith}
 use lib.ListN.{length, getD, replicate}
 use Rattle.wire.specs.Field.{HeldRow}
-use Rattle.wire.specs.Message.{given, refused}
+use Rattle.wire.specs.Refusals.{refused, given}
 use Rattle.observation.specs.Obs.{Head, observation, obsPayload}
 use Rattle.observation.specs.declared.entry.Observation.{Observation}
 use Rattle.observation.proofs.Payloads.{count-payload, fitting-payload, reads-entries}

@@ -2,7 +2,7 @@
 use Prim.Native.Nat.{ℕ, _+_}
 use mathlib.Core.List.{List}
 use denote.Ref.{now}
-use Rattle.wire.specs.Message.{Answer, given, refused}
+use Rattle.wire.specs.Refusals.{refused, given, Answer}
 use Rattle.observation.specs.Obs.{readEntry}
 use Rattle.observation.specs.declared.entry.Observation.{Observation}
 use Rattle.obs_reader.specs.declared.ObsReader.{ObsReader}

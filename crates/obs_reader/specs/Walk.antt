@@ -4,7 +4,7 @@ use mathlib.Core.Path.{_≡_}
 use mathlib.Core.Bool.{cond}
 use mathlib.Core.List.{List, [], _∷_}
 use lib.ListN.{length}
-use Rattle.wire.specs.Message.{Answer, refused}
+use Rattle.wire.specs.Refusals.{refused, Answer}
 use Rattle.observation.specs.Layout.{first, fitting, countIn}
 use Rattle.observation.specs.Obs.{readEntry, entriesFrom}
 use Rattle.observation.specs.declared.entry.Observation.{Observation}

@@ -6,7 +6,7 @@ use Prim.Native.Nat.{ℕ, _≤_, _<_}
 use lib.Dec.{lit<}
 use lib.ListN.{length, getD}
 use Rattle.wire.specs.Field.{HeldRow}
-use Rattle.wire.specs.Message.{given}
+use Rattle.wire.specs.Refusals.{given}
 use Rattle.frames.specs.Step.{stepAt, payloadIn}
 use Rattle.frames.specs.declared.step.Frame.{Frame}
 use Rattle.frames.specs.declared.step.Step.the-variants.{Found}

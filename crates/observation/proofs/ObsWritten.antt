@@ -9,11 +9,11 @@ use lib.ListN.{length, getD, take}
 use lib.Seq.{sets, getD-take, length-take-le}
 use borrow.Author.Tests.{le-leb, lt-leb, leb-true, leb-false}
 use Rattle.wire.specs.Field.{HeldRow, encode, rowStored}
-use Rattle.wire.specs.Message.{Answer, given, refused}
+use Rattle.wire.specs.Refusals.{refused, given, Answer}
 use Rattle.wire.proofs.Answers.{never-both}
 use Rattle.wire.proofs.Numbers.{sets-append}
 use Rattle.wire.proofs.Fields.{length-encode, row-sets}
-use Rattle.frames.specs.Writer.{planned, sealed, framed}
+use Rattle.frames.specs.Writer.{planned, sealed, withFrame}
 use Rattle.frames.proofs.WrittenPlan as plans
 use Rattle.frames.proofs.Written.{writes, framed-unfit}
 use Rattle.observation.specs.Layout.{first, startOf, rowsBytes}
@@ -67,7 +67,7 @@ module _ (sender : ℕ) (o : Obs) (entries : List Observation) (buf : List ℕ) 
   unfolding obsWritten
   wrote-31 many = (sym (answer-31 o (length buf) many), rw (lt-leb (o .count) 15 many))
 
-  frame-written : o .count ≤ 15 → obsWritten sender o entries buf ≡ framed (first .kind) sender (payloadFor o entries) buf
+  frame-written : o .count ≤ 15 → obsWritten sender o entries buf ≡ withFrame (first .kind) sender (payloadFor o entries) buf
   unfolding obsWritten
   frame-written few = rw (le-leb (o .count) 15 few)
 
@@ -104,7 +104,7 @@ module _ (sender : ℕ) (o : Obs) (entries : List Observation) (buf : List ℕ) 
 
 module _ (sender : ℕ) (o : Obs) (entries : List Observation) (buf : List ℕ) (enough : o .count ≤ length entries) {n : ℕ} (g : obsWriteAnswer o (length buf) ≡ given n) where
   -- the buffer begins with the payload's frame, for which there is room
-  pub obs-framed : obsWritten sender o entries buf ≡ framed (first .kind) sender (payloadFor o entries) buf
+  pub obs-framed : obsWritten sender o entries buf ≡ withFrame (first .kind) sender (payloadFor o entries) buf
   obs-framed = frame-written sender o entries buf (written-when o (length buf) g .0)
 
   pub obs-fits : (length (payloadFor o entries) ≤ 255) × (length (payloadFor o entries) + 8 ≤ length buf)

@@ -10,17 +10,17 @@ use lib.ListN.{length, getD, take, drop, length-append, length-drop}
 use lib.Seq.{take-at, drop-at, drop-drop, take-add, length-take-le, drop-append-add, ext-getD}
 use Rattle.wire.specs.Number.{Bytes}
 use Rattle.wire.specs.Field.{HeldRow, SettledRow, size, encode, decode}
-use Rattle.wire.specs.Message.{Message}
+use Rattle.wire.specs.Description.{Description}
 use Rattle.wire.proofs.Numbers.{bytes-take, bytes-drop}
 use Rattle.wire.proofs.Fields.{again-settled, length-encode, decode-encode, encode-decode}
 use Rattle.observation.specs.Layout.{Layout, fitting, countIn, startOf, rowAt, rowsFrom, rowsBytes}
 use Rattle.observation.proofs.Layouts.{count, fits}
 
 -- a record that comes back whole: its type holds it, and its own bits stand for it
-abbrev Kept : {R : Type 0} → Message R → R → Type 0
+abbrev Kept : {R : Type 0} → Description R → R → Type 0
 Kept m r = HeldRow (m .fields) (m .row r) × SettledRow (m .fields) (m .row r)
 
-module _ {R : Type 0} (l : Layout) (m : Message R) (sized : size (m .fields) ≡ l .each) where
+module _ {R : Type 0} (l : Layout) (m : Description R) (sized : size (m .fields) ≡ l .each) where
   -- ---- written
 
   one-length : (r : R) → length (encode (m .fields) (m .row r)) ≡ l .each

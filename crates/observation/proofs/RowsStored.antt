@@ -9,13 +9,13 @@ use native.Mathlib.Omega.{arith}
 use lib.ListN.{length, getD, take, drop, length-drop, drop-of-length-le}
 use lib.Seq.{sets, drop-cons, getD-take, length-take-le, length-sets}
 use Rattle.wire.specs.Field.{Row, size, encode, rowStored}
-use Rattle.wire.specs.Message.{Message}
+use Rattle.wire.specs.Description.{Description}
 use Rattle.wire.proofs.Numbers.{sets-append, sets-lent}
 use Rattle.wire.proofs.Fields.{length-encode, row-sets}
 use Rattle.observation.specs.Layout.{rowsBytes}
 
 -- where row i goes, the first at some place
-abbrev rowPlace : {R : Type 0} → Message R → ℕ → ℕ → ℕ
+abbrev rowPlace : {R : Type 0} → Description R → ℕ → ℕ → ℕ
 rowPlace m at i = at + i * size (m .fields)
 
 -- what is lent of a buffer from n on, and the buffer once that has come back as t
@@ -26,12 +26,12 @@ abbrev backFrom : ℕ → List ℕ → List ℕ → List ℕ
 backFrom n buf t = take n buf ++ (t ++ drop (length buf - n) (drop n buf))
 
 -- buf is what start has become once i of the first k rows are stored from at on: those left, stored from there on, make what all k make of start
-pub record Stored {R : Type 0} (m : Message R) (at : ℕ) (start : List ℕ) (rs : List R) (k : ℕ) (buf : List ℕ) (i : ℕ) : Type 0 where
+pub record Stored {R : Type 0} (m : Description R) (at : ℕ) (start : List ℕ) (rs : List R) (k : ℕ) (buf : List ℕ) (i : ℕ) : Type 0 where
   pub enough : k ≤ length rs
   pub room : at + k * size (m .fields) ≤ length start
   pub left : sets buf (rowPlace m at i) (rowsBytes m (drop i (take k rs))) ≡ sets start at (rowsBytes m (take k rs))
 
-module _ {R : Type 0} {m : Message R} {at : ℕ} {start : List ℕ} {rs : List R} {k : ℕ} where
+module _ {R : Type 0} {m : Description R} {at : ℕ} {start : List ℕ} {rs : List R} {k : ℕ} where
   pub stored-none : k ≤ length rs → at + k * size (m .fields) ≤ length start → Stored m at start rs k start 0
   stored-none enough room = record { enough = enough; room = room; left = rw (zero-mul, add-zero) }
 

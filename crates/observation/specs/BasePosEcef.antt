@@ -2,12 +2,13 @@
 use mathlib.Core.Path.{refl}
 use mathlib.Core.List.{[], _∷_}
 use Rattle.wire.specs.Field.{any, double}
-use Rattle.wire.specs.Message.{Answer, given, refused, Message}
+use Rattle.wire.specs.Description.{Description}
+use Rattle.wire.specs.Refusals.{refused, given, Answer}
 use Rattle.observation.specs.declared.base_pos_ecef.BasePosEcef.{BasePosEcef}
 use Rattle.observation.specs.declared.base_pos_ecef.BasePosEcefRead.{BasePosEcefRead}
 use Rattle.observation.specs.declared.base_pos_ecef.BasePosEcefRead.the-variants.{Record, Refused}
 
-abbrev pub basePosEcef : Message BasePosEcef
+abbrev pub basePosEcef : Description BasePosEcef
 basePosEcef = record {
   kind = 0x0048;
   fields = any double ∷ any double ∷ any double ∷ [];

@@ -2,12 +2,13 @@
 use mathlib.Core.Path.{refl}
 use mathlib.Core.List.{[], _∷_}
 use Rattle.wire.specs.Field.{any, double}
-use Rattle.wire.specs.Message.{Answer, given, refused, Message}
+use Rattle.wire.specs.Description.{Description}
+use Rattle.wire.specs.Refusals.{refused, given, Answer}
 use Rattle.observation.specs.declared.base_pos_llh.BasePosLlh.{BasePosLlh}
 use Rattle.observation.specs.declared.base_pos_llh.BasePosLlhRead.{BasePosLlhRead}
 use Rattle.observation.specs.declared.base_pos_llh.BasePosLlhRead.the-variants.{Record, Refused}
 
-abbrev pub basePosLlh : Message BasePosLlh
+abbrev pub basePosLlh : Description BasePosLlh
 basePosLlh = record {
   kind = 0x0044;
   fields = any double ∷ any double ∷ any double ∷ [];

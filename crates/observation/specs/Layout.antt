@@ -6,7 +6,7 @@ use mathlib.Core.List.{List, [], _∷_, _++_}
 use lib.Dec.{leb, eqb}
 use lib.ListN.{take, drop}
 use Rattle.wire.specs.Field.{encode, decode}
-use Rattle.wire.specs.Message.{Message}
+use Rattle.wire.specs.Description.{Description}
 
 pub record Layout : Type 0 where
   pub kind : ℕ
@@ -31,15 +31,15 @@ abbrev pub startOf : Layout → ℕ → ℕ
 startOf l i = l .head + i * l .each
 
 -- row i of a payload
-abbrev pub rowAt : {R : Type 0} → Layout → Message R → List ℕ → ℕ → R
+abbrev pub rowAt : {R : Type 0} → Layout → Description R → List ℕ → ℕ → R
 rowAt l m s i = m .make (decode (m .fields) (take (l .each) (drop (startOf l i) s)) 0)
 
 -- n rows of a payload from the ith on
-abbrev pub rowsFrom : {R : Type 0} → Layout → Message R → ℕ → ℕ → List ℕ → List R
+abbrev pub rowsFrom : {R : Type 0} → Layout → Description R → ℕ → ℕ → List ℕ → List R
 rowsFrom l m zero i s = []
 rowsFrom l m (suc n) i s = rowAt l m s i ∷ rowsFrom l m n (suc i) s
 
 -- the bytes of some rows, one after the other
-abbrev pub rowsBytes : {R : Type 0} → Message R → List R → List ℕ
+abbrev pub rowsBytes : {R : Type 0} → Description R → List R → List ℕ
 rowsBytes m [] = []
 rowsBytes m (r ∷ rs) = encode (m .fields) (m .row r) ++ rowsBytes m rs

@@ -6,7 +6,8 @@ use mathlib.Core.List.{List, [], _∷_, _++_}
 use lib.Dec.{ltb}
 use lib.ListN.{length}
 use Rattle.wire.specs.Field.{any, u8, u16, u32, s32, encode, decode}
-use Rattle.wire.specs.Message.{Answer, given, refused, Message}
+use Rattle.wire.specs.Description.{Description}
+use Rattle.wire.specs.Refusals.{refused, given, Answer}
 use Rattle.observation.specs.Layout.{first, fitting, countIn, rowAt, rowsFrom, rowsBytes}
 use Rattle.observation.specs.declared.entry.Observation.{Observation}
 use Rattle.observation.specs.declared.entry.ObservationRead.{ObservationRead}
@@ -22,7 +23,7 @@ pub record Head : Type 0 where
   pub wn : ℕ
   pub nObs : ℕ
 
-abbrev pub head : Message Head
+abbrev pub head : Description Head
 head = record {
   kind = first .kind;
   fields = any u32 ∷ any u16 ∷ any u8 ∷ [];
@@ -34,7 +35,7 @@ head = record {
 
 -- ---- one observation
 
-abbrev pub observation : Message Observation
+abbrev pub observation : Description Observation
 observation = record {
   kind = first .kind;
   fields = any u32 ∷ any s32 ∷ any u8 ∷ any u8 ∷ any u16 ∷ any u16 ∷ any u8 ∷ any u8 ∷ [];

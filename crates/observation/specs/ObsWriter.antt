@@ -4,8 +4,8 @@ use mathlib.Core.Bool.{cond}
 use mathlib.Core.List.{List}
 use lib.Dec.{leb}
 use lib.ListN.{length, take}
-use Rattle.wire.specs.Message.{Answer, refused}
-use Rattle.frames.specs.Writer.{planned, framed}
+use Rattle.wire.specs.Refusals.{refused, Answer}
+use Rattle.frames.specs.Writer.{planned, withFrame}
 use Rattle.frames.specs.declared.step.Frame.{Frame}
 use Rattle.observation.specs.Layout.{first, startOf}
 use Rattle.observation.specs.Obs.{Head, obsPayload}
@@ -28,4 +28,4 @@ unfoldable pub obsWriteAnswer : Obs → ℕ → Answer ℕ
 obsWriteAnswer o room = cond (leb (o .count) (first .most)) (planned (startOf first (o .count)) room) (refused 31)
 
 unfoldable pub obsWritten : ℕ → Obs → List Observation → List ℕ → List ℕ
-obsWritten sender o entries buf = cond (leb (o .count) (first .most)) (framed (first .kind) sender (payloadFor o entries) buf) buf
+obsWritten sender o entries buf = cond (leb (o .count) (first .most)) (withFrame (first .kind) sender (payloadFor o entries) buf) buf

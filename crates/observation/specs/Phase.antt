@@ -3,7 +3,7 @@ use Prim.Native.Nat.{_-_, _/_, _%_}
 use mathlib.Core.Bool.{Bool, _&&_, cond}
 use lib.IntN.{ℤ, pos, negsuc, negℤ, _+ℤ_, _*ℤ_}
 use lib.Signed.{leZ}
-use Rattle.wire.specs.Message.{Answer, given, refused}
+use Rattle.wire.specs.Refusals.{refused, given, Answer}
 use Rattle.observation.specs.declared.phase.Phase.{Phase}
 use Rattle.observation.specs.declared.phase.PhaseParts.{PhaseParts}
 use Rattle.observation.specs.declared.phase.PhaseParts.the-variants.{Parts, Refused}

@@ -2,9 +2,9 @@
 ghost use mathlib.Core.Path.{_≡_};
 ghost use lib.ListN.{length};
 ghost use Rattle.wire.specs.Field.{decode, rowStored};
-ghost use Rattle.wire.specs.Message.{readAs};
+ghost use Rattle.wire.specs.Description.{readAs};
 ghost use Rattle.frames.specs.Writer.{senderOf, writtenAnswer};
-ghost use Rattle.frames.specs.Message.{writeAnswer, writtenAs};
+ghost use Rattle.frames.specs.Faithful.{writeAnswer, writtenAs};
 ghost use Rattle.observation.specs.BasePosLlh.{basePosLlh, answerOf};
 use frames::Sender;
 use frames::Written;

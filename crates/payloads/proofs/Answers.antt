@@ -7,8 +7,9 @@ use Prim.Native.Nat.{ℕ}
 use lib.Dec.{eqb}
 use lib.ListN.{length}
 use Rattle.wire.specs.Field.{Row, size, decode, allowedRow}
-use Rattle.wire.specs.Message.{given, refused, readAs}
-use Rattle.wire.specs.Message as wire
+use Rattle.wire.specs.Description.{readAs}
+use Rattle.wire.specs.Refusals.{refused, given}
+use Rattle.wire.specs.Description as wire
 use Rattle.navigation.specs.Dops.{dops}
 use Rattle.navigation.specs.Ecef.{baselineEcef, velEcef}
 use Rattle.navigation.specs.GpsTime.{gpsTime}
@@ -37,11 +38,11 @@ behind name r false u = refl
 behind name r true false = refl
 behind name r true true = refl
 
-module _ {R : Type 0} (m : wire.Message R) (name : R → Message) (ranges : R → Bool) where
+module _ {R : Type 0} (m : wire.Description R) (name : R → Message) (ranges : R → Bool) where
   -- a line with the message's type, length and ranges reads as the message's reader
   by-line : ((v : Row (m .fields)) → allowedRow (m .fields) v ≡ ranges (m .make v) && true) → (s : List ℕ)
       → readLine (line (m .kind) (exactly (size (m .fields))) (inside m) ranges name) s ≡ named name (readAs m s)
-  unfolding readLine wire.judged readAs
+  unfolding readLine readAs
   by-line same s =
       rw (same (decode (m .fields) s 0) ∙ and-true (ranges (inside m s)))
       (behind name (inside m s) (eqb (length s) (size (m .fields))) (ranges (inside m s)))

@@ -4,7 +4,7 @@ use mathlib.Core.Path.{_≡_, refl, sym, ap, _∙_}
 use mathlib.Core.List.{List, [], _∷_}
 use Prim.Native.Nat.{ℕ}
 use borrow.Author.Tests.{ne-eqb}
-use Rattle.wire.specs.Message.{Answer, refused}
+use Rattle.wire.specs.Refusals.{refused, Answer}
 use Rattle.payloads.specs.Table.{named, Line, lookUp, readFor}
 use Rattle.payloads.specs.declared.Message.{Message}
 

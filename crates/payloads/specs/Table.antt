@@ -6,8 +6,8 @@ use mathlib.Core.List.{List, [], _∷_}
 use lib.Dec.{eqb}
 use lib.ListN.{length}
 use Rattle.wire.specs.Field.{decode}
-use Rattle.wire.specs.Message.{Answer, given, refused}
-use Rattle.wire.specs.Message as wire
+use Rattle.wire.specs.Refusals.{refused, given, Answer}
+use Rattle.wire.specs.Description as wire
 use Rattle.navigation.specs.Dops.{dops}
 use Rattle.navigation.specs.Ecef.{baselineEcef, velEcef}
 use Rattle.navigation.specs.GpsTime.{gpsTime}
@@ -54,7 +54,7 @@ abbrev pub exactly : ℕ → ℕ → Bool
 exactly n k = eqb k n
 
 -- the record in a payload, field after field
-abbrev pub inside : {R : Type 0} → wire.Message R → List ℕ → R
+abbrev pub inside : {R : Type 0} → wire.Description R → List ℕ → R
 inside m s = m .make (decode (m .fields) s 0)
 
 -- no range

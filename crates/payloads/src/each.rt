@@ -1,6 +1,6 @@
 // One message each: the typed reader's answer under the message's name.
 ghost use mathlib.Core.Path.{_≡_};
-ghost use Rattle.wire.specs.Message.{readAs};
+ghost use Rattle.wire.specs.Description.{readAs};
 ghost use Rattle.navigation.specs.Dops.{dops};
 ghost use Rattle.navigation.specs.Ecef.{baselineEcef, velEcef};
 ghost use Rattle.navigation.specs.GpsTime.{gpsTime};

@@ -9,10 +9,10 @@ use lib.ListN.{length, take, drop, length-drop}
 use lib.Seq.{sets, take-all}
 use borrow.Author.Tests.{le-leb, lt-leb}
 use Rattle.wire.specs.Number.{numberAt}
-use Rattle.wire.specs.Message.{given, refused}
+use Rattle.wire.specs.Refusals.{refused, given}
 use Rattle.wire.proofs.Numbers.{number-byte}
 use Rattle.frames.specs.Step.{stepAt, payloadIn}
-use Rattle.frames.specs.Writer.{planned, framed}
+use Rattle.frames.specs.Writer.{planned, withFrame}
 use Rattle.frames.specs.declared.step.Step.the-variants.{Found}
 use Rattle.frames.proofs.WrittenPlan.{fits}
 use Rattle.frames.proofs.WrittenRead.{framed-reads-back, framed-payload-back}
@@ -63,21 +63,21 @@ log-writes-back (b ∷ s) h = ap (λ (x : ℕ). x ∷ s) (sym (number-byte (b �
 
 module _ (sender level : ℕ) (text buf : List ℕ) {n : ℕ} (s : sender < 65536) (g : planned (length (logPayload level text)) (length buf) ≡ given n) where
   -- it is found as its frame
-  pub log-found : stepAt (framed logKind sender (logPayload level text) buf) 0 ≡ Found (logFrame sender level text)
+  pub log-found : stepAt (withFrame logKind sender (logPayload level text) buf) 0 ≡ Found (logFrame sender level text)
   log-found =
       let room = fits (length (logPayload level text)) (length buf) g in
       framed-reads-back logKind sender (logPayload level text) buf (lit< tt) s (room .0) (room .1)
 
-  payload-back : payloadIn (framed logKind sender (logPayload level text) buf) (logFrame sender level text) ≡ logPayload level text
+  payload-back : payloadIn (withFrame logKind sender (logPayload level text) buf) (logFrame sender level text) ≡ logPayload level text
   payload-back =
       let room = fits (length (logPayload level text)) (length buf) g in
       framed-payload-back logKind sender (logPayload level text) buf (lit< tt) s (room .0) (room .1)
 
   -- its payload gives the level and the text back
-  pub log-back : readLog (payloadIn (framed logKind sender (logPayload level text) buf) (logFrame sender level text)) ≡ given (record { level = level; length = length text })
+  pub log-back : readLog (payloadIn (withFrame logKind sender (logPayload level text) buf) (logFrame sender level text)) ≡ given (record { level = level; length = length text })
   log-back =
       let room = fits (length (logPayload level text)) (length buf) g in
       ap readLog payload-back ∙ log-reads-back level text (le-of-suc-le-suc (room .0))
 
-  pub text-back : textIn (payloadIn (framed logKind sender (logPayload level text) buf) (logFrame sender level text)) ≡ text
+  pub text-back : textIn (payloadIn (withFrame logKind sender (logPayload level text) buf) (logFrame sender level text)) ≡ text
   text-back = ap textIn payload-back

@@ -1,7 +1,7 @@
 -- What is promised of each message: the law of frames/proofs/Messages.antt, cited. Assumes nothing.
 use lib.Dec.{lit<}
-use Rattle.frames.specs.Message.{Faithful}
-use Rattle.frames.proofs.Messages.{faithful}
+use Rattle.frames.specs.Faithful.{Faithful}
+use Rattle.frames.proofs.Promised.{faithful}
 use Rattle.system.specs.Empty.{settingsSave, readByIndexDone}
 use Rattle.system.specs.ReadByIndexReq.{readByIndexReq}
 use Rattle.system.specs.Startup.{startup}

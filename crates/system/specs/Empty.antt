@@ -2,18 +2,19 @@
 use Prim.Native.Nat.{ℕ}
 use mathlib.Core.Path.{refl}
 use mathlib.Core.List.{[]}
-use Rattle.wire.specs.Message.{Answer, given, refused, Message}
+use Rattle.wire.specs.Description.{Description}
+use Rattle.wire.specs.Refusals.{refused, given, Answer}
 use Rattle.system.specs.declared.empty.EmptyRead.{EmptyRead}
 use Rattle.system.specs.declared.empty.EmptyRead.the-variants.{Empty, Refused}
 
 -- there is one record with no fields
-abbrev pub empty : ℕ → Message (Unit {0})
+abbrev pub empty : ℕ → Description (Unit {0})
 empty kind = record { kind = kind; fields = []; row = λ r. tt; make = λ v. tt; row-make = λ v. refl; make-row = λ r. refl }
 
-abbrev pub settingsSave : Message (Unit {0})
+abbrev pub settingsSave : Description (Unit {0})
 settingsSave = empty 0x00a1
 
-abbrev pub readByIndexDone : Message (Unit {0})
+abbrev pub readByIndexDone : Description (Unit {0})
 readByIndexDone = empty 0x00a6
 
 abbrev pub emptyAnswer : EmptyRead → Answer (Unit {0})

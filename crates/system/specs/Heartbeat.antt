@@ -2,12 +2,13 @@
 use mathlib.Core.Path.{refl}
 use mathlib.Core.List.{[], _∷_}
 use Rattle.wire.specs.Field.{any, u32}
-use Rattle.wire.specs.Message.{Answer, given, refused, Message}
+use Rattle.wire.specs.Description.{Description}
+use Rattle.wire.specs.Refusals.{refused, given, Answer}
 use Rattle.system.specs.declared.heartbeat.Heartbeat.{Heartbeat}
 use Rattle.system.specs.declared.heartbeat.HeartbeatRead.{HeartbeatRead}
 use Rattle.system.specs.declared.heartbeat.HeartbeatRead.the-variants.{Record, Refused}
 
-abbrev pub heartbeat : Message Heartbeat
+abbrev pub heartbeat : Description Heartbeat
 heartbeat = record {
   kind = 0xffff;
   fields = any u32 ∷ [];

@@ -5,7 +5,7 @@ use mathlib.Core.List.{List, _∷_}
 use lib.Dec.{leb}
 use lib.ListN.{length, drop}
 use Rattle.wire.specs.Number.{numberAt}
-use Rattle.wire.specs.Message.{Answer, given, refused}
+use Rattle.wire.specs.Refusals.{refused, given, Answer}
 use Rattle.frames.specs.declared.step.Frame.{Frame}
 use Rattle.system.specs.declared.log.Log.{Log}
 use Rattle.system.specs.declared.log.LogRead.{LogRead}

@@ -2,12 +2,13 @@
 use mathlib.Core.Path.{refl}
 use mathlib.Core.List.{[], _∷_}
 use Rattle.wire.specs.Field.{any, u16}
-use Rattle.wire.specs.Message.{Answer, given, refused, Message}
+use Rattle.wire.specs.Description.{Description}
+use Rattle.wire.specs.Refusals.{refused, given, Answer}
 use Rattle.system.specs.declared.settings.ReadByIndexReq.{ReadByIndexReq}
 use Rattle.system.specs.declared.settings.ReadByIndexReqRead.{ReadByIndexReqRead}
 use Rattle.system.specs.declared.settings.ReadByIndexReqRead.the-variants.{Record, Refused}
 
-abbrev pub readByIndexReq : Message ReadByIndexReq
+abbrev pub readByIndexReq : Description ReadByIndexReq
 readByIndexReq = record {
   kind = 0x00a2;
   fields = any u16 ∷ [];

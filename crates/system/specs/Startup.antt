@@ -2,12 +2,13 @@
 use mathlib.Core.Path.{refl}
 use mathlib.Core.List.{[], _∷_}
 use Rattle.wire.specs.Field.{any, u32}
-use Rattle.wire.specs.Message.{Answer, given, refused, Message}
+use Rattle.wire.specs.Description.{Description}
+use Rattle.wire.specs.Refusals.{refused, given, Answer}
 use Rattle.system.specs.declared.startup.Startup.{Startup}
 use Rattle.system.specs.declared.startup.StartupRead.{StartupRead}
 use Rattle.system.specs.declared.startup.StartupRead.the-variants.{Record, Refused}
 
-abbrev pub startup : Message Startup
+abbrev pub startup : Description Startup
 startup = record {
   kind = 0xff00;
   fields = any u32 ∷ [];

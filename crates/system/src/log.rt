@@ -2,7 +2,7 @@
 ghost use mathlib.Core.Path.{_≡_};
 ghost use lib.ListN.{length};
 ghost use lib.Seq.{sets};
-ghost use Rattle.frames.specs.Writer.{senderOf, writtenAnswer, planned, framed};
+ghost use Rattle.frames.specs.Writer.{senderOf, writtenAnswer, planned, withFrame};
 ghost use Rattle.system.specs.Log.{logKind, readLog, logAnswer, textIn, logPayload};
 use frames::Sender;
 use frames::Written;
@@ -57,7 +57,7 @@ fn put_log(buf: &mut [u8], level: u8, text: &[u8])
 // A LOG of a level and a text: 31 for a text over 254 bytes, then 32.
 pub fn write_log(buf: &mut [u8], sender: Sender, level: u8, text: &[u8]) -> Written
     ensures { λ w. ⌜ writtenAnswer w ≡ planned (length (logPayload level (now (text .entry)))) (length (now (buf .entry))) ⌝ }
-    ensures { λ _. ⌜ now (buf .exit) ≡ framed logKind (senderOf sender) (logPayload level (now (text .entry))) (now (buf .entry)) ⌝ }
+    ensures { λ _. ⌜ now (buf .exit) ≡ withFrame logKind (senderOf sender) (logPayload level (now (text .entry))) (now (buf .entry)) ⌝ }
 {
     let n = text.len() + 1;
     let answer = frames::plan(n, buf.len());

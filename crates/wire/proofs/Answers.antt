@@ -3,7 +3,7 @@ use mathlib.Core.Path.{_≡_}
 use mathlib.Core.Bool.{Bool, true, false, cond}
 use Prim.Native.Nat.{ℕ}
 use native.Mathlib.Omega.{arith}
-use Rattle.wire.specs.Message.{Answer, given, refused}
+use Rattle.wire.specs.Refusals.{refused, given, Answer}
 
 -- ---- told apart
 

@@ -14,7 +14,7 @@ use mir.Syntax.{Width, w8, w16, w32, w64, w128}
 use mir.Val.{bits, hbits, SFits, toZ, ofZ}
 use mir.ValLaws.{toZ-ofZ, ofZ-toZ, ofZ-fits}
 use Rattle.wire.specs.Number.{Bytes, little, bytesOf, numberAt, storedAt}
-use Rattle.wire.specs.Field.{Kind, unsigned, signed, double, width, Value, Held, bitsOf, valueOf, valueAt, valueStored, Field, any, ranged, rangedSigned, kindOf, allowed, Row, HeldRow, SettledRow, Settled, allowedRow, rowBits, size, encode, decode, rowStored}
+use Rattle.wire.specs.Field.{Format, unsigned, signed, double, width, Value, Held, bitsOf, valueOf, valueAt, valueStored, Field, any, ranged, rangedSigned, formatOf, allowed, Row, HeldRow, SettledRow, Settled, allowedRow, rowBits, size, encode, decode, rowStored}
 use Rattle.wire.proofs.Numbers.{bytes-take, bytes-drop, little-lt, number-lt, length-bytesOf, little-bytesOf, bytesOf-little, stored-sets, length-stored, sets-append}
 use Rattle.wire.proofs.Doubles.{bits-doubleOf, doubleBits-lt}
 
@@ -28,13 +28,13 @@ places w64 = refl
 places w128 = refl
 
 -- a value's bits fit its bytes
-bits-lt : (k : Kind) (v : Value k) → Held k v → bitsOf k v < 256 ^ width k
+bits-lt : (k : Format) (v : Value k) → Held k v → bitsOf k v < 256 ^ width k
 bits-lt (unsigned w) n h = rw (← places w) (h .fits)
 bits-lt (signed w) z h = rw (← places w) (ofZ-fits w z h .fits)
 bits-lt double d h = doubleBits-lt d (h .0) (h .1)
 
 -- bits that are read come back
-bits-value : (k : Kind) (n : ℕ) → n < 256 ^ width k → bitsOf k (valueOf k n) ≡ n
+bits-value : (k : Format) (n : ℕ) → n < 256 ^ width k → bitsOf k (valueOf k n) ≡ n
 bits-value (unsigned w) n h = refl
 bits-value (signed w) n h = ofZ-toZ w n (record { fits = rw places h })
 bits-value double n h = bits-doubleOf n h
@@ -43,7 +43,7 @@ bits-value double n h = bits-doubleOf n h
 pub signed-settled : (w : Width) (z : ℤ) → SFits w z → Settled (signed w) z
 signed-settled w z h = toZ-ofZ w z h
 
-value-settled : (k : Kind) (n : ℕ) → n < 256 ^ width k → Settled k (valueOf k n)
+value-settled : (k : Format) (n : ℕ) → n < 256 ^ width k → Settled k (valueOf k n)
 value-settled k n h = ap (valueOf k) (bits-value k n h)
 
 -- ---- rows
@@ -51,19 +51,19 @@ value-settled k n h = ap (valueOf k) (bits-value k n h)
 -- a row as it comes back from its bits
 abbrev pub again : (fs : List Field) → Row fs → Row fs
 again [] v = tt
-again (f ∷ fs) v = (valueOf (kindOf f) (bitsOf (kindOf f) (v .0)), again fs (v .1))
+again (f ∷ fs) v = (valueOf (formatOf f) (bitsOf (formatOf f) (v .0)), again fs (v .1))
 
 pub again-bits : (fs : List Field) (v : Row fs) → HeldRow fs v → rowBits fs (again fs v) ≡ rowBits fs v
 again-bits [] v h = refl
 again-bits (f ∷ fs) v h =
-    ap₂ (λ (n : ℕ) (ns : List ℕ). n ∷ ns) (bits-value (kindOf f) (bitsOf (kindOf f) (v .0)) (bits-lt (kindOf f) (v .0) (h .0))) (again-bits fs (v .1) (h .1))
+    ap₂ (λ (n : ℕ) (ns : List ℕ). n ∷ ns) (bits-value (formatOf f) (bitsOf (formatOf f) (v .0)) (bits-lt (formatOf f) (v .0) (h .0))) (again-bits fs (v .1) (h .1))
 
 pub again-settled : (fs : List Field) (v : Row fs) → SettledRow fs v → again fs v ≡ v
 again-settled [] v h = refl
 again-settled (f ∷ fs) v h = λ i. (h .0 i, again-settled fs (v .1) (h .1) i)
 
 -- a range test says the same of the row that comes back
-allowed-again : (f : Field) (v : Value (kindOf f)) → Held (kindOf f) v → allowed f (valueOf (kindOf f) (bitsOf (kindOf f) v)) ≡ allowed f v
+allowed-again : (f : Field) (v : Value (formatOf f)) → Held (formatOf f) v → allowed f (valueOf (formatOf f) (bitsOf (formatOf f) v)) ≡ allowed f v
 allowed-again (any k) v h = refl
 allowed-again (ranged w ok) n h = refl
 allowed-again (rangedSigned w ok) z h = ap ok (toZ-ofZ w z h)
@@ -77,25 +77,25 @@ allowed-again-row (f ∷ fs) v h = ap₂ _&&_ (allowed-again f (v .0) (h .0)) (a
 pub length-encode : (fs : List Field) (v : Row fs) → length (encode fs v) ≡ size fs
 length-encode [] v = refl
 length-encode (f ∷ fs) v =
-    length-append (bytesOf (width (kindOf f)) (bitsOf (kindOf f) (v .0))) (encode fs (v .1))
-    ∙ ap₂ _+_ (length-bytesOf (width (kindOf f)) (bitsOf (kindOf f) (v .0))) (length-encode fs (v .1))
+    length-append (bytesOf (width (formatOf f)) (bitsOf (formatOf f) (v .0))) (encode fs (v .1))
+    ∙ ap₂ _+_ (length-bytesOf (width (formatOf f)) (bitsOf (formatOf f) (v .0))) (length-encode fs (v .1))
 
 -- decoding at an offset is decoding what stands from there on
 abbrev decodeFront : (fs : List Field) → List ℕ → Row fs
 decodeFront [] t = tt
-decodeFront (f ∷ fs) t = (valueOf (kindOf f) (little (take (width (kindOf f)) t)), decodeFront fs (drop (width (kindOf f)) t))
+decodeFront (f ∷ fs) t = (valueOf (formatOf f) (little (take (width (formatOf f)) t)), decodeFront fs (drop (width (formatOf f)) t))
 
 decode-front : (fs : List Field) (s : List ℕ) (at : ℕ) → decode fs s at ≡ decodeFront fs (drop at s)
 unfolding numberAt
 decode-front [] s at = refl
 decode-front (f ∷ fs) s at =
-    ap (λ (r : Row fs). (valueAt (kindOf f) s at, r))
-    (decode-front fs s (at + width (kindOf f)) ∙ ap (decodeFront fs) (sym (drop-drop (width (kindOf f)) at s)))
+    ap (λ (r : Row fs). (valueAt (formatOf f) s at, r))
+    (decode-front fs s (at + width (formatOf f)) ∙ ap (decodeFront fs) (sym (drop-drop (width (formatOf f)) at s)))
 
 front-encode : (fs : List Field) (v : Row fs) → HeldRow fs v → decodeFront fs (encode fs v) ≡ again fs v
 front-encode [] v h = refl
 front-encode (f ∷ fs) v h =
-    let k = kindOf f in
+    let k = formatOf f in
     let bs = bytesOf (width k) (bitsOf k (v .0)) in
     let first : little (take (width k) (bs ++ encode fs (v .1))) ≡ bitsOf k (v .0)
     = ap little (take-at bs (encode fs (v .1)) (width k) (length-bytesOf (width k) (bitsOf k (v .0)))) ∙ little-bytesOf (width k) (bitsOf k (v .0)) (bits-lt k (v .0) (h .0)) in
@@ -111,8 +111,8 @@ front-encoded : (fs : List Field) (t : List ℕ) → Bytes t → length t ≡ si
 front-encoded [] [] h e = refl
 front-encoded [] (b ∷ t) h e = absurd (suc-ne-zero (length t) e)
 front-encoded (f ∷ fs) t h e =
-    let k = kindOf f in
-    let w = width (kindOf f) in
+    let k = formatOf f in
+    let w = width (formatOf f) in
     let whole : length (take w t) ≡ w = length-take-le w t (omega arith) in
     let first : bytesOf w (bitsOf k (valueOf k (little (take w t)))) ≡ take w t
     = ap (bytesOf w) (bits-value k (little (take w t)) (little-lt w t h))
@@ -128,7 +128,7 @@ encode-decode fs s h e = ap (encode fs) (decode-front fs s 0) ∙ front-encoded 
 -- what is decoded is settled
 pub decode-settled : (fs : List Field) (s : List ℕ) (at : ℕ) → Bytes s → SettledRow fs (decode fs s at)
 decode-settled [] s at h = tt
-decode-settled (f ∷ fs) s at h = (value-settled (kindOf f) (numberAt (width (kindOf f)) s at) (number-lt (width (kindOf f)) s at h), decode-settled fs s (at + width (kindOf f)) h)
+decode-settled (f ∷ fs) s at h = (value-settled (formatOf f) (numberAt (width (formatOf f)) s at) (number-lt (width (formatOf f)) s at h), decode-settled fs s (at + width (formatOf f)) h)
 
 -- ---- storing
 
@@ -136,8 +136,8 @@ decode-settled (f ∷ fs) s at h = (value-settled (kindOf f) (numberAt (width (k
 pub row-sets : (fs : List Field) (v : Row fs) (s : List ℕ) (at : ℕ) → at + size fs ≤ length s → rowStored fs v s at ≡ sets s at (encode fs v)
 row-sets [] v s at h = refl
 row-sets (f ∷ fs) v s at h =
-    let w = width (kindOf f) in
-    let n = bitsOf (kindOf f) (v .0) in
+    let w = width (formatOf f) in
+    let n = bitsOf (formatOf f) (v .0) in
     let room : at + w + size fs ≤ length (storedAt w n s at) = rw length-stored (omega arith) in
     row-sets fs (v .1) (storedAt w n s at) (at + w) room
     ∙ ap₂ (λ (t : List ℕ) (i : ℕ). sets t i (encode fs (v .1))) (stored-sets w n s at (omega arith)) (ap (λ (x : ℕ). at + x) (sym (length-bytesOf w n)))
@@ -153,4 +153,4 @@ then-signed v z at h p q = then (bits v / 8) (ofZ v z) at p (rw (toZ-ofZ v z (re
 
 pub length-row : (fs : List Field) (v : Row fs) (s : List ℕ) (at : ℕ) → length (rowStored fs v s at) ≡ length s
 length-row [] v s at = refl
-length-row (f ∷ fs) v s at = length-row fs (v .1) (valueStored (kindOf f) (v .0) s at) (at + width (kindOf f)) ∙ length-stored (width (kindOf f)) (bitsOf (kindOf f) (v .0)) s at
+length-row (f ∷ fs) v s at = length-row fs (v .1) (valueStored (formatOf f) (v .0) s at) (at + width (formatOf f)) ∙ length-stored (width (formatOf f)) (bitsOf (formatOf f) (v .0)) s at

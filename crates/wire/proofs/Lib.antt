@@ -4,5 +4,5 @@ pub mod Doubles
 pub mod Fields
 pub mod Answers
 pub mod Ordered
-pub mod Messages
+pub mod Descriptions
 pub mod Flags

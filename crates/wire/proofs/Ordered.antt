@@ -4,8 +4,7 @@ use mathlib.Core.Bool.{Bool, true, false, cond}
 use mathlib.Core.List.{[], _∷_}
 use mathlib.Core.Logic.{_↔_, inl, inr}
 use Prim.Native.Nat.{ℕ}
-use Rattle.wire.specs.Message.{given, refused}
-use Rattle.wire.specs.Tests.{Tests, ordered, FirstFails, AllPass}
+use Rattle.wire.specs.Refusals.{refused, given, Tests, ordered, FirstFails, AllPass}
 use Rattle.wire.proofs.Answers.{same-given, never-both, same-refused}
 
 module _ {A : Type 0} (x : A) where

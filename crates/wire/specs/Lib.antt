@@ -1,5 +1,5 @@
 pub mod Number
 pub mod Double
 pub mod Field
-pub mod Message
-pub mod Tests
+pub mod Refusals
+pub mod Description

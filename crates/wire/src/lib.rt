@@ -1,5 +1,5 @@
 // Numbers and doubles in bytes, little-endian, and the description of fields that every message is made of.
-// Read specs/Number.antt and specs/Double.antt first, then specs/Field.antt and specs/Message.antt.
+// Read specs/Number.antt and specs/Double.antt first, then specs/Field.antt and specs/Description.antt.
 // Nothing here has a requires: a byte past the end reads 0, a store that runs past the end changes nothing.
 mod bits;
 mod double;

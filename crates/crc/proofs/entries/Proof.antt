@@ -2,12 +2,12 @@
 -- Assumes nothing.
 use mathlib.Core.Path.{refl}
 use Rattle.crc.specs.Crc.{bitStep, bitSteps}
-use Rattle.crc.specs.Table.{listed}
+use Rattle.crc.specs.Table.{tabulated}
 use Rattle.crc.proofs.entries.Statement.{statement}
 use Rattle.crc.proofs.entries.Tie as tie
 
 returns : tie.Need-returns
-unfolding listed bitStep bitSteps
+unfolding tabulated bitStep bitSteps
 returns c = refl
 
 pub entries-spec : {M : Type 1} → statement M

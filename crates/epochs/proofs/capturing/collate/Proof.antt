@@ -4,7 +4,7 @@ use mathlib.Core.Path.{sym, ap, _∙_}
 use borrow.Author.Needs.{needs}
 use lib.ListN.{length}
 use Rattle.frames.proofs.Walks.{Walking, left, left-fewer, never-needs}
-use Rattle.epochs.specs.Epoch.{itemsOf}
+use Rattle.epochs.specs.Epoch.{contentsOf}
 use Rattle.epochs.specs.Capture.{fedAll, collated}
 use Rattle.epochs.specs.declared.capturing.Collated.{Collated}
 use Rattle.epochs.proofs.Captures.{collated-refused, collated-fed, Going, going-begun, going-on, going-end}
@@ -33,7 +33,7 @@ loop-holds : tie.Need-loop-holds Inv-loop μ-loop
 loop-holds c =
     let a = c .before .before .before .before .before .before .before .args in
     let fed = collated-fed (a .s .now) (a .roster .now) (c .before .before .before .before .made .ensures) (c .before .if1 .left) in
-    going-begun (a .s .now) (c .before .before .before .before .before .before .before .good .0 .0) _ _ (fed ∙ ap (λ (t : Collated). fedAll t (itemsOf (a .s .now))) (sym (c .before .before .before .begun .ensures))) (c .closed .ensures)
+    going-begun (a .s .now) (c .before .before .before .before .before .before .before .good .0 .0) _ _ (fed ∙ ap (λ (t : Collated). fedAll t (contentsOf (a .s .now))) (sym (c .before .before .before .begun .ensures))) (c .closed .ensures)
 
 next-requires : tie.Need-next-requires Inv-loop μ-loop
 next-requires c κs = search needs

@@ -1,7 +1,7 @@
 -- `exports::texting::sbp_list` meets its contract: it hands on what the listing answers.
 use mathlib.Core.Path.{ap}
 use Prim.Native.Nat.{ℕ}
-use Rattle.wire.specs.Message.{Answer}
+use Rattle.wire.specs.Refusals.{Answer}
 use Rattle.frames.specs.Writer.{writtenAnswer}
 use Rattle.payloads.specs.Table.{numberOf}
 use Rattle.payloads.proofs.Lines.{as-met}

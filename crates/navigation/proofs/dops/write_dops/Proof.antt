@@ -3,7 +3,7 @@ use mathlib.Core.Path.{refl}
 use borrow.Author.Needs.{needs}
 use Rattle.frames.specs.Writer.{senderOf}
 use Rattle.frames.proofs.WrittenPlan.{told}
-use Rattle.frames.proofs.Messages.{wrote, wrote-nothing}
+use Rattle.frames.proofs.Promised.{wrote, wrote-nothing}
 use Rattle.navigation.specs.Dops.{dops}
 use Rattle.navigation.proofs.dops.write_dops.Statement.{statement}
 use Rattle.navigation.proofs.dops.write_dops.Tie as tie

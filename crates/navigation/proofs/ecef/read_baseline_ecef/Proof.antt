@@ -1,7 +1,7 @@
 -- `navigation::ecef::read_baseline_ecef` meets its contract.
 use mathlib.Core.Path.{sym, _∙_}
 use borrow.Author.Needs.{needs}
-use Rattle.wire.proofs.Messages.{gives-22, gives-23, gives}
+use Rattle.wire.proofs.Descriptions.{gives-22, gives-23, gives}
 use Rattle.navigation.specs.Ecef.{baselineEcef}
 use Rattle.navigation.proofs.ecef.read_baseline_ecef.Statement.{statement}
 use Rattle.navigation.proofs.ecef.read_baseline_ecef.Tie as tie

@@ -1,7 +1,7 @@
 -- `navigation::ecef::read_vel_ecef` meets its contract.
 use mathlib.Core.Path.{refl}
 use borrow.Author.Needs.{needs}
-use Rattle.wire.proofs.Messages.{gives-22, gives}
+use Rattle.wire.proofs.Descriptions.{gives-22, gives}
 use Rattle.navigation.specs.Ecef.{velEcef}
 use Rattle.navigation.proofs.ecef.read_vel_ecef.Statement.{statement}
 use Rattle.navigation.proofs.ecef.read_vel_ecef.Tie as tie

@@ -3,7 +3,7 @@ use mathlib.Core.Path.{refl}
 use borrow.Author.Needs.{needs}
 use Rattle.frames.specs.Writer.{senderOf}
 use Rattle.frames.proofs.WrittenPlan.{told}
-use Rattle.frames.proofs.Messages.{wrote, wrote-nothing}
+use Rattle.frames.proofs.Promised.{wrote, wrote-nothing}
 use Rattle.navigation.specs.Ecef.{velEcef}
 use Rattle.navigation.proofs.ecef.write_vel_ecef.Statement.{statement}
 use Rattle.navigation.proofs.ecef.write_vel_ecef.Tie as tie

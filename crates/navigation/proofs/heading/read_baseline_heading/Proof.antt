@@ -1,7 +1,7 @@
 -- `navigation::heading::read_baseline_heading` meets its contract.
 use mathlib.Core.Path.{sym, _∙_}
 use borrow.Author.Needs.{needs}
-use Rattle.wire.proofs.Messages.{gives-22, gives-23, gives}
+use Rattle.wire.proofs.Descriptions.{gives-22, gives-23, gives}
 use Rattle.navigation.specs.Heading.{baselineHeading}
 use Rattle.navigation.proofs.heading.read_baseline_heading.Statement.{statement}
 use Rattle.navigation.proofs.heading.read_baseline_heading.Tie as tie

@@ -1,7 +1,7 @@
 -- `navigation::ned::read_baseline_ned` meets its contract.
 use mathlib.Core.Path.{sym, _∙_}
 use borrow.Author.Needs.{needs}
-use Rattle.wire.proofs.Messages.{gives-22, gives-23, gives}
+use Rattle.wire.proofs.Descriptions.{gives-22, gives-23, gives}
 use Rattle.navigation.specs.Ned.{baselineNed}
 use Rattle.navigation.proofs.ned.read_baseline_ned.Statement.{statement}
 use Rattle.navigation.proofs.ned.read_baseline_ned.Tie as tie

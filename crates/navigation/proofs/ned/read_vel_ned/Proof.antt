@@ -1,7 +1,7 @@
 -- `navigation::ned::read_vel_ned` meets its contract.
 use mathlib.Core.Path.{refl}
 use borrow.Author.Needs.{needs}
-use Rattle.wire.proofs.Messages.{gives-22, gives}
+use Rattle.wire.proofs.Descriptions.{gives-22, gives}
 use Rattle.navigation.specs.Ned.{velNed}
 use Rattle.navigation.proofs.ned.read_vel_ned.Statement.{statement}
 use Rattle.navigation.proofs.ned.read_vel_ned.Tie as tie

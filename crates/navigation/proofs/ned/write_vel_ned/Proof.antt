@@ -3,7 +3,7 @@ use mathlib.Core.Path.{refl}
 use borrow.Author.Needs.{needs}
 use Rattle.frames.specs.Writer.{senderOf}
 use Rattle.frames.proofs.WrittenPlan.{told}
-use Rattle.frames.proofs.Messages.{wrote, wrote-nothing}
+use Rattle.frames.proofs.Promised.{wrote, wrote-nothing}
 use Rattle.navigation.specs.Ned.{velNed}
 use Rattle.navigation.proofs.ned.write_vel_ned.Statement.{statement}
 use Rattle.navigation.proofs.ned.write_vel_ned.Tie as tie

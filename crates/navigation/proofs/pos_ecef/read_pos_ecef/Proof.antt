@@ -1,7 +1,7 @@
 -- `navigation::pos_ecef::read_pos_ecef` meets its contract.
 use mathlib.Core.Path.{sym, _∙_}
 use borrow.Author.Needs.{needs}
-use Rattle.wire.proofs.Messages.{gives-22, gives-23, gives}
+use Rattle.wire.proofs.Descriptions.{gives-22, gives-23, gives}
 use Rattle.navigation.specs.PosEcef.{posEcef}
 use Rattle.navigation.proofs.pos_ecef.read_pos_ecef.Statement.{statement}
 use Rattle.navigation.proofs.pos_ecef.read_pos_ecef.Tie as tie

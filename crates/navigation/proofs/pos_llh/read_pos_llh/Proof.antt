@@ -1,7 +1,7 @@
 -- `navigation::pos_llh::read_pos_llh` meets its contract.
 use mathlib.Core.Path.{sym, _∙_}
 use borrow.Author.Needs.{needs}
-use Rattle.wire.proofs.Messages.{gives-22, gives-23, gives}
+use Rattle.wire.proofs.Descriptions.{gives-22, gives-23, gives}
 use Rattle.navigation.specs.PosLlh.{posLlh}
 use Rattle.navigation.proofs.pos_llh.read_pos_llh.Statement.{statement}
 use Rattle.navigation.proofs.pos_llh.read_pos_llh.Tie as tie

@@ -3,7 +3,7 @@ use mathlib.Core.Path.{sym, _∙_}
 use borrow.Author.Needs.{needs}
 use Rattle.frames.specs.Writer.{senderOf}
 use Rattle.frames.proofs.WrittenPlan.{told}
-use Rattle.frames.proofs.Messages.{wrote, wrote-nothing, wrote-23}
+use Rattle.frames.proofs.Promised.{wrote, wrote-nothing, wrote-23}
 use Rattle.navigation.specs.PosLlh.{posLlh}
 use Rattle.navigation.proofs.pos_llh.write_pos_llh.Statement.{statement}
 use Rattle.navigation.proofs.pos_llh.write_pos_llh.Tie as tie

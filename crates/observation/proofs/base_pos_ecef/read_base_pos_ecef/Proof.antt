@@ -1,7 +1,7 @@
 -- `observation::base_pos_ecef::read_base_pos_ecef` meets its contract.
 use mathlib.Core.Path.{refl}
 use borrow.Author.Needs.{needs}
-use Rattle.wire.proofs.Messages.{gives-22, gives}
+use Rattle.wire.proofs.Descriptions.{gives-22, gives}
 use Rattle.observation.specs.BasePosEcef.{basePosEcef}
 use Rattle.observation.proofs.base_pos_ecef.read_base_pos_ecef.Statement.{statement}
 use Rattle.observation.proofs.base_pos_ecef.read_base_pos_ecef.Tie as tie

@@ -3,7 +3,7 @@ use mathlib.Core.Path.{refl}
 use borrow.Author.Needs.{needs}
 use Rattle.frames.specs.Writer.{senderOf}
 use Rattle.frames.proofs.WrittenPlan.{told}
-use Rattle.frames.proofs.Messages.{wrote, wrote-nothing}
+use Rattle.frames.proofs.Promised.{wrote, wrote-nothing}
 use Rattle.observation.specs.BasePosEcef.{basePosEcef}
 use Rattle.observation.proofs.base_pos_ecef.write_base_pos_ecef.Statement.{statement}
 use Rattle.observation.proofs.base_pos_ecef.write_base_pos_ecef.Tie as tie

@@ -1,7 +1,7 @@
 -- `observation::base_pos_llh::read_base_pos_llh` meets its contract.
 use mathlib.Core.Path.{refl}
 use borrow.Author.Needs.{needs}
-use Rattle.wire.proofs.Messages.{gives-22, gives}
+use Rattle.wire.proofs.Descriptions.{gives-22, gives}
 use Rattle.observation.specs.BasePosLlh.{basePosLlh}
 use Rattle.observation.proofs.base_pos_llh.read_base_pos_llh.Statement.{statement}
 use Rattle.observation.proofs.base_pos_llh.read_base_pos_llh.Tie as tie

@@ -3,7 +3,7 @@ use mathlib.Core.Path.{refl}
 use borrow.Author.Needs.{needs}
 use Rattle.frames.specs.Writer.{senderOf}
 use Rattle.frames.proofs.WrittenPlan.{told}
-use Rattle.frames.proofs.Messages.{wrote, wrote-nothing}
+use Rattle.frames.proofs.Promised.{wrote, wrote-nothing}
 use Rattle.observation.specs.BasePosLlh.{basePosLlh}
 use Rattle.observation.proofs.base_pos_llh.write_base_pos_llh.Statement.{statement}
 use Rattle.observation.proofs.base_pos_llh.write_base_pos_llh.Tie as tie

@@ -5,7 +5,7 @@ use native.Mathlib.Omega.{arith}
 use lib.ListN.{length, take, drop}
 use borrow.Author.Needs.{needs}
 use Rattle.wire.specs.Field.{decode}
-use Rattle.wire.specs.Message.{given}
+use Rattle.wire.specs.Refusals.{given}
 use Rattle.observation.specs.Layout.{first, startOf}
 use Rattle.observation.specs.Obs.{observation}
 use Rattle.observation.proofs.Layouts.{whole}

@@ -4,7 +4,7 @@ use mathlib.Core.Bool.{true}
 use native.Mathlib.Omega.{arith}
 use lib.ListN.{length}
 use borrow.Author.Needs.{needs}
-use Rattle.wire.specs.Message.{given}
+use Rattle.wire.specs.Refusals.{given}
 use Rattle.observation.specs.Layout.{first, fitting, countIn}
 use Rattle.observation.proofs.Layouts.{whole}
 use Rattle.observation.proofs.Payloads.{obs-22, obs-given}

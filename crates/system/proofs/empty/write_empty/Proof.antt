@@ -2,7 +2,7 @@
 use mathlib.Core.Path.{refl}
 use Rattle.frames.specs.Writer.{senderOf}
 use Rattle.frames.proofs.WrittenPlan.{told}
-use Rattle.frames.proofs.Messages.{wrote, wrote-nothing}
+use Rattle.frames.proofs.Promised.{wrote, wrote-nothing}
 use Rattle.system.specs.Empty.{empty}
 use borrow.Author.Needs.{needs}
 use Rattle.system.proofs.empty.write_empty.Statement.{statement}

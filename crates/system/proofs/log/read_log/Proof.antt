@@ -3,7 +3,7 @@ use mathlib.Core.Path.{sym, _∙_}
 use borrow.Author.Needs.{needs}
 use Prim.Native.Nat.{_-_}
 use lib.ListN.{length}
-use Rattle.wire.specs.Message.{given}
+use Rattle.wire.specs.Refusals.{given}
 use Rattle.system.proofs.Logs.{log-empty, log-long, log-given}
 use Rattle.system.proofs.log.read_log.Statement.{statement}
 use Rattle.system.proofs.log.read_log.Tie as tie

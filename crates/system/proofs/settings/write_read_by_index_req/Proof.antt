@@ -3,7 +3,7 @@ use mathlib.Core.Path.{refl}
 use borrow.Author.Needs.{needs}
 use Rattle.frames.specs.Writer.{senderOf}
 use Rattle.frames.proofs.WrittenPlan.{told}
-use Rattle.frames.proofs.Messages.{wrote, wrote-nothing}
+use Rattle.frames.proofs.Promised.{wrote, wrote-nothing}
 use Rattle.system.specs.ReadByIndexReq.{readByIndexReq}
 use Rattle.system.proofs.settings.write_read_by_index_req.Statement.{statement}
 use Rattle.system.proofs.settings.write_read_by_index_req.Tie as tie

@@ -3,7 +3,7 @@ use mathlib.Core.Path.{refl}
 use borrow.Author.Needs.{needs}
 use Rattle.frames.specs.Writer.{senderOf}
 use Rattle.frames.proofs.WrittenPlan.{told}
-use Rattle.frames.proofs.Messages.{wrote, wrote-nothing}
+use Rattle.frames.proofs.Promised.{wrote, wrote-nothing}
 use Rattle.system.specs.Startup.{startup}
 use Rattle.system.proofs.startup.write_startup.Statement.{statement}
 use Rattle.system.proofs.startup.write_startup.Tie as tie

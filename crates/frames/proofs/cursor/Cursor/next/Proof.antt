@@ -40,10 +40,10 @@ loop-less c =
     let start = c .before .before .before .before .before .before .before .before .before in
     let k = c .before .before .before .before .before .before .loop .c in
     let x = c .before .before .before .before .step-by in
-    let on = passed-on (k .growing) (x .result) (sym (c .before .before .before .passes .ensures) ∙ c .before .before .if1 .taken) in
+    let on = passed-on (k .opened) (x .result) (sym (c .before .before .before .passes .ensures) ∙ c .before .before .if1 .taken) in
     omega (
       arith,
-      comes-further (start .args .s .now) (start .good .1 .0 .0) k (x .ensures) (c .before .over .ensures) (k .growing) on,
+      comes-further (start .args .s .now) (start .good .1 .0 .0) k (x .ensures) (c .before .over .ensures) (k .opened) on,
       past-junk-further (start .args .s .now) (start .good .1 .0 .0) (c .before .over .result) (c .past-junk .ensures),
     )
 

@@ -9,16 +9,16 @@ use lib.ListN.{length}
 use borrow.Author.Tests.{eq-eqb, ne-eqb, eqb-true, eqb-false}
 use Rattle.wire.specs.Number.{Bytes}
 use Rattle.wire.specs.Field.{Row, HeldRow, SettledRow, allowedRow, rowBits, size, encode, decode}
-use Rattle.wire.specs.Message.{Answer, given, refused, Message, judged, readAs}
-use Rattle.wire.specs.Tests.{Tests, FirstFails}
+use Rattle.wire.specs.Description.{Description, readAs}
+use Rattle.wire.specs.Refusals.{refused, given, Answer, Tests, FirstFails}
 use Rattle.wire.proofs.Fields.{again, again-bits, again-settled, allowed-again-row, length-encode, decode-encode, encode-decode, decode-settled}
 use Rattle.wire.proofs.Ordered.{exactly-first, exactly-all}
 
 -- the payload of a record: 23, or its bytes
-unfoldable pub payloadOf : {R : Type 0} → Message R → R → Answer (List ℕ)
+unfoldable pub payloadOf : {R : Type 0} → Description R → R → Answer (List ℕ)
 payloadOf m r = cond (allowedRow (m .fields) (m .row r)) (given (encode (m .fields) (m .row r))) (refused 23)
 
-module _ {R : Type 0} (m : Message R) where
+module _ {R : Type 0} (m : Description R) where
   -- ---- reading, by cases
 
   module _ (s : List ℕ) where
@@ -37,11 +37,11 @@ module _ {R : Type 0} (m : Message R) where
     read-22 e = rw (ne-eqb (length s) (size (m .fields)) e)
 
     read-23 : length s ≡ size (m .fields) → inside ≡ false → readAs m s ≡ refused 23
-    unfolding readAs judged
+    unfolding readAs
     read-23 e a = rw (eq-eqb (length s) (size (m .fields)) e, a)
 
     read-given : length s ≡ size (m .fields) → inside ≡ true → readAs m s ≡ given made
-    unfolding readAs judged
+    unfolding readAs
     read-given e a = rw (eq-eqb (length s) (size (m .fields)) e, a)
 
     abbrev tests : Tests
@@ -49,7 +49,7 @@ module _ {R : Type 0} (m : Message R) where
 
     -- a payload is refused exactly when one of its cases holds, by the first
     pub exactly-22 : (readAs m s ≡ refused 22) ↔ (length s ≡ size (m .fields) → ⊥)
-    unfolding readAs judged
+    unfolding readAs
     exactly-22 = (λ r. only (exactly-first made tests 22 .0 r), read-22)
       where
         only : FirstFails tests 22 → length s ≡ size (m .fields) → ⊥
@@ -58,7 +58,7 @@ module _ {R : Type 0} (m : Message R) where
         only (inr (t, inr f)) = absurd (f .1)
 
     pub exactly-23 : (readAs m s ≡ refused 23) ↔ ((length s ≡ size (m .fields)) × (inside ≡ false))
-    unfolding readAs judged
+    unfolding readAs
     exactly-23 = (λ r. only (exactly-first made tests 23 .0 r), λ c. read-23 (c .0) (c .1))
       where
         only : FirstFails tests 23 → (length s ≡ size (m .fields)) × (inside ≡ false)
@@ -71,7 +71,7 @@ module _ {R : Type 0} (m : Message R) where
     row-made r e = ap (m .row) e ∙ m .row-make (decode (m .fields) s 0)
 
     accepted : (r : R) → readAs m s ≡ given r → (length s ≡ size (m .fields)) × (inside ≡ true) × (m .row r ≡ decode (m .fields) s 0)
-    unfolding readAs judged
+    unfolding readAs
     accepted r g =
         let a = exactly-all made tests r .0 g in
         (eqb-true (length s) (size (m .fields)) (a .0 .0), a .0 .1 .0, row-made r (sym (a .1)))

@@ -1,11 +1,16 @@
--- Tests in order, each with the number of its refusal: the first that fails decides. Document 01, "Order".
+-- What a call answers, and its refusals: tests in order, each with the number of its refusal, of which the first that fails decides.
+-- Document 01, "Numbers given back" and "Order".
 -- Assumes nothing.
 use Prim.Native.Nat.{ℕ}
 use mathlib.Core.Path.{_≡_}
 use mathlib.Core.Bool.{Bool, true, false, cond}
 use mathlib.Core.List.{List, [], _∷_}
 use mathlib.Core.Logic.{_⊎_}
-use Rattle.wire.specs.Message.{Answer, given, refused}
+
+-- what a call answers: what was asked for, or the number of its refusal
+pub data Answer (A : Type 0) : Type 0 where
+  given : A → Answer A
+  refused : ℕ → Answer A
 
 -- what has to be so, and the number of the refusal where it is not
 abbrev pub Tests : Type 0

@@ -7,19 +7,20 @@ use Prim.Native.Nat.{ℕ, _+_, _≤_, _<_}
 use lib.ListN.{length}
 use Rattle.wire.specs.Number.{Bytes}
 use Rattle.wire.specs.Field.{HeldRow, SettledRow, allowedRow, rowBits, size, encode, rowStored}
-use Rattle.wire.specs.Message.{Answer, given, refused, Message, readAs}
+use Rattle.wire.specs.Description.{Description, readAs}
+use Rattle.wire.specs.Refusals.{refused, given, Answer}
 use Rattle.wire.proofs.Fields.{length-encode}
 use Rattle.wire.proofs.Answers.{never-both}
-use Rattle.wire.proofs.Messages.{payload-given, written, writes-back, reads-back, reads-same, exactly-22, exactly-23, read-settled}
+use Rattle.wire.proofs.Descriptions.{payload-given, written, writes-back, reads-back, reads-same, exactly-22, exactly-23, read-settled}
 use Rattle.frames.specs.Step.{stepAt, payloadIn}
-use Rattle.frames.specs.Writer.{planned, sealed, framed}
-use Rattle.frames.specs.Message.{writeAnswer, writtenAs, frameWritten, Faithful}
+use Rattle.frames.specs.Writer.{planned, sealed, withFrame}
+use Rattle.frames.specs.Faithful.{writeAnswer, writtenAs, frameWritten, Faithful}
 use Rattle.frames.specs.declared.step.Step.the-variants.{Found}
 use Rattle.frames.proofs.WrittenPlan.{fits}
 use Rattle.frames.proofs.Written.{framed-unfit, writes-row}
 use Rattle.frames.proofs.WrittenRead.{framed-reads-back, framed-payload-back}
 
-module _ {R : Type 0} (m : Message R) (sender : ℕ) (r : R) (buf : List ℕ) where
+module _ {R : Type 0} (m : Description R) (sender : ℕ) (r : R) (buf : List ℕ) where
   -- what a writer answers, and the buffer as it leaves it
   abbrev pub Wrote : Answer ℕ → List ℕ → Type 0
   Wrote a u = (a ≡ writeAnswer m r (length buf)) × (u ≡ writtenAs m sender r buf)
@@ -48,7 +49,7 @@ module _ {R : Type 0} (m : Message R) (sender : ℕ) (r : R) (buf : List ℕ) wh
 
 -- ---- through the frame
 
-module _ {R : Type 0} (m : Message R) (sender : ℕ) (r : R) (buf : List ℕ) where
+module _ {R : Type 0} (m : Description R) (sender : ℕ) (r : R) (buf : List ℕ) where
   -- a writer that answers a length found the record in its ranges and room for the frame
   written-when : {n : ℕ} → writeAnswer m r (length buf) ≡ given n → (allowedRow (m .fields) (m .row r) ≡ true) × (planned (size (m .fields)) (length buf) ≡ given n)
   unfolding writeAnswer
@@ -58,7 +59,7 @@ module _ {R : Type 0} (m : Message R) (sender : ℕ) (r : R) (buf : List ℕ) wh
       go true e = (e, rw e at g)
       go false e = absurd (never-both {x = n} {n = 23} g (rw e))
 
-  frame-written : allowedRow (m .fields) (m .row r) ≡ true → writtenAs m sender r buf ≡ framed (m .kind) sender (encode (m .fields) (m .row r)) buf
+  frame-written : allowedRow (m .fields) (m .row r) ≡ true → writtenAs m sender r buf ≡ withFrame (m .kind) sender (encode (m .fields) (m .row r)) buf
   unfolding writtenAs
   frame-written e = rw e
 
@@ -98,13 +99,13 @@ module _ {R : Type 0} (m : Message R) (sender : ℕ) (r : R) (buf : List ℕ) wh
     reads-through-same h e = ap (readAs m) payload-through ∙ reads-same m r bytes h (payload-given m r (written-when g .0)) e
 
 -- an accepted payload written again gives a frame of the same bytes
-writes-through : {R : Type 0} (m : Message R) (sender : ℕ) (r : R) (buf s : List ℕ) → Bytes s → readAs m s ≡ given r
-    → writtenAs m sender r buf ≡ framed (m .kind) sender s buf
+writes-through : {R : Type 0} (m : Description R) (sender : ℕ) (r : R) (buf s : List ℕ) → Bytes s → readAs m s ≡ given r
+    → writtenAs m sender r buf ≡ withFrame (m .kind) sender s buf
 unfolding writtenAs
-writes-through m sender r buf s h g = let w = written m r s (writes-back m s r h g) in rw (w .0) (ap (λ (b : List ℕ). framed (m .kind) sender b buf) (sym (w .1)))
+writes-through m sender r buf s h g = let w = written m r s (writes-back m s r h g) in rw (w .0) (ap (λ (b : List ℕ). withFrame (m .kind) sender b buf) (sym (w .1)))
 
 -- what every message keeps, once its type number has 16 bits
-pub faithful : {R : Type 0} (m : Message R) → m .kind < 65536 → Faithful m
+pub faithful : {R : Type 0} (m : Description R) → m .kind < 65536 → Faithful m
 faithful m k = record {
   found = λ sender r buf s g. found-through m sender r buf k s g;
   back = λ sender r buf s g h. reads-through m sender r buf k s g h;
