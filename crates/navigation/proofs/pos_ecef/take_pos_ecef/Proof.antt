@@ -1,7 +1,7 @@
--- `navigation::pos_ecef::take` meets its contract, field by field.
+-- `navigation::pos_ecef::take_pos_ecef` meets its contract, field by field.
 use borrow.Author.Needs.{needs}
-use Rattle.navigation.proofs.pos_ecef.take.Statement.{statement}
-use Rattle.navigation.proofs.pos_ecef.take.Tie as tie
+use Rattle.navigation.proofs.pos_ecef.take_pos_ecef.Statement.{statement}
+use Rattle.navigation.proofs.pos_ecef.take_pos_ecef.Tie as tie
 
 read-u32-requires : tie.Need-read-u32-requires
 read-u32-requires c κs = search needs
@@ -35,5 +35,5 @@ returns c = λ i. record {
   flags = c .read-u82 .ensures i;
 }
 
-pub take-spec : {M : Type 1} → statement M
-take-spec = tie.close (tie.spec read-u32-requires read-double-requires read-double-requires-2 read-double-requires-3 read-u16-requires read-u8-requires read-u8-requires-2 returns)
+pub take-pos-ecef-spec : {M : Type 1} → statement M
+take-pos-ecef-spec = tie.close (tie.spec read-u32-requires read-double-requires read-double-requires-2 read-double-requires-3 read-u16-requires read-u8-requires read-u8-requires-2 returns)

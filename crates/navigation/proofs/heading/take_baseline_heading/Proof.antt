@@ -1,7 +1,7 @@
--- `navigation::heading::take` meets its contract, field by field.
+-- `navigation::heading::take_baseline_heading` meets its contract, field by field.
 use borrow.Author.Needs.{needs}
-use Rattle.navigation.proofs.heading.take.Statement.{statement}
-use Rattle.navigation.proofs.heading.take.Tie as tie
+use Rattle.navigation.proofs.heading.take_baseline_heading.Statement.{statement}
+use Rattle.navigation.proofs.heading.take_baseline_heading.Tie as tie
 
 read-u32-requires : tie.Need-read-u32-requires
 read-u32-requires c κs = search needs
@@ -23,5 +23,5 @@ returns c = λ i. record {
   flags = c .read-u82 .ensures i;
 }
 
-pub take-spec : {M : Type 1} → statement M
-take-spec = tie.close (tie.spec read-u32-requires read-u32-requires-2 read-u8-requires read-u8-requires-2 returns)
+pub take-baseline-heading-spec : {M : Type 1} → statement M
+take-baseline-heading-spec = tie.close (tie.spec read-u32-requires read-u32-requires-2 read-u8-requires read-u8-requires-2 returns)

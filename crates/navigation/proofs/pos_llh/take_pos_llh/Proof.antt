@@ -1,7 +1,7 @@
--- `navigation::pos_llh::take` meets its contract, field by field.
+-- `navigation::pos_llh::take_pos_llh` meets its contract, field by field.
 use borrow.Author.Needs.{needs}
-use Rattle.navigation.proofs.pos_llh.take.Statement.{statement}
-use Rattle.navigation.proofs.pos_llh.take.Tie as tie
+use Rattle.navigation.proofs.pos_llh.take_pos_llh.Statement.{statement}
+use Rattle.navigation.proofs.pos_llh.take_pos_llh.Tie as tie
 
 read-u32-requires : tie.Need-read-u32-requires
 read-u32-requires c κs = search needs
@@ -39,5 +39,5 @@ returns c = λ i. record {
   flags = c .read-u82 .ensures i;
 }
 
-pub take-spec : {M : Type 1} → statement M
-take-spec = tie.close (tie.spec read-u32-requires read-double-requires read-double-requires-2 read-double-requires-3 read-u16-requires read-u16-requires-2 read-u8-requires read-u8-requires-2 returns)
+pub take-pos-llh-spec : {M : Type 1} → statement M
+take-pos-llh-spec = tie.close (tie.spec read-u32-requires read-double-requires read-double-requires-2 read-double-requires-3 read-u16-requires read-u16-requires-2 read-u8-requires read-u8-requires-2 returns)

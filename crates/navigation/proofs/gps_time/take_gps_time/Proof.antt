@@ -1,9 +1,9 @@
--- `navigation::gps_time::take` meets its contract, field by field.
+-- `navigation::gps_time::take_gps_time` meets its contract, field by field.
 use borrow.Author.Needs.{needs}
 use mir.Syntax.{w32}
 use Rattle.wire.proofs.Signed.{came-back}
-use Rattle.navigation.proofs.gps_time.take.Statement.{statement}
-use Rattle.navigation.proofs.gps_time.take.Tie as tie
+use Rattle.navigation.proofs.gps_time.take_gps_time.Statement.{statement}
+use Rattle.navigation.proofs.gps_time.take_gps_time.Tie as tie
 
 read-u16-requires : tie.Need-read-u16-requires
 read-u16-requires c κs = search needs
@@ -25,5 +25,5 @@ returns c = λ i. record {
   flags = c .read-u8 .ensures i;
 }
 
-pub take-spec : {M : Type 1} → statement M
-take-spec = tie.close (tie.spec read-u16-requires read-u32-requires read-s32-requires read-u8-requires returns)
+pub take-gps-time-spec : {M : Type 1} → statement M
+take-gps-time-spec = tie.close (tie.spec read-u16-requires read-u32-requires read-s32-requires read-u8-requires returns)

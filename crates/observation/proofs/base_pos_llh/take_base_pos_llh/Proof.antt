@@ -1,7 +1,7 @@
--- `observation::base_pos_llh::take` meets its contract, field by field.
+-- `observation::base_pos_llh::take_base_pos_llh` meets its contract, field by field.
 use borrow.Author.Needs.{needs}
-use Rattle.observation.proofs.base_pos_llh.take.Statement.{statement}
-use Rattle.observation.proofs.base_pos_llh.take.Tie as tie
+use Rattle.observation.proofs.base_pos_llh.take_base_pos_llh.Statement.{statement}
+use Rattle.observation.proofs.base_pos_llh.take_base_pos_llh.Tie as tie
 
 read-double-requires : tie.Need-read-double-requires
 read-double-requires c κs = search needs
@@ -19,5 +19,5 @@ returns c = λ i. record {
   height = c .read-double3 .ensures i;
 }
 
-pub take-spec : {M : Type 1} → statement M
-take-spec = tie.close (tie.spec read-double-requires read-double-requires-2 read-double-requires-3 returns)
+pub take-base-pos-llh-spec : {M : Type 1} → statement M
+take-base-pos-llh-spec = tie.close (tie.spec read-double-requires read-double-requires-2 read-double-requires-3 returns)

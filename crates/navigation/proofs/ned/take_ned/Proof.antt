@@ -1,9 +1,9 @@
--- `navigation::ned::take` meets its contract, field by field.
+-- `navigation::ned::take_ned` meets its contract, field by field.
 use borrow.Author.Needs.{needs}
 use mir.Syntax.{w32}
 use Rattle.wire.proofs.Signed.{came-back}
-use Rattle.navigation.proofs.ned.take.Statement.{statement}
-use Rattle.navigation.proofs.ned.take.Tie as tie
+use Rattle.navigation.proofs.ned.take_ned.Statement.{statement}
+use Rattle.navigation.proofs.ned.take_ned.Tie as tie
 
 read-u32-requires : tie.Need-read-u32-requires
 read-u32-requires c κs = search needs
@@ -41,5 +41,5 @@ returns c = λ i. record {
   flags = c .read-u82 .ensures i;
 }
 
-pub take-spec : {M : Type 1} → statement M
-take-spec = tie.close (tie.spec read-u32-requires read-s32-requires read-s32-requires-2 read-s32-requires-3 read-u16-requires read-u16-requires-2 read-u8-requires read-u8-requires-2 returns)
+pub take-ned-spec : {M : Type 1} → statement M
+take-ned-spec = tie.close (tie.spec read-u32-requires read-s32-requires read-s32-requires-2 read-s32-requires-3 read-u16-requires read-u16-requires-2 read-u8-requires read-u8-requires-2 returns)

@@ -1,7 +1,7 @@
--- `navigation::dops::take` meets its contract, field by field.
+-- `navigation::dops::take_dops` meets its contract, field by field.
 use borrow.Author.Needs.{needs}
-use Rattle.navigation.proofs.dops.take.Statement.{statement}
-use Rattle.navigation.proofs.dops.take.Tie as tie
+use Rattle.navigation.proofs.dops.take_dops.Statement.{statement}
+use Rattle.navigation.proofs.dops.take_dops.Tie as tie
 
 read-u32-requires : tie.Need-read-u32-requires
 read-u32-requires c κs = search needs
@@ -31,5 +31,5 @@ returns c = λ i. record {
   vdop = c .read-u165 .ensures i;
 }
 
-pub take-spec : {M : Type 1} → statement M
-take-spec = tie.close (tie.spec read-u32-requires read-u16-requires read-u16-requires-2 read-u16-requires-3 read-u16-requires-4 read-u16-requires-5 returns)
+pub take-dops-spec : {M : Type 1} → statement M
+take-dops-spec = tie.close (tie.spec read-u32-requires read-u16-requires read-u16-requires-2 read-u16-requires-3 read-u16-requires-4 read-u16-requires-5 returns)
