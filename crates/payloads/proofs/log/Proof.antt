@@ -1,10 +1,10 @@
--- `payloads::each::log` meets its contract.
+-- `payloads::log` meets its contract.
 use borrow.Author.Needs.{needs}
 use Rattle.system.specs.Log.{logAnswer}
 use Rattle.payloads.specs.declared.Message.the-variants as M
-use Rattle.payloads.proofs.Lines.{under-name}
-use Rattle.payloads.proofs.each.log.Statement.{statement}
-use Rattle.payloads.proofs.each.log.Tie as tie
+use Rattle.payloads.proofs.Entries.{under-name}
+use Rattle.payloads.proofs.log.Statement.{statement}
+use Rattle.payloads.proofs.log.Tie as tie
 
 read-log-requires : tie.Need-read-log-requires
 read-log-requires c κs = search needs

@@ -1,10 +1,10 @@
--- `payloads::each::obs` meets its contract.
+-- `payloads::obs` meets its contract.
 use borrow.Author.Needs.{needs}
 use Rattle.observation.specs.Obs.{obsAnswer}
 use Rattle.payloads.specs.declared.Message.the-variants as M
-use Rattle.payloads.proofs.Lines.{under-name}
-use Rattle.payloads.proofs.each.obs.Statement.{statement}
-use Rattle.payloads.proofs.each.obs.Tie as tie
+use Rattle.payloads.proofs.Entries.{under-name}
+use Rattle.payloads.proofs.obs.Statement.{statement}
+use Rattle.payloads.proofs.obs.Tie as tie
 
 read-obs-requires : tie.Need-read-obs-requires
 read-obs-requires c κs = search needs
