@@ -2,6 +2,7 @@ pub mod Numbers
 pub mod Signed
 pub mod Doubles
 pub mod Fields
+pub mod Layouts
 pub mod Answers
 pub mod Ordered
 pub mod Descriptions
