@@ -3,6 +3,7 @@ pub mod Signed
 pub mod Doubles
 pub mod Fields
 pub mod Layouts
+pub mod Copies
 pub mod Answers
 pub mod Ordered
 pub mod Descriptions
