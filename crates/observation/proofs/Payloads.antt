@@ -16,7 +16,8 @@ use Rattle.wire.proofs.Answers.{same-given, never-both, passed, failed}
 use Rattle.wire.proofs.Numbers.{bytes-take}
 use Rattle.wire.proofs.Fields.{signed-settled, length-encode, decode-encode, encode-decode}
 use Rattle.observation.specs.Layout.{first, fitting, countIn, startOf, rowsBytes}
-use Rattle.observation.specs.Obs.{Head, head, observation, entryAt, readEntry, obsIn, readObs, obsPayload, entriesFrom}
+use Rattle.observation.specs.Edition.{isObs}
+use Rattle.observation.specs.Obs.{Head, head, observation, entryAt, readEntry, readEntryOf, obsIn, readObs, obsPayload, entriesFrom}
 use Rattle.observation.specs.ObsWriter.{headOf}
 use Rattle.observation.specs.declared.entry.Observation.{Observation}
 use Rattle.observation.specs.declared.obs.Obs.{Obs}
@@ -46,6 +47,16 @@ module _ (s : List ℕ) where
     pub entry-given : fitting first (length s) ≡ true → i < countIn first (length s) → readEntry s i ≡ given (entryAt s i)
     unfolding readEntry
     entry-given e h = rw e (passed (entryAt s i) 25 (lt-ltb i (countIn first (length s)) h))
+
+    -- by the frame's type
+
+    pub of-obs : (kind : ℕ) → isObs kind ≡ true → readEntryOf kind s i ≡ readEntry s i
+    unfolding readEntry readEntryOf
+    of-obs kind e = rw e
+
+    pub of-21 : (kind : ℕ) → isObs kind ≡ false → readEntryOf kind s i ≡ refused 21
+    unfolding readEntryOf
+    of-21 kind e = rw e
 
 -- ---- the payload as rows behind a header
 

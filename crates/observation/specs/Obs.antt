@@ -1,14 +1,14 @@
 -- OBS, 0x0049: tow u32, wn u16, n_obs u8, then k observations. Assumes nothing.
 use Prim.Native.Nat.{ℕ}
 use mathlib.Core.Path.{refl}
-use mathlib.Core.Bool.{cond}
 use mathlib.Core.List.{List, [], _∷_, _++_}
 use lib.Dec.{ltb}
 use lib.ListN.{length}
 use Rattle.wire.specs.Field.{any, u8, u16, u32, s32, encode, decode}
 use Rattle.wire.specs.Description.{Description}
-use Rattle.wire.specs.Refusals.{refused, given, Answer}
+use Rattle.wire.specs.Refusals.{refused, given, Answer, Tests, ordered}
 use Rattle.observation.specs.Layout.{first, fitting, countIn, rowAt, rowsFrom, rowsBytes}
+use Rattle.observation.specs.Edition.{isObs}
 use Rattle.observation.specs.declared.entry.Observation.{Observation}
 use Rattle.observation.specs.declared.entry.ObservationRead.{ObservationRead}
 use Rattle.observation.specs.declared.entry.ObservationRead.the-variants as entry
@@ -51,9 +51,15 @@ abbrev pub entryAt : List ℕ → ℕ → Observation
 entryAt = rowAt first observation
 
 -- 22 for the payload's length, then 25 for an index at or past k
+abbrev pub oneObservation : List ℕ → ℕ → Tests
+oneObservation s i = (fitting first (length s), 22) ∷ (ltb i (countIn first (length s)), 25) ∷ []
+
 unfoldable pub readEntry : List ℕ → ℕ → Answer Observation
-readEntry s i =
-    cond (fitting first (length s)) (cond (ltb i (countIn first (length s))) (given (entryAt s i)) (refused 25)) (refused 22)
+readEntry s i = ordered (oneObservation s i) (entryAt s i)
+
+-- the same of a frame's payload, whose type is looked at first: 21, 22, 25
+unfoldable pub readEntryOf : ℕ → List ℕ → ℕ → Answer Observation
+readEntryOf kind s i = ordered ((isObs kind, 21) ∷ oneObservation s i) (entryAt s i)
 
 abbrev pub entryAnswer : ObservationRead → Answer Observation
 entryAnswer (entry.Record r) = given r
@@ -66,8 +72,12 @@ obsIn s =
     let h = head .make (decode (head .fields) s 0) in
     record { tow = h .tow; wn = h .wn; «n_obs» = h .nObs; count = countIn first (length s) }
 
+-- 22 for the payload's length
+abbrev pub readingObs : List ℕ → Tests
+readingObs s = (fitting first (length s), 22) ∷ []
+
 unfoldable pub readObs : List ℕ → Answer Obs
-readObs s = cond (fitting first (length s)) (given (obsIn s)) (refused 22)
+readObs s = ordered (readingObs s) (obsIn s)
 
 abbrev pub obsAnswer : ObsRead → Answer Obs
 obsAnswer (obs.Record r) = given r

@@ -1,7 +1,8 @@
 // One observation of an OBS payload.
 ghost use mathlib.Core.Path.{_≡_};
 ghost use Rattle.wire.specs.Field.{decode, rowStored};
-ghost use Rattle.observation.specs.Obs.{observation, readEntry, entryAnswer};
+ghost use Rattle.observation.specs.Obs.{observation, readEntry, readEntryOf, entryAnswer};
+use crate::obs::is_obs;
 use crate::obs::is_obs_length;
 
 // 003's P, L.i, L.f, cn0, lock, sid.sat, sid.code and sid.reserved.
@@ -63,4 +64,14 @@ pub fn read_observation(s: &[u8], i: usize) -> ObservationRead
         return ObservationRead::Refused(25);
     }
     ObservationRead::Refused(22)
+}
+
+// The same of a frame's payload by the frame's type: 21 where that is no observation type, then 22, 25.
+pub fn read_observation_of(kind: u16, s: &[u8], i: usize) -> ObservationRead
+    ensures { λ r. ⌜ entryAnswer r ≡ readEntryOf kind (now (s .entry)) i ⌝ }
+{
+    if is_obs(kind) {
+        return read_observation(s, i);
+    }
+    ObservationRead::Refused(21)
 }

@@ -19,6 +19,7 @@ pub use base_pos_llh::write_base_pos_llh;
 pub use entry::Observation;
 pub use entry::ObservationRead;
 pub use entry::read_observation;
+pub use entry::read_observation_of;
 pub use obs::Obs;
 pub use obs::ObsRead;
 pub use obs::is_obs;
