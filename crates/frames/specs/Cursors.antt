@@ -5,7 +5,7 @@ use mathlib.Core.Bool.{Bool, true, false, not, cond}
 use mathlib.Core.List.{List, [], _∷_, _++_}
 use lib.ListN.{length}
 use Rattle.frames.specs.Step.{stepAt, passed}
-use Rattle.frames.specs.Reading.{Placed, readFrom, steps, framesOf, counted}
+use Rattle.frames.specs.Reading.{Positioned, readFrom, steps, framesOf, counted}
 use Rattle.frames.specs.declared.step.Frame.{Frame}
 use Rattle.frames.specs.declared.step.Step.{Step}
 use Rattle.frames.specs.declared.step.Step.the-variants.{Finished, Junk, Short, Bad, Found}
@@ -49,7 +49,7 @@ ended c Bad = Next.the-variants.End c
 ended c (Found f) = Next.the-variants.Frame f (over c (Found f))
 
 -- over the steps that are left to the first frame, or to where the reading stops
-unfoldable pub answer : List ℕ → Cursor → List Placed → Next.Next
+unfoldable pub answer : List ℕ → Cursor → List Positioned → Next.Next
 answer s c [] = ended c (stepAt s (c .at))
 answer s c (x ∷ xs) = cond (passes (c .opened) (x .step)) (answer s (over c (x .step)) xs) (ended c (x .step))
 

@@ -2,6 +2,8 @@ pub mod Numbers
 pub mod Signed
 pub mod Doubles
 pub mod Fields
+pub mod Layouts
+pub mod Copies
 pub mod Answers
 pub mod Ordered
 pub mod Descriptions
