@@ -1,7 +1,8 @@
 // One observation of an OBS payload.
 ghost use mathlib.Core.Path.{_≡_};
 ghost use Rattle.wire.specs.Field.{decode, rowStored};
-ghost use Rattle.observation.specs.Obs.{observation, readEntry, readEntryOf, entryAnswer};
+ghost use Rattle.observation.specs.Edition.{observation, first};
+ghost use Rattle.observation.specs.Obs.{readEntry, readEntryOf, entryAnswer};
 use crate::obs::is_obs;
 use crate::obs::is_obs_length;
 
@@ -53,7 +54,7 @@ pub fn put(buf: &mut [u8], r: Observation)
 
 // Observation i of a payload: 22 where the payload is no OBS, then 25 where it has no such observation.
 pub fn read_observation(s: &[u8], i: usize) -> ObservationRead
-    ensures { λ r. ⌜ entryAnswer r ≡ readEntry (now (s .entry)) i ⌝ }
+    ensures { λ r. ⌜ entryAnswer r ≡ readEntry first (now (s .entry)) i ⌝ }
 {
     if is_obs_length(s.len()) {
         if i < (s.len() - 7) / 16 {

@@ -1,7 +1,7 @@
 -- `observation::entry::read_observation_of` meets its contract.
 use mathlib.Core.Path.{sym, _∙_}
 use borrow.Author.Needs.{needs}
-use Rattle.observation.proofs.Payloads.{of-obs, of-21}
+use Rattle.observation.proofs.ObsReading.{of-obs, of-21}
 use Rattle.observation.proofs.entry.read_observation_of.Statement.{statement}
 use Rattle.observation.proofs.entry.read_observation_of.Tie as tie
 
