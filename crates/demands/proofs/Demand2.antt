@@ -24,7 +24,8 @@ use Rattle.frames.specs.Faithful.{Faithful}
 use Rattle.frames.specs.declared.step.Frame.{Frame}
 use Rattle.frames.specs.declared.step.Step.{Step}
 use Rattle.frames.specs.declared.step.Step.the-variants.{Found}
-use Rattle.frames.proofs.Steps.{Line, decides, line}
+use Rattle.frames.proofs.Steps.{only, decided}
+use Rattle.frames.specs.Decides.{Decides}
 use Rattle.frames.proofs.Frames.{found-bytes}
 use Rattle.frames.proofs.Tiling.{closed-tiled, only-closed, open-closed, each-once, adds-up}
 use Rattle.frames.proofs.WrittenRead.{reads-back-at}
@@ -95,7 +96,7 @@ Promised m name = Faithful m × Typed (m .kind) name (readAs m)
 -- "The frames found are exactly those that specification 1.1 and our written resume rule give"
 pub record FramesFound : Type 0 where
   -- at every position the first of the five lines that holds decides
-  pub five-lines : (s : List ℕ) (p : ℕ) (x : Step) → (stepAt s p ≡ x) ↔ Line s p x
+  pub five-lines : (s : List ℕ) (p : ℕ) (x : Step) → (stepAt s p ≡ x) ↔ Decides s p x
   -- closed reading goes from 0 to the end by the capture's own steps, each from where the one before ended, and no other steps do
   pub closed-reading : (s : List ℕ) (xs : List Positioned) → Tiled s 0 (length s) xs ↔ (xs ≡ closedSteps s)
   -- open reading is the same up to the first short
@@ -213,7 +214,7 @@ pub record Demand2 : Type 0 where
 
 frames-found : FramesFound
 frames-found = record {
-  five-lines = λ s p x. (λ e. subst (Line s p) e (line s p), λ l. sym (decides s p l));
+  five-lines = λ s p x. (λ e. subst (Decides s p) e (decided s p), λ l. sym (only s p l));
   closed-reading = λ s xs. (only-closed s, λ e. subst (Tiled s 0 (length s)) (sym e) (closed-tiled s));
   open-reading = open-closed;
   handed-out = handed.handed-out;

@@ -18,7 +18,7 @@ use Rattle.frames.specs.declared.step.Step.{Step}
 use Rattle.frames.specs.declared.step.Step.the-variants.{Finished, Junk, Short, Bad, Found}
 use Rattle.frames.specs.declared.cursor.Cursor.{Cursor}
 use Rattle.frames.specs.declared.cursor.Next as Next
-use Rattle.frames.proofs.Walks.{Walking, left, walking-begun, walking-on, walking-end}
+use Rattle.frames.proofs.CursorLoops.{Walking, left, walking-begun, walking-on, walking-end}
 use Rattle.epochs.specs.Packet.{seatOf}
 use Rattle.epochs.specs.Collator.{rosterOf, made, repeats}
 use Rattle.epochs.specs.Epoch.{fedFrame, after, reportIn, reports, reportsOf, contentIn, contentsOf}

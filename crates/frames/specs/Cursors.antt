@@ -70,10 +70,10 @@ abbrev pub remaining : Bool → List ℕ → Cursor → List Frame
 remaining opened s c = framesOf (steps opened s (c .at))
 
 -- what an answer tells, where fs are the frames that were left: the first of them and a cursor from which the others are left, or that there are none
-abbrev pub Told : Bool → List ℕ → List Frame → Next.Next → Type 0
-Told opened s fs (Next.the-variants.Frame f c) = fs ≡ f ∷ remaining opened s c
-Told opened s fs (Next.the-variants.End c) = (fs ≡ []) × (c .at ≡ length s)
-Told opened s fs (Next.the-variants.Needs n c) = (fs ≡ []) × (stepAt s (c .at) ≡ Short n) × (opened ≡ true)
+abbrev pub Says : Bool → List ℕ → List Frame → Next.Next → Type 0
+Says opened s fs (Next.the-variants.Frame f c) = fs ≡ f ∷ remaining opened s c
+Says opened s fs (Next.the-variants.End c) = (fs ≡ []) × (c .at ≡ length s)
+Says opened s fs (Next.the-variants.Needs n c) = (fs ≡ []) × (stepAt s (c .at) ≡ Short n) × (opened ≡ true)
 
 -- calls of next from the start on have handed out the frames fs, and led to the cursor c
 pub data Led (opened : Bool) (s : List ℕ) : List Frame → Cursor → Type 0 where

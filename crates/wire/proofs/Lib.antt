@@ -4,7 +4,7 @@ pub mod Doubles
 pub mod Fields
 pub mod Layouts
 pub mod Copies
-pub mod Answers
+pub mod Distinct
 pub mod Ordered
 pub mod Descriptions
-pub mod Flags
+pub mod OneBit
