@@ -9,10 +9,10 @@ use borrow.Author.Tests.{eq-eqb, ne-eqb, ltb-true}
 use Rattle.wire.specs.Description.{readAs, reading, inside}
 use Rattle.wire.specs.Refusals.{refused, Answer, Tests, ordered}
 use Rattle.frames.proofs.Promised.{faithful}
-use Rattle.observation.specs.Layout.{first}
-use Rattle.observation.specs.Obs.{obsIn, readObs}
+use Rattle.observation.specs.Edition.{first}
+use Rattle.observation.specs.Obs.{readingObs, obsIn, readObs}
 use Rattle.system.specs.Log.{logKind, logIn, readLog}
-use Rattle.payloads.specs.Payloads.{Named, messages, Entry, readIn, entryOf, obsEntry, logEntry, noEntry, table, entryFor, readingObs, readingLog, testsOf, readFor, named, Typed, TypedIn, PromisedIn, Promised, AllOf}
+use Rattle.payloads.specs.Payloads.{Named, messages, Entry, readIn, entryOf, obsEntry, logEntry, noEntry, table, entryFor, readingLog, testsOf, readFor, named, Typed, TypedIn, PromisedIn, Promised, AllOf}
 use Rattle.payloads.specs.declared.Message.{Message}
 use Rattle.payloads.specs.declared.Message.the-variants as M
 
@@ -80,7 +80,7 @@ all-promised before (m ∷ ms) after h =
     let new = both (lacks before (d .kind)) (ltb (d .kind) 65536 && distinct (before ++ (entryOf m ∷ [])) ms) h in
     let small = both (ltb (d .kind) 65536) (distinct (before ++ (entryOf m ∷ [])) ms) (new .1) in
     let es = map entryOf ms ++ after in (
-      (faithful d (ltb-true (d .kind) 65536 (small .0)), read-own m (before ++ (entryOf m ∷ es)) (own before (entryOf m) es (new .0))),
+      (faithful d (ltb-true (d .kind) 65536 (small .0)) ?, read-own m (before ++ (entryOf m ∷ es)) (own before (entryOf m) es (new .0))),
       subst (λ (all : List Entry). AllOf (PromisedIn all) ms) (append-assoc before (entryOf m ∷ []) es) (all-promised (before ++ (entryOf m ∷ [])) ms after (small .1)),
     )
 
@@ -91,7 +91,7 @@ promised = all-promised [] messages (obsEntry ∷ logEntry ∷ []) refl
 
 pub obs : Typed (first .kind) (λ r. M.Obs r) readObs
 unfolding entryFor readObs
-obs s = named-ordered (λ r. M.Obs r) (readingObs s) (obsIn s)
+obs s = named-ordered (λ r. M.Obs r) (readingObs first s) (obsIn s)
 
 pub log : Typed logKind (λ r. M.Log r) readLog
 unfolding entryFor readLog

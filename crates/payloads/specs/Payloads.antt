@@ -19,8 +19,8 @@ use Rattle.navigation.specs.PosEcef.{posEcef}
 use Rattle.navigation.specs.PosLlh.{posLlh}
 use Rattle.observation.specs.BasePosEcef.{basePosEcef}
 use Rattle.observation.specs.BasePosLlh.{basePosLlh}
-use Rattle.observation.specs.Layout.{first, fitting}
-use Rattle.observation.specs.Obs.{obsIn}
+use Rattle.observation.specs.Edition.{first}
+use Rattle.observation.specs.Obs.{readingObs, obsIn}
 use Rattle.system.specs.Empty.{settingsSave, readByIndexDone}
 use Rattle.system.specs.Heartbeat.{heartbeat}
 use Rattle.system.specs.Log.{logKind, logLength, logIn}
@@ -69,9 +69,6 @@ messages =
 
 -- ---- the table
 
-abbrev pub readingObs : List ℕ → Tests
-readingObs s = (fitting first (length s), 22) ∷ []
-
 abbrev pub readingLog : List ℕ → Tests
 readingLog s = (logLength (length s), 22) ∷ []
 
@@ -87,7 +84,7 @@ abbrev pub entryOf : Named → Entry
 entryOf m = let d = m .description in record { kind = d .kind; known = true; tests = reading d; holds = λ s. m .name (inside d s) }
 
 abbrev pub obsEntry : Entry
-obsEntry = record { kind = first .kind; known = true; tests = readingObs; holds = λ s. M.Obs (obsIn s) }
+obsEntry = record { kind = first .kind; known = true; tests = readingObs first; holds = λ s. M.Obs (obsIn s) }
 
 abbrev pub logEntry : Entry
 logEntry = record { kind = logKind; known = true; tests = readingLog; holds = λ s. M.Log (logIn s) }
