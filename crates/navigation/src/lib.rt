@@ -1,6 +1,6 @@
 // The navigation messages of 003, section 6.2: records, readers and writers.
 // Read specs/Range.antt first (what a field may hold), then the description of each message in specs/, which reads like its line of document
-// 01; specs/Flags.antt names the bits of flags. What a description makes of bytes is in wire's specs/Message.antt.
+// 01; specs/Flags.antt names the bits of flags. What a description makes of bytes is in wire's specs/Description.antt.
 mod dops;
 mod ecef;
 mod flags;

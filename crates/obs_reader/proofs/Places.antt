@@ -10,7 +10,7 @@ use lib.Dec.{ltb}
 use lib.ListN.{length}
 use borrow.Author.Tests.{ltb-true, ltb-false}
 use Rattle.wire.specs.Refusals.{refused, given, Answer}
-use Rattle.wire.proofs.Answers.{never-both}
+use Rattle.wire.proofs.Distinct.{never-both}
 use Rattle.observation.specs.Layout.{first, fitting, countIn}
 use Rattle.observation.specs.Obs.{readEntry}
 use Rattle.observation.specs.declared.entry.Observation.{Observation}

@@ -10,7 +10,7 @@ use lib.Seq.{sets, getD-take, length-take-le}
 use borrow.Author.Tests.{le-leb, lt-leb, leb-true, leb-false}
 use Rattle.wire.specs.Field.{HeldRow, encode, rowStored}
 use Rattle.wire.specs.Refusals.{refused, given, Answer}
-use Rattle.wire.proofs.Answers.{never-both}
+use Rattle.wire.proofs.Distinct.{never-both}
 use Rattle.wire.proofs.Numbers.{sets-append}
 use Rattle.wire.proofs.Fields.{length-encode, row-sets}
 use Rattle.frames.specs.Writer.{planned, sealed, withFrame}

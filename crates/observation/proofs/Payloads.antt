@@ -12,7 +12,7 @@ use mir.Syntax.{w32}
 use Rattle.wire.specs.Number.{Bytes, little, numberAt}
 use Rattle.wire.specs.Field.{HeldRow, SettledRow, encode, decode}
 use Rattle.wire.specs.Refusals.{refused, given}
-use Rattle.wire.proofs.Answers.{same-given, never-both, passed, failed}
+use Rattle.wire.proofs.Distinct.{same-given, never-both, passed, failed}
 use Rattle.wire.proofs.Numbers.{bytes-take}
 use Rattle.wire.proofs.Fields.{signed-settled, length-encode, decode-encode, encode-decode}
 use Rattle.observation.specs.Layout.{first, fitting, countIn, startOf, rowsBytes}

@@ -4,7 +4,7 @@ use native.Mathlib.Omega.{arith}
 use lib.ListN.{length}
 use borrow.Author.Needs.{needs}
 use Rattle.frames.specs.Writer.{senderOf}
-use Rattle.frames.proofs.WrittenPlan.{told, fits}
+use Rattle.frames.proofs.WrittenPlan.{known, fits}
 use Rattle.observation.proofs.ObsWritten.{sizeFor, wrote-31, wrote-nothing, wrote}
 use Rattle.observation.proofs.obs_write.write_obs.Statement.{statement}
 use Rattle.observation.proofs.obs_write.write_obs.Tie as tie
@@ -36,7 +36,7 @@ put-entries-requires : tie.Need-put-entries-requires
 put-entries-requires c κs =
     let at = c .before .before .before .before .before in
     let a = at .before .before .before .before .before .before .args in
-    let room = fits (sizeFor (a .obs)) (length (a .buf .now)) (told (at .before .before .plan .ensures) (at .enum-told .given .1)) in
+    let room = fits (sizeFor (a .obs)) (length (a .buf .now)) (known (at .before .before .plan .ensures) (at .enum-told .given .1)) in
     omega (arith, room, c .before .before .before .put-head .kept)
 
 seal-requires : tie.Need-seal-requires
@@ -62,7 +62,7 @@ returns-2 c =
     let a = start .args in
     let plan = at .before .before .plan .ensures in
     wrote (senderOf (a .sender)) (a .obs) (a .entries) (a .buf .now) (few .if1 .left) (holds start (few .if1 .left)) plan
-    (told plan (at .enum-told .given .1)) (header .put-head .ensures) (put .put-entries .ensures) (c .before .before .seal .ensures)
+    (known plan (at .enum-told .given .1)) (header .put-head .ensures) (put .put-entries .ensures) (c .before .before .seal .ensures)
 
 returns-3 : tie.Need-returns-3
 returns-3 c =
@@ -71,7 +71,7 @@ returns-3 c =
     let a = start .args in
     let plan = c .before .before .plan .ensures in
     wrote-nothing (senderOf (a .sender)) (a .obs) (a .entries) (a .buf .now) (few .if1 .left) (holds start (few .if1 .left)) plan
-    (told plan (c .enum-told2 .given .1))
+    (known plan (c .enum-told2 .given .1))
 
 pub write-obs-spec : {M : Type 1} → statement M
 write-obs-spec =
