@@ -1,9 +1,8 @@
-// One sender's place: idle, or an open run.
+// A run of packets, and its step.
 ghost use mathlib.Core.Path.{_≡_};
-ghost use Rattle.epochs.specs.Collator.{goesOn, dropped, stepped};
-use crate::judging::Key;
-use crate::judging::Packet;
-use crate::judging::same_key;
+ghost use Rattle.runs.specs.Run.{goesOn, dropped, stepped};
+use packets::Key;
+use packets::Packet;
 
 // An open run: its key, the counter that comes next, and the observations so far.
 pub struct Part {
@@ -17,10 +16,6 @@ pub enum Run {
     Open(Part),
 }
 
-pub struct Place {
-    pub run: Run,
-}
-
 // Whether a packet ended an epoch, and with how many observations.
 pub enum Ended {
     Not,
@@ -28,7 +23,7 @@ pub enum Ended {
 }
 
 pub struct Stepped {
-    pub place: Place,
+    pub run: Run,
     pub ended: Ended,
 }
 
@@ -40,30 +35,27 @@ fn goes_on(packet: Packet, total: u16) -> Stepped
     let next = std::num::wrapping_add_u8(packet.counter, 1);
     if next == key.n {
         return Stepped {
-            place: Place { run: Run::Idle },
+            run: Run::Idle,
             ended: Ended::Whole(total),
         };
     }
     Stepped {
-        place: Place {
-            run: Run::Open(Part { key, next, total }),
-        },
+        run: Run::Open(Part { key, next, total }),
         ended: Ended::Not,
     }
 }
 
-// Counter 0 begins a run; the next counter of the open run goes on; anything else leaves the place idle.
-pub fn step(place: Place, packet: Packet) -> Stepped
-    ensures { λ r. ⌜ r ≡ stepped place packet ⌝ }
+// Counter 0 begins a run; the next counter of the open run goes on; anything else leaves none open.
+pub fn step(run: Run, packet: Packet) -> Stepped
+    ensures { λ r. ⌜ r ≡ stepped run packet ⌝ }
 {
     if packet.counter == 0 {
         return goes_on(packet, packet.observations as u16);
     }
-    let run = place.run;
     match run {
         Run::Idle => dropped(),
         Run::Open(part) => {
-            if same_key(part.key, packet.key) {
+            if packets::same_key(part.key, packet.key) {
                 if part.next == packet.counter {
                     return goes_on(
                         packet,
@@ -82,7 +74,7 @@ fn dropped() -> Stepped
     ensures { λ r. ⌜ r ≡ dropped ⌝ }
 {
     Stepped {
-        place: Place { run: Run::Idle },
+        run: Run::Idle,
         ended: Ended::Not,
     }
 }

@@ -1,5 +1,5 @@
--- A place ends an epoch exactly when document 01 says that one ends: a sender's place, fed its packets from idle on, tells of a whole epoch
--- with a packet and a total exactly when `EpochEnds`. Its open part is the run that is still unfinished. Assumes nothing.
+-- The step ends an epoch exactly when document 01 says that one ends: folded over packets from nothing on, it comes to a whole epoch with a
+-- packet and a total exactly when `EpochEnds`. The open part is the run that is still unfinished. Assumes nothing.
 use mathlib.Core.Path.{_≡_, refl, sym, ap, _∙_, subst}
 use mathlib.Core.Bool.{Bool, true, false, cond, true≢false, and-eq-true-iff}
 use mathlib.Core.List.{List, [], _∷_}
@@ -8,29 +8,27 @@ use Prim.Native.Nat.{ℕ, zero, suc, _+_, _%_, _<_}
 use native.Mathlib.Omega.{arith}
 use lib.Dec.{eqb}
 use borrow.Author.Tests.{eqb-true, eqb-false, eq-eqb}
-use Rattle.epochs.specs.Packet.{sameKey}
-use Rattle.epochs.specs.Collator.{dropped, goesOn, fits, summed, continued, stepped}
-use Rattle.epochs.specs.Epoch.{RunTo, EpochEnds}
-use Rattle.epochs.specs.declared.judging.Key.{Key}
-use Rattle.epochs.specs.declared.judging.Packet.{Packet}
-use Rattle.epochs.specs.declared.placing.Run.{Run}
-use Rattle.epochs.specs.declared.placing.Run.the-variants.{Idle, Open}
-use Rattle.epochs.specs.declared.placing.Place.{Place}
-use Rattle.epochs.specs.declared.placing.Ended.the-variants.{Whole}
-use Rattle.epochs.specs.declared.placing.Stepped.{Stepped}
-use Rattle.epochs.proofs.Pasts.{Formed, AllFormed, placeOf}
-use Rattle.epochs.proofs.Keys.{equal-key, same-key}
-use Rattle.epochs.proofs.Places.{not-whole, whole, opened}
-use Rattle.epochs.proofs.Runs.{unroll, run-head, first-of, next-of, same-run, run-small, run-low}
+use Rattle.packets.specs.Packet.{sameKey, Formed, AllFormed}
+use Rattle.runs.specs.Run.{dropped, goesOn, fits, summed, continued, stepped, runOf}
+use Rattle.runs.specs.InWords.{RunTo, EpochEnds}
+use Rattle.packets.specs.declared.packet.Key.{Key}
+use Rattle.packets.specs.declared.packet.Packet.{Packet}
+use Rattle.runs.specs.declared.running.Run.{Run}
+use Rattle.runs.specs.declared.running.Run.the-variants.{Idle, Open}
+use Rattle.runs.specs.declared.running.Ended.the-variants.{Whole}
+use Rattle.runs.specs.declared.running.Stepped.{Stepped}
+use Rattle.packets.proofs.Keys.{equal-key, same-key}
+use Rattle.runs.proofs.StepCases.{not-whole, whole, opened}
+use Rattle.runs.proofs.Fronts.{unroll, run-head, first-of, next-of, same-run, run-small, run-low}
 
--- what a place's run says of the history: an open part is the run at its front; where it is idle, no run there is unfinished
+-- what is open says this of the history: an open part is the run at its front; where nothing is, no run there is unfinished
 abbrev Holds : List Packet → Run → Type 0
 Holds past Idle = (key : Key) (j t : ℕ) → suc j < key .n → RunTo key j past t → ⊥
 Holds past (Open part) = (j : ℕ) × RunTo (part .key) j past (part .total) × (part .next ≡ suc j)
 
--- a step with p is right: it leaves a place that holds, and ends an epoch exactly when one ends
+-- a step with p is right: what it leaves open holds, and it ends an epoch exactly when one ends
 abbrev Right : Packet → List Packet → Stepped → Type 0
-Right p past s = Holds (p ∷ past) (s .place .run) × ((t : ℕ) → (s .ended ≡ Whole t) ↔ EpochEnds p past t)
+Right p past s = Holds (p ∷ past) (s .run) × ((t : ℕ) → (s .ended ≡ Whole t) ↔ EpochEnds p past t)
 
 same-whole : {t u : ℕ} → Whole t ≡ Whole u → t ≡ u
 same-whole e = cc
@@ -93,20 +91,20 @@ module _ (p : Packet) (past : List Packet) (formed : Formed p) where
             let counter-test = eq-eqb (part .next) (p .counter) (h .2 ∙ ap suc (sym (there .1)) ∙ sym (a .1 .3)) in
             true≢false (sym (and-eq-true-iff (sameKey (part .key) (p .key)) (eqb (part .next) (p .counter)) .1 (key-test, counter-test)) ∙ e))
 
-  -- every step of a place that holds is right
-  right-step : AllFormed past → (place : Place) → Holds past (place .run) → Right p past (stepped place p)
+  -- every step from what holds is right
+  right-step : AllFormed past → (run : Run) → Holds past run → Right p past (stepped run p)
   unfolding stepped
-  right-step all place h = by (eqb (p .counter) 0) refl
+  right-step all run h = by (eqb (p .counter) 0) refl
     where
-      by : (t : Bool) → eqb (p .counter) 0 ≡ t → Right p past (cond t (goesOn p (p .observations)) (continued (place .run) p))
+      by : (t : Bool) → eqb (p .counter) 0 ≡ t → Right p past (cond t (goesOn p (p .observations)) (continued run p))
       by true e = right-on (first-of p past (eqb-true _ _ e))
-      by false e = right-later all (eqb-false _ _ e) (place .run) h
+      by false e = right-later all (eqb-false _ _ e) run h
 
-holds : (past : List Packet) → AllFormed past → Holds past (placeOf past .run)
-unfolding placeOf
+holds : (past : List Packet) → AllFormed past → Holds past (runOf past)
+unfolding runOf
 holds [] all = λ key j t h r. unroll r
-holds (p ∷ past) all = right-step p past (all .0) (all .1) (placeOf past) (holds past (all .1)) .0
+holds (p ∷ past) all = right-step p past (all .0) (all .1) (runOf past) (holds past (all .1)) .0
 
--- a sender's place tells of a whole epoch exactly when its packets end one
-pub whole-epoch : (p : Packet) (past : List Packet) (t : ℕ) → AllFormed (p ∷ past) → (stepped (placeOf past) p .ended ≡ Whole t) ↔ EpochEnds p past t
-whole-epoch p past t all = right-step p past (all .0) (all .1) (placeOf past) (holds past (all .1)) .1 t
+-- a step comes to a whole epoch exactly when the packets end one
+pub whole-epoch : (p : Packet) (past : List Packet) (t : ℕ) → AllFormed (p ∷ past) → (stepped (runOf past) p .ended ≡ Whole t) ↔ EpochEnds p past t
+whole-epoch p past t all = right-step p past (all .0) (all .1) (runOf past) (holds past (all .1)) .1 t

@@ -1,12 +1,12 @@
--- `epochs::placing::step` meets its contract, way by way.
+-- `runs::running::step` meets its contract, way by way.
 -- Assumes nothing.
 use mathlib.Core.Path.{_≡_, sym, _∙_}
 use mathlib.Core.Bool.{cond}
 use borrow.Author.Needs.{needs}
 use borrow.Author.Tests.{eq-eqb, ne-eqb}
-use Rattle.epochs.specs.Collator.{dropped, goesOn, fits, summed, continued, stepped}
-use Rattle.epochs.proofs.placing.step.Statement.{statement}
-use Rattle.epochs.proofs.placing.step.Tie as tie
+use Rattle.runs.specs.Run.{dropped, goesOn, fits, summed, continued, stepped}
+use Rattle.runs.proofs.running.step.Statement.{statement}
+use Rattle.runs.proofs.running.step.Tie as tie
 
 cast-goes-on : tie.Need-cast-goes-on
 cast-goes-on c = search needs
@@ -41,7 +41,7 @@ goes-on-requires-2 c κs = search needs
 
 -- a packet that does not begin a run, where one is open
 opened : (c : tie.After-known-told)
-    → stepped (c .before .before .before .before .before .args .place) (c .before .before .before .before .before .args .packet)
+    → stepped (c .before .before .before .before .before .args .run) (c .before .before .before .before .before .args .packet)
     ≡ cond (fits (c .before .run .given .0 .0) (c .before .before .before .before .before .args .packet))
     (goesOn (c .before .before .before .before .before .args .packet) (summed (c .before .run .given .0 .0) (c .before .before .before .before .before .args .packet))) dropped
 unfolding stepped continued

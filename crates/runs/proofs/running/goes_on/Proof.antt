@@ -1,11 +1,11 @@
--- `epochs::placing::goes_on` meets its contract.
+-- `runs::running::goes_on` meets its contract.
 -- Assumes nothing.
 use mathlib.Core.Path.{sym, _∙_}
 use borrow.Author.Needs.{needs}
 use borrow.Author.Tests.{eq-eqb, ne-eqb}
-use Rattle.epochs.specs.Collator.{goesOn}
-use Rattle.epochs.proofs.placing.goes_on.Statement.{statement}
-use Rattle.epochs.proofs.placing.goes_on.Tie as tie
+use Rattle.runs.specs.Run.{goesOn}
+use Rattle.runs.proofs.running.goes_on.Statement.{statement}
+use Rattle.runs.proofs.running.goes_on.Tie as tie
 
 wrapping-add-u8-requires : tie.Need-wrapping-add-u8-requires
 wrapping-add-u8-requires c κs = search needs

@@ -1,16 +1,15 @@
--- What a step can come to, and that a place that ended an epoch is idle. Assumes nothing.
+-- What a step can come to, and that nothing is open once an epoch ended. Assumes nothing.
 use mathlib.Core.Path.{_≡_, refl}
 use mathlib.Core.Bool.{Bool, true, false, cond}
 use Prim.Native.Nat.{ℕ, _+_, _%_, _<_}
 use native.Mathlib.Omega.{arith}
 use lib.Dec.{eqb}
-use Rattle.epochs.specs.Collator.{idle, dropped, goesOn, fits, summed, continued, stepped}
-use Rattle.epochs.specs.declared.judging.Packet.{Packet}
-use Rattle.epochs.specs.declared.placing.Run.{Run}
-use Rattle.epochs.specs.declared.placing.Run.the-variants.{Idle, Open}
-use Rattle.epochs.specs.declared.placing.Place.{Place}
-use Rattle.epochs.specs.declared.placing.Ended.the-variants.{Not, Whole}
-use Rattle.epochs.specs.declared.placing.Stepped.{Stepped}
+use Rattle.runs.specs.Run.{dropped, goesOn, fits, summed, continued, stepped}
+use Rattle.packets.specs.declared.packet.Packet.{Packet}
+use Rattle.runs.specs.declared.running.Run.{Run}
+use Rattle.runs.specs.declared.running.Run.the-variants.{Idle, Open}
+use Rattle.runs.specs.declared.running.Ended.the-variants.{Not, Whole}
+use Rattle.runs.specs.declared.running.Stepped.{Stepped}
 
 pub not-whole : {t : ℕ} → Not ≡ Whole t → ⊥
 not-whole e = let z : _≡_ {A = ℕ} 0 1 = cc in omega arith
@@ -18,10 +17,10 @@ not-whole e = let z : _≡_ {A = ℕ} 0 1 = cc in omega arith
 -- where a run goes on it is whole, or open for the next packet
 module _ (p : Packet) where
   abbrev pub whole : ℕ → Stepped
-  whole total = record { place = idle; ended = Whole total }
+  whole total = record { run = Idle; ended = Whole total }
 
   abbrev pub opened : ℕ → Stepped
-  opened total = record { place = record { run = Open (record { key = p .key; next = (p .counter + 1) % 256; total = total }) }; ended = Not }
+  opened total = record { run = Open (record { key = p .key; next = (p .counter + 1) % 256; total = total }); ended = Not }
 
 -- a step drops the run, ends it or leaves it open; its total is a u16's where the packet's own observations are
 module _ (P : Stepped → Type 0) (p : Packet) (on-dropped : P dropped)
@@ -44,13 +43,13 @@ module _ (P : Stepped → Type 0) (p : Packet) (on-dropped : P dropped)
       by true = going (summed part p) (λ h. omega arith)
       by false = on-dropped
 
-  pub step-cases : (place : Place) → P (stepped place p)
+  pub step-cases : (run : Run) → P (stepped run p)
   unfolding stepped
-  step-cases place = by (eqb (p .counter) 0)
+  step-cases run = by (eqb (p .counter) 0)
     where
-      by : (t : Bool) → P (cond t (goesOn p (p .observations)) (continued (place .run) p))
+      by : (t : Bool) → P (cond t (goesOn p (p .observations)) (continued run p))
       by true = going (p .observations) (λ h. h)
-      by false = continuing (place .run)
+      by false = continuing run
 
-pub whole-rests : (p : Packet) (place : Place) (t : ℕ) → stepped place p .ended ≡ Whole t → stepped place p .place ≡ idle
-whole-rests p = step-cases (λ (s : Stepped). (t : ℕ) → s .ended ≡ Whole t → s .place ≡ idle) p (λ t e. refl) (λ total h t e. refl) (λ total h t e. absurd (not-whole e))
+pub whole-rests : (p : Packet) (run : Run) (t : ℕ) → stepped run p .ended ≡ Whole t → stepped run p .run ≡ Idle
+whole-rests p = step-cases (λ (s : Stepped). (t : ℕ) → s .ended ≡ Whole t → s .run ≡ Idle) p (λ t e. refl) (λ total h t e. refl) (λ total h t e. absurd (not-whole e))
