@@ -85,10 +85,11 @@ pub record EndsEpoch (roster : List ℕ) (xs : List Content) (x : Content) (e : 
   pub report : e ≡ reportOf (x .sender) packet total
 
 -- each of the frames that come after those of the past came to an epoch exactly when it ends that epoch
-pub data CameTo (roster : List ℕ) : List Content → List Content → List Happened → Type 0 where
-  none : {past : List Content} → CameTo roster past [] []
-  next : {past xs : List Content} {x : Content} {h : Happened} {hs : List Happened} → ((e : Report) → (h ≡ H.Epoch e) ↔ EndsEpoch roster past x e)
-      → CameTo roster (past ++ x ∷ []) xs hs → CameTo roster past (x ∷ xs) (h ∷ hs)
+abbrev pub CameTo : List ℕ → List Content → List Content → List Happened → Type 0
+CameTo roster past [] [] = Unit {0}
+CameTo roster past [] (h ∷ hs) = ⊥
+CameTo roster past (x ∷ xs) [] = ⊥
+CameTo roster past (x ∷ xs) (h ∷ hs) = ((e : Report) → (h ≡ H.Epoch e) ↔ EndsEpoch roster past x e) × CameTo roster (past ++ x ∷ []) xs hs
 
 -- each listed sender has its seat: an accepted roster, or that of nobody
 pub record Seated (roster : List ℕ) : Type 0 where

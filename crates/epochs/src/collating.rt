@@ -162,9 +162,10 @@ impl Collator {
             },
             Recognised::For(at, packet) => {
                 let place = self.places[at];
-                let next = runs::step(place.run, packet);
-                let run = next.run;
-                self.places[at] = Place { run };
+                let run = place.run;
+                let next = runs::step(run, packet);
+                let after = next.run;
+                self.places[at] = Place { run: after };
                 let ended = next.ended;
                 Fed {
                     collator: self,

@@ -1,8 +1,8 @@
--- `epochs::collating::told` meets its contract.
+-- `epochs::collating::outcome` meets its contract.
 -- Assumes nothing.
 use borrow.Author.Needs.{needs}
-use Rattle.epochs.proofs.collating.told.Statement.{statement}
-use Rattle.epochs.proofs.collating.told.Tie as tie
+use Rattle.epochs.proofs.collating.outcome.Statement.{statement}
+use Rattle.epochs.proofs.collating.outcome.Tie as tie
 
 enum-told : tie.Need-enum-told
 enum-told c = search needs
@@ -16,5 +16,5 @@ returns c = search needs
 returns-2 : tie.Need-returns-2
 returns-2 c = rw (c .before .before .ended .given .1)
 
-pub told-spec : {M : Type 1} → statement M
-told-spec = tie.close (tie.spec enum-told enum-known-ended returns returns-2)
+pub outcome-spec : {M : Type 1} → statement M
+outcome-spec = tie.close (tie.spec enum-told enum-known-ended returns returns-2)

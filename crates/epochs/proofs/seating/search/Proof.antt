@@ -1,17 +1,17 @@
--- `epochs::collating::named` meets its contract. The loop's invariant: the answer is that of what is left.
+-- `epochs::seating::search` meets its contract. The loop's invariant: the answer is that of what is left.
 -- Assumes nothing.
 use mathlib.Core.Path.{_≡_, refl, sym, _∙_}
 use Prim.Native.Nat.{_-_}
 use native.Mathlib.Omega.{arith}
 use borrow.Author.Needs.{needs}
 use lib.ListN.{length, drop}
-use Rattle.epochs.specs.Collator.{names}
-use Rattle.epochs.proofs.Rosters.{names-none, names-here, names-on}
-use Rattle.epochs.proofs.collating.named.Statement.{statement}
-use Rattle.epochs.proofs.collating.named.Tie as tie
+use Rattle.epochs.specs.Search.{seatOf}
+use Rattle.epochs.proofs.Searches.{seat-none, seat-here, seat-on}
+use Rattle.epochs.proofs.seating.search.Statement.{statement}
+use Rattle.epochs.proofs.seating.search.Tie as tie
 
 abbrev Inv-loop : tie.InvT-loop
-Inv-loop roster from sender i₀ i = names (drop from roster) sender ≡ names (drop i roster) sender
+Inv-loop roster from sender i₀ i = seatOf (drop from roster) sender from ≡ seatOf (drop i roster) sender i
 
 abbrev μ-loop : tie.MeasureT-loop
 μ-loop roster from sender i₀ i = length roster - i
@@ -29,7 +29,7 @@ returns : tie.Need-returns Inv-loop μ-loop
 returns c =
     let a = c .before .before .before .before .args in
     let k = c .before .before .before .loop in
-    sym (k .inv ∙ names-here (a .roster .now) (a .sender) (k .i) (c .before .before .loop-test .taken) (c .if1 .taken))
+    sym (k .inv ∙ seat-here (a .roster .now) (a .sender) (k .i) (c .before .before .loop-test .taken) (c .if1 .taken))
 
 add-i : tie.Need-add-i Inv-loop μ-loop
 add-i c = omega arith
@@ -41,16 +41,16 @@ loop-again : tie.Need-loop-again Inv-loop μ-loop
 loop-again c =
     let a = c .before .before .before .before .args in
     let k = c .before .before .before .loop in
-    k .inv ∙ names-on (a .roster .now) (a .sender) (k .i) (c .before .before .loop-test .taken) (c .if1 .left)
+    k .inv ∙ seat-on (a .roster .now) (a .sender) (k .i) (c .before .before .loop-test .taken) (c .if1 .left)
 
 returns-2 : tie.Need-returns-2 Inv-loop μ-loop
 returns-2 c =
     let a = c .before .before .args in
     let k = c .before .loop in
-    sym (k .inv ∙ names-none (a .roster .now) (a .sender) (k .i) (c .loop-test .left))
+    sym (k .inv ∙ seat-none (a .roster .now) (a .sender) (k .i) (c .loop-test .left))
 
-pub named-spec : {M : Type 1} → statement M
-named-spec =
+pub search-spec : {M : Type 1} → statement M
+search-spec =
     tie.close
     (tie.spec
     Inv-loop

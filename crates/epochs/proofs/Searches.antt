@@ -1,20 +1,20 @@
--- A roster and its seats: a sender's seat lies in the roster, names it, and is the only one where no sender is named twice. Assumes nothing.
+-- The search of a roster: a sender's seat lies in the roster, names it, and is the only one where no sender is named twice. Assumes nothing.
 use mathlib.Core.Path.{_≡_, refl, sym, ap, ap₂, _∙_, subst}
 use mathlib.Core.Bool.{Bool, true, false, cond, true≢false, false≢true}
 use mathlib.Core.List.{List, [], _∷_, _++_, map, append-nil}
-use Prim.Native.Nat.{ℕ, zero, suc, _+_, _≤_, _<_}
-use native.Mathlib.Nat.{zero-add}
+use Prim.Native.Nat.{ℕ, zero, suc, _+_, min, _≤_, _<_}
+use native.Mathlib.Nat.{zero-add, min-eq-left}
 use native.Mathlib.Omega.{arith}
 use native.Mathlib.Numerals.{add-one}
-use lib.Dec.{eqb}
+use lib.Dec.{eqb, leb}
 use lib.ListN.{length, getD, set, take, drop, replicate, length-append, drop-of-length-le}
-use lib.Seq.{drop-cons, paste, paste-suc}
-use borrow.Author.Tests.{eq-eqb, ne-eqb, eqb-true, eqb-false}
-use Rattle.epochs.specs.Packet.{seatOf}
-use Rattle.epochs.specs.Collator.{names, repeats}
-use Rattle.epochs.specs.declared.judging.Seat.the-variants.{At, Nowhere}
+use lib.Seq.{drop-cons, take-all, paste, paste-suc}
+use borrow.Author.Tests.{eq-eqb, ne-eqb, eqb-true, eqb-false, leb-true, leb-false}
+use Rattle.epochs.specs.Search.{seatOf, isAt, names, repeats}
+use Rattle.epochs.specs.declared.seating.Seat.{Seat}
+use Rattle.epochs.specs.declared.seating.Seat.the-variants.{At, Nowhere}
 
--- ---- the search, from a place on
+-- ---- the search, from a seat on
 
 module _ (xs : List ℕ) (sender i : ℕ) where
   pub seat-none : length xs ≤ i → seatOf (drop i xs) sender i ≡ Nowhere
@@ -29,27 +29,65 @@ module _ (xs : List ℕ) (sender i : ℕ) where
   unfolding seatOf
   seat-on h e = rw (drop-cons xs i 0 h, ne-eqb (getD xs i 0) sender e, add-one)
 
-  pub names-none : length xs ≤ i → names (drop i xs) sender ≡ false
-  unfolding names
-  names-none h = rw (drop-of-length-le xs h)
+-- whether there is a seat does not depend on where counting begins
+any-start : (xs : List ℕ) (sender i j : ℕ) → isAt (seatOf xs sender i) ≡ isAt (seatOf xs sender j)
+unfolding seatOf
+any-start [] sender i j = refl
+any-start (x ∷ xs) sender i j = by (eqb x sender) (any-start xs sender (suc i) (suc j))
+  where
+    by : (t : Bool) → isAt (seatOf xs sender (suc i)) ≡ isAt (seatOf xs sender (suc j))
+        → isAt (cond t (At i) (seatOf xs sender (suc i))) ≡ isAt (cond t (At j) (seatOf xs sender (suc j)))
+    by true rest = refl
+    by false rest = rest
 
-  pub names-here : i < length xs → getD xs i 0 ≡ sender → names (drop i xs) sender ≡ true
-  unfolding names
-  names-here h e = rw (drop-cons xs i 0 h, eq-eqb (getD xs i 0) sender e)
+-- ---- who is named
 
-  pub names-on : i < length xs → (getD xs i 0 ≡ sender → ⊥) → names (drop i xs) sender ≡ names (drop (i + 1) xs) sender
-  unfolding names
-  names-on h e = rw (drop-cons xs i 0 h, ne-eqb (getD xs i 0) sender e, add-one)
+pub names-on : (x : ℕ) (xs : List ℕ) (sender : ℕ) → names (x ∷ xs) sender ≡ cond (eqb x sender) true (names xs sender)
+unfolding names seatOf
+names-on x xs sender = by (eqb x sender)
+  where
+    by : (t : Bool) → isAt (cond t (At 0) (seatOf xs sender 1)) ≡ cond t true (isAt (seatOf xs sender 0))
+    by true = refl
+    by false = any-start xs sender 1 0
+
+-- who is named later is named
+pub later : {u : Bool} (t : Bool) → u ≡ true → cond t true u ≡ true
+later true n = refl
+later false n = n
+
+neither : {u : Bool} (t : Bool) → cond t true u ≡ false → (t ≡ false) × (u ≡ false)
+neither true e = absurd (true≢false e)
+neither false e = (refl, e)
+
+module _ (x : ℕ) (xs : List ℕ) where
+  pub names-first : names (x ∷ xs) x ≡ true
+  names-first = names-on x xs x ∙ (rw (eq-eqb x x refl))
+
+  pub names-later : (sender : ℕ) → names xs sender ≡ true → names (x ∷ xs) sender ≡ true
+  names-later sender n = names-on x xs sender ∙ later (eqb x sender) n
+
+  pub names-not : (sender : ℕ) → names (x ∷ xs) sender ≡ false → (x ≡ sender → ⊥) × (names xs sender ≡ false)
+  names-not sender n = let e = neither (eqb x sender) (sym (names-on x xs sender) ∙ n) in (eqb-false x sender (e .0), e .1)
+
+  pub once-on : repeats (x ∷ xs) ≡ false → (names xs x ≡ false) × (repeats xs ≡ false)
+  unfolding repeats
+  once-on e = neither (names xs x) e
+
+pub names-at : (xs : List ℕ) (j : ℕ) → j < length xs → names xs (getD xs j 0) ≡ true
+names-at [] j h = absurd (omega arith)
+names-at (x ∷ xs) zero h = names-first x xs
+names-at (x ∷ xs) (suc j) h = names-later x xs (getD xs j 0) (names-at xs j (omega arith))
 
 module _ (xs : List ℕ) (i : ℕ) where
   pub repeats-none : length xs ≤ i → repeats (drop i xs) ≡ false
   unfolding repeats
   repeats-none h = rw (drop-of-length-le xs h)
 
-  -- from a place on the answer is that of its sender and of the rest
-  pub repeats-on : {t : Bool} → i < length xs → t ≡ names (drop (i + 1) xs) (getD xs i 0) → repeats (drop i xs) ≡ cond t true (repeats (drop (i + 1) xs))
-  unfolding repeats
-  repeats-on h e = rw (e, drop-cons xs i 0 h, add-one)
+  -- from a seat on the answer is that of its sender, looked for after it, and of the rest
+  pub repeats-on : {x : Seat} → i < length xs → x ≡ seatOf (drop (i + 1) xs) (getD xs i 0) (i + 1)
+      → repeats (drop i xs) ≡ cond (isAt x) true (repeats (drop (i + 1) xs))
+  unfolding repeats names
+  repeats-on h e = rw (e, drop-cons xs i 0 h, add-one, any-start (drop (suc i) xs) (getD xs i 0) (suc i) 0)
 
 -- zeros behind a roster read as what is past its end
 zeros : (n i : ℕ) → _≡_ {A = ℕ} (getD (replicate n 0) i 0) 0
@@ -63,6 +101,16 @@ with-zeros (x ∷ xs) n zero = refl
 with-zeros (x ∷ xs) n (suc i) = with-zeros xs n i
 
 -- ---- the seats that a collator keeps: the roster's, then zeros
+
+-- of eight seats no more than eight are taken
+pub take-eight : (n : ℕ) (xs : List ℕ) → length xs ≡ 8 → take (min n 8) xs ≡ take n xs
+take-eight n xs size = by (leb n 8) refl
+  where
+    by : (t : Bool) → leb n 8 ≡ t → take (min n 8) xs ≡ take n xs
+    by true e = ap (λ (k : ℕ). take k xs) (min-eq-left (leb-true n 8 e))
+    by false e =
+        let h = leb-false n 8 e in
+        take-all (min n 8) xs (omega arith) ∙ sym (take-all n xs (omega arith))
 
 module _ (roster : List ℕ) where
   abbrev pub filled : ℕ → List ℕ
@@ -110,61 +158,36 @@ seat-names (x ∷ xs) sender i j e = by (eqb x sender) refl j e (λ k f. seat-na
 pub seat-named : (xs : List ℕ) (sender : ℕ) {j : ℕ} → seatOf xs sender 0 ≡ At j → getD xs j 0 ≡ sender
 seat-named xs sender {j} e = seat-names xs sender 0 j (e ∙ ap At (sym (zero-add j)))
 
--- a sender that is alone has the first
-pub seat-alone : (sender : ℕ) → seatOf (sender ∷ []) sender 0 ≡ At 0
-unfolding seatOf
-seat-alone sender = rw (eq-eqb sender sender refl)
-
 -- a sender is named exactly when it has a seat
-pub seat-listed : (xs : List ℕ) (sender i : ℕ) → names xs sender ≡ true → (j : ℕ) × (seatOf xs sender i ≡ At j)
-unfolding names seatOf
-seat-listed [] sender i e = absurd (false≢true e)
-seat-listed (x ∷ xs) sender i e = by (eqb x sender) e (λ f. seat-listed xs sender (suc i) f)
-  where
-    by : (t : Bool) → cond t true (names xs sender) ≡ true → (names xs sender ≡ true → (j : ℕ) × (seatOf xs sender (suc i) ≡ At j))
-        → (j : ℕ) × (cond t (At i) (seatOf xs sender (suc i)) ≡ At j)
-    by true f rest = (i, refl)
-    by false f rest = rest f
+module _ (xs : List ℕ) (sender : ℕ) where
+  pub seat-listed : names xs sender ≡ true → (j : ℕ) × (seatOf xs sender 0 ≡ At j)
+  unfolding names
+  seat-listed n = by (seatOf xs sender 0) refl
+    where
+      by : (x : Seat) → seatOf xs sender 0 ≡ x → (j : ℕ) × (seatOf xs sender 0 ≡ At j)
+      by Nowhere e = absurd (false≢true (ap isAt (sym e) ∙ n))
+      by (At j) e = (j, e)
 
-pub seat-unlisted : (xs : List ℕ) (sender i : ℕ) → names xs sender ≡ false → seatOf xs sender i ≡ Nowhere
-unfolding names seatOf
-seat-unlisted [] sender i e = refl
-seat-unlisted (x ∷ xs) sender i e = by (eqb x sender) e (λ f. seat-unlisted xs sender (suc i) f)
-  where
-    by : (t : Bool) → cond t true (names xs sender) ≡ false → (names xs sender ≡ false → seatOf xs sender (suc i) ≡ Nowhere)
-        → cond t (At i) (seatOf xs sender (suc i)) ≡ Nowhere
-    by true f rest = absurd (true≢false f)
-    by false f rest = rest f
+  pub seat-at : {j : ℕ} → seatOf xs sender 0 ≡ At j → names xs sender ≡ true
+  unfolding names
+  seat-at e = ap isAt e
 
--- who is named later is named
-pub later : {u : Bool} (t : Bool) → u ≡ true → cond t true u ≡ true
-later true n = refl
-later false n = n
-
-pub names-at : (xs : List ℕ) (j : ℕ) → j < length xs → names xs (getD xs j 0) ≡ true
-unfolding names
-names-at [] j h = absurd (omega arith)
-names-at (x ∷ xs) zero h = rw (eq-eqb x x refl)
-names-at (x ∷ xs) (suc j) h = later (eqb x (getD xs j 0)) (names-at xs j (omega arith))
+  pub seat-nowhere : seatOf xs sender 0 ≡ Nowhere → names xs sender ≡ false
+  unfolding names
+  seat-nowhere e = ap isAt e
 
 -- where no sender is named twice, two seats have two senders
 apart : (xs : List ℕ) (i j : ℕ) → repeats xs ≡ false → i < length xs → j < length xs → getD xs i 0 ≡ getD xs j 0 → i ≡ j
-unfolding repeats
 apart [] i j once h k e = absurd (omega arith)
-apart (x ∷ xs) i j once h k e = by (names xs x) refl once i j h k e (λ i j o h k e. apart xs i j o h k e)
-  where
-    by : (t : Bool) → names xs x ≡ t → cond t true (repeats xs) ≡ false → (i j : ℕ) → i < length (x ∷ xs) → j < length (x ∷ xs) → getD (x ∷ xs) i 0 ≡ getD (x ∷ xs) j 0
-        → ((i j : ℕ) → repeats xs ≡ false → i < length xs → j < length xs → getD xs i 0 ≡ getD xs j 0 → i ≡ j) → i ≡ j
-    by true n o i j h k e rest = absurd (true≢false o)
-    by false n o zero zero h k e rest = refl
-    by false n o zero (suc j) h k e rest = absurd (false≢true (sym n ∙ ap (names xs) e ∙ names-at xs j (omega arith)))
-    by false n o (suc i) zero h k e rest = absurd (false≢true (sym n ∙ ap (names xs) (sym e) ∙ names-at xs i (omega arith)))
-    by false n o (suc i) (suc j) h k e rest = ap suc (rest i j o (omega arith) (omega arith) e)
+apart (x ∷ xs) zero zero once h k e = refl
+apart (x ∷ xs) zero (suc j) once h k e = absurd (false≢true (sym (once-on x xs once .0) ∙ ap (names xs) e ∙ names-at xs j (omega arith)))
+apart (x ∷ xs) (suc i) zero once h k e = absurd (false≢true (sym (once-on x xs once .0) ∙ ap (names xs) (sym e) ∙ names-at xs i (omega arith)))
+apart (x ∷ xs) (suc i) (suc j) once h k e = ap suc (apart xs i j (once-on x xs once .1) (omega arith) (omega arith) e)
 
 -- and each seat is found
 pub seat-own : (xs : List ℕ) (j : ℕ) → repeats xs ≡ false → j < length xs → seatOf xs (getD xs j 0) 0 ≡ At j
 seat-own xs j once h =
-    let found = seat-listed xs (getD xs j 0) 0 (names-at xs j h) in
+    let found = seat-listed xs (getD xs j 0) (names-at xs j h) in
     let within = seat-below xs (getD xs j 0) 0 (found .1) in
     found .1 ∙ ap At (apart xs (found .0) j once (omega arith) h (seat-named xs (getD xs j 0) (found .1)))
 
@@ -173,29 +196,17 @@ seat-own xs j once h =
 module _ {A : Type 0} {f g : ℕ → A} (sender : ℕ) (others : (y : ℕ) → (y ≡ sender → ⊥) → f y ≡ g y) where
   -- they differ at a sender that is not named
   pub map-others : (xs : List ℕ) → names xs sender ≡ false → map f xs ≡ map g xs
-  unfolding names
   map-others [] e = refl
-  map-others (x ∷ xs) e = by (eqb x sender) refl e (λ q. map-others xs q)
-    where
-      by : (t : Bool) → eqb x sender ≡ t → cond t true (names xs sender) ≡ false → (names xs sender ≡ false → map f xs ≡ map g xs) → map f (x ∷ xs) ≡ map g (x ∷ xs)
-      by true q n rest = absurd (true≢false n)
-      by false q n rest = ap₂ _∷_ (others x (eqb-false x sender q)) (rest n)
+  map-others (x ∷ xs) e = let n = names-not x xs sender e in ap₂ _∷_ (others x (n .0)) (map-others xs (n .1))
 
   -- they differ at one seat, where no sender is named twice
   pub map-seat : (xs : List ℕ) (j : ℕ) → repeats xs ≡ false → j < length xs → getD xs j 0 ≡ sender → set (map f xs) j (g sender) ≡ map g xs
-  unfolding repeats
   map-seat [] j once h e = absurd (omega arith)
-  map-seat (x ∷ xs) j once h e = by (names xs x) refl once j h e (λ k q h e. map-seat xs k q h e)
-    where
-      by : (t : Bool) → names xs x ≡ t → cond t true (repeats xs) ≡ false → (j : ℕ) → j < length (x ∷ xs) → getD (x ∷ xs) j 0 ≡ sender
-          → ((k : ℕ) → repeats xs ≡ false → k < length xs → getD xs k 0 ≡ sender → set (map f xs) k (g sender) ≡ map g xs)
-          → set (map f (x ∷ xs)) j (g sender) ≡ map g (x ∷ xs)
-      by true n q j h e rest = absurd (true≢false q)
-      by false n q zero h e rest = ap₂ _∷_ (ap g (sym e)) (map-others xs (ap (names xs) (sym e) ∙ n))
-      by false n q (suc k) h e rest =
-          let below : k < length xs = omega arith in
-          let other : x ≡ sender → ⊥ = λ s. false≢true (sym n ∙ ap (names xs) (s ∙ sym e) ∙ names-at xs k below) in
-          ap₂ _∷_ (others x other) (rest k q below e)
+  map-seat (x ∷ xs) zero once h e = ap₂ _∷_ (ap g (sym e)) (map-others xs (ap (names xs) (sym e) ∙ once-on x xs once .0))
+  map-seat (x ∷ xs) (suc k) once h e =
+      let below : k < length xs = omega arith in
+      let other : x ≡ sender → ⊥ = λ s. false≢true (sym (once-on x xs once .0) ∙ ap (names xs) (s ∙ sym e) ∙ names-at xs k below) in
+      ap₂ _∷_ (others x other) (map-seat xs k (once-on x xs once .1) below e)
 
 pub map-at : {A : Type 0} (f : ℕ → A) (xs : List ℕ) (j : ℕ) (d : A) → j < length xs → getD (map f xs) j d ≡ f (getD xs j 0)
 map-at f [] j d h = absurd (omega arith)
@@ -204,6 +215,5 @@ map-at f (x ∷ xs) (suc j) d h = map-at f xs j d (omega arith)
 
 -- they agree at every sender that is named
 pub map-listed : {A : Type 0} {f g : ℕ → A} (xs : List ℕ) → ((s : ℕ) → names xs s ≡ true → f s ≡ g s) → map f xs ≡ map g xs
-unfolding names
 map-listed [] e = refl
-map-listed (x ∷ xs) e = ap₂ _∷_ (e x (rw (eq-eqb x x refl))) (map-listed xs (λ s n. e s (later (eqb x s) n)))
+map-listed (x ∷ xs) e = ap₂ _∷_ (e x (names-first x xs)) (map-listed xs (λ s n. e s (names-later x xs s n)))
