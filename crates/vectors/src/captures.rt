@@ -1,9 +1,11 @@
 // Captures read closed and open, frame by frame: document 01's examples, and damaged ones.
+use crate::messages;
 use crate::print;
 use frames::Counts;
 use frames::Cursor;
 use frames::Frame;
 use frames::Next;
+use frames::Step;
 
 // The example frame of 003, section 4.
 pub const EXAMPLE: [u8; 28] = [
@@ -40,6 +42,7 @@ pub const EXAMPLE: [u8; 28] = [
 pub fn run() {
     let example = EXAMPLE;
     show(b"example", &example);
+    fields(&example);
     // a CRC that differs: bad, and on at 1
     let mut wrong = EXAMPLE;
     wrong[27] = 0x95;
@@ -93,6 +96,13 @@ pub fn run() {
             0x55,
         ],
     );
+}
+
+// The fields of the example, which 003 gives a table of.
+fn fields(s: &[u8]) {
+    if let Step::Found(f) = frames::step_at(s, 0) {
+        messages::baseline_ecef(frames::payload(s, f));
+    }
 }
 
 // Each frame with its payload, then the counts; open, then closed.

@@ -1,4 +1,4 @@
-// Every message with fields, OBS and LOG excepted: a payload read, printed field by field, and written again as a frame.
+// Every message but OBS and LOG: a payload read, printed field by field, and written again as a frame.
 use crate::payload::front;
 use crate::print;
 use frames::Sender;
@@ -12,6 +12,7 @@ use navigation::PosEcefRead;
 use navigation::PosLlhRead;
 use observation::BasePosEcefRead;
 use observation::BasePosLlhRead;
+use system::EmptyRead;
 use system::HeartbeatRead;
 use system::ReadByIndexReqRead;
 use system::StartupRead;
@@ -267,6 +268,32 @@ pub fn heartbeat(s: &[u8]) {
             written(&buf, w);
         }
         HeartbeatRead::Refused(n) => print::refused(n),
+    }
+    print::end();
+}
+
+pub fn settings_save(s: &[u8]) {
+    print::word(b"settings-save");
+    match system::read_settings_save(s) {
+        EmptyRead::Empty => {
+            let mut buf = [0u8; 64];
+            let w = system::write_settings_save(&mut buf, Sender::Named(0x0201));
+            written(&buf, w);
+        }
+        EmptyRead::Refused(n) => print::refused(n),
+    }
+    print::end();
+}
+
+pub fn read_by_index_done(s: &[u8]) {
+    print::word(b"read-by-index-done");
+    match system::read_read_by_index_done(s) {
+        EmptyRead::Empty => {
+            let mut buf = [0u8; 64];
+            let w = system::write_read_by_index_done(&mut buf, Sender::Named(0x0201));
+            written(&buf, w);
+        }
+        EmptyRead::Refused(n) => print::refused(n),
     }
     print::end();
 }
