@@ -84,8 +84,8 @@ def written():
     yield "write 255-into-263 263"
     for n in range(264):
         found, _, need = reading(data[:n], True)
-        told = "frame %d" % found[0][2] if found else "end" if need is None else "needs %d" % need
-        yield "cut %d %s %s" % (n, told, row(reading(data[:n], False)[1]))
+        outcome = "frame %d" % found[0][2] if found else "end" if need is None else "needs %d" % need
+        yield "cut %d %s %s" % (n, outcome, row(reading(data[:n], False)[1]))
     untouched = "11" * 12
     yield "write 5-into-12 refused 32 " + untouched
     yield "write 256-into-12 refused 31 " + untouched
@@ -158,8 +158,8 @@ def observations():
         whole = data[:39] + bytes(16 * (count - 2))
         yield "write-obs " + (frame(OBS, 0, whole).hex() if count <= 15 else "refused 31")
     for size in 0, 1, 9, 255, 256:
-        told = "%d %d %s" % (data[0], size - 1, data[1:size].hex()) if 1 <= size <= 255 else "refused 22"
-        yield "log %d %s" % (size, told)
+        outcome = "%d %d %s" % (data[0], size - 1, data[1:size].hex()) if 1 <= size <= 255 else "refused 22"
+        yield "log %d %s" % (size, outcome)
     buf = b""
     for size, room in (0, 9), (5, 14), (5, 13), (254, 264), (255, 264):
         buf = buf if len(buf) == room else b"\xee" * room
@@ -180,9 +180,9 @@ def walks():
     for payload in s[:39], s[:8], s[:7], t[:55]:
         place, line = 0, "walk %d" % len(payload)
         for _ in range(5):
-            told = entry(payload, place)
-            place += not told.startswith("refused")
-            line += " %s at %d" % (told, place)
+            outcome = entry(payload, place)
+            place += not outcome.startswith("refused")
+            line += " %s at %d" % (outcome, place)
         yield line
 
 
@@ -201,8 +201,8 @@ def fed(name, sorter, *packets):
 
 def replayed(name, data):
     sorter = Sorter(1228, 0)
-    told = [sorter.feed(kind, sender, payload) for _, kind, sender, payload in reading(data, False)[0]]
-    epochs = [t for t in told if t.startswith(" epoch")]
+    outcome = [sorter.feed(kind, sender, payload) for _, kind, sender, payload in reading(data, False)[0]]
+    epochs = [t for t in outcome if t.startswith(" epoch")]
     yield name + "".join(epochs)
     yield "%s 0 %d %d" % (name, *(sum(t.startswith(" epoch %d " % s) for t in epochs) for s in (1228, 0)))
 
@@ -210,12 +210,12 @@ def replayed(name, data):
 def collated():
     rosters = (), (7,), (0, 65535), range(1, 9), range(1, 10), (5, 6, 5), (1, 1, 3, 4, 5, 6, 7, 8, 9)
     yield "rosters" + "".join(" %d" % made(roster) for roster in rosters)
-    listed = 1228, 0, 65535
-    yield fed("halves", Sorter(*listed), (0, 1, 2, 0x00, 0), (0, 1, 2, 0x11, 0), (0, 1, 2, 0x10, 3), (0, 1, 2, 0x02, 0), (0, 1, 2, 0x10, 15), (65535, 9, 8, 0x10, 0))
-    c, zeros = Sorter(*listed), obs(1, 2, 0, 1)
+    three = 1228, 0, 65535
+    yield fed("halves", Sorter(*three), (0, 1, 2, 0x00, 0), (0, 1, 2, 0x11, 0), (0, 1, 2, 0x10, 3), (0, 1, 2, 0x02, 0), (0, 1, 2, 0x10, 15), (65535, 9, 8, 0x10, 0))
+    c, zeros = Sorter(*three), obs(1, 2, 0, 1)
     yield (fed("refusals", c, (0, 5, 6, 0x20, 1)) + c.feed(0x004A, 9, zeros[:8]) + c.feed(OBS, 9, zeros[:8]) + c.feed(OBS, 9, zeros[:7])
            + c.feed(OBS, 0, zeros[:7]) + fed("", c, (0, 5, 6, 0x12, 1), (1228, 5, 6, 0x21, 1), (0, 5, 6, 0x21, 2)))
-    c = Sorter(*listed)
+    c = Sorter(*three)
     yield fed("repeated", c, (0, 5, 6, 0x30, 1), (0, 5, 6, 0x31, 1), (0, 5, 6, 0x31, 1), (0, 5, 6, 0x32, 1))
     yield fed("begun-again", c, (0, 5, 6, 0x30, 1), (0, 5, 6, 0x31, 1), (0, 5, 6, 0x30, 4), (0, 5, 6, 0x31, 5), (0, 5, 6, 0x32, 6), (0, 5, 6, 0x32, 6))
     yield fed("other-week", c, (0, 5, 6, 0x20, 1), (0, 5, 7, 0x21, 1), (0, 5, 6, 0x21, 1))
@@ -225,11 +225,11 @@ def collated():
         yield fed("packets %d" % n, c, *((65535, 100, 1900, 16 * n + i, 15) for i in range(n)))
     each_once = [(sender, 5, 6, n_obs, count) for n_obs in (0x20, 0x21) for sender, count in zip((65535, 6, 5, 4, 3, 2, 1, 0, 7), (7, 6, 5, 4, 3, 2, 1, 0, 8))]
     yield fed("eight-senders", Sorter(0, 1, 2, 3, 4, 5, 6, 65535), *each_once)
-    c, told = Sorter(*listed), ""
+    c, outcome = Sorter(*three), ""
     for tow in range(400):
         packets = (1228, 0x30, 12), (0, 0x20, 9), (77, 0x21, 9), (1228, 0x31, 12), (0, 0x00, 1), (0, 0x21, 4), (1228, 0x32, 1)
-        told += fed("", c, *((sender, tow, 1900, n_obs, count) for sender, n_obs, count in packets))
-    yield "ticket %d %d" % (told.count(" epoch 1228 "), told.count(" epoch 0 "))
+        outcome += fed("", c, *((sender, tow, 1900, n_obs, count) for sender, n_obs, count in packets))
+    yield "ticket %d %d" % (outcome.count(" epoch 1228 "), outcome.count(" epoch 0 "))
     base = (1228, 10, 1900, 0x20, 1), (1228, 10, 1900, 0x21, 2), (1228, 20, 1900, 0x10, 3)
     rover = (0, 10, 1900, 0x20, 2), (0, 10, 1900, 0x21, 1), (0, 20, 1900, 0x20, 1)
     stranger = 77, 10, 1900, 0x21, 1

@@ -40,6 +40,12 @@ pub const EXAMPLE: [u8; 28] = [
 ];
 
 pub fn run() {
+    example();
+    shortest();
+    around();
+}
+
+fn example() {
     let example = EXAMPLE;
     show(b"example", &example);
     fields(&example);
@@ -47,12 +53,18 @@ pub fn run() {
     let mut wrong = EXAMPLE;
     wrong[27] = 0x95;
     show(b"example-damaged", &wrong);
+}
+
+fn shortest() {
     show(
         b"all-zero-frame",
         &[0x55, 0x00, 0x00, 0x00, 0x00, 0x00, 0x00, 0x00],
     );
     show(b"nothing", b"");
     show(b"five-bytes", &[0x55, 0x00, 0x00, 0x00, 0x00]);
+}
+
+fn around() {
     // a stated length of 8 holds a whole frame: skipped by that length, it would be lost
     show(
         b"frame-inside-a-bad-one",
