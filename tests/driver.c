@@ -1,4 +1,4 @@
-/* Calls the exported functions as told on standard input, and tells what came out: twin/src/bin/twincalls.rs asks and compares.
+/* Calls the exported functions as told on standard input, and tells what came out: twins/rust/src/bin/twincalls.rs asks and compares.
  * A request is a letter and its arguments, little-endian; lent buffers are filled with 0xEE first. A reply is the answer, and for each lent
  * buffer the FNV-1a hash of all its bytes after the call. */
 #include <stdio.h>
@@ -63,9 +63,9 @@ static void answer(void) {
 
 static void next(void) {
     size_t at = number(8);
-    bool growing = number(1) != 0;
+    bool opened = number(1) != 0;
     size_t room = filled(output, sizeof output), n = some(sizeof input);
-    tell(sbp_next(input, n, at, growing, output, room), 1);
+    tell(sbp_next(input, n, at, opened, output, room), 1);
     tell_hash(output, room);
 }
 

@@ -1,9 +1,9 @@
--- `vectors::each::fixes` is safe and ends: it counts to 256.
+-- `vectors::flags::fixes` is safe and ends: it counts to 256.
 use Prim.Native.Nat.{_≤_, _-_}
 use native.Mathlib.Omega.{arith}
 use borrow.Author.Needs.{needs}
-use Rattle.vectors.proofs.each.fixes.Statement.{statement}
-use Rattle.vectors.proofs.each.fixes.Tie as tie
+use Rattle.vectors.proofs.flags.fixes.Statement.{statement}
+use Rattle.vectors.proofs.flags.fixes.Tie as tie
 
 abbrev Inv-loop : tie.InvT-loop
 Inv-loop flags₀ flags = flags ≤ 256

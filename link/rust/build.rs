@@ -3,7 +3,7 @@
 
 fn main() {
     let home = std::env::var("CARGO_MANIFEST_DIR").expect("cargo sets it");
-    let folder = std::env::var("SBP_LIB").unwrap_or(format!("{home}/../target/staticlib"));
+    let folder = std::env::var("SBP_LIB").unwrap_or(format!("{home}/../../target/staticlib"));
     println!("cargo:rerun-if-env-changed=SBP_LIB");
     println!("cargo:rustc-link-search=native={folder}");
     println!("cargo:rustc-link-lib=static=exports");

@@ -1,4 +1,4 @@
-//! Holds the exported functions against the twin: asks tests/exports/driver.c,
+//! Holds the exported functions against the twin: asks tests/driver.c,
 //! and compares answers and lent buffers. Prints how often each answer came;
 //! the last line is 'N passed, M failed'.
 //!
@@ -163,12 +163,12 @@ fn ask_answer(asked: &mut Asked, rng: &mut Rng) {
 }
 
 /// The row of `sbp_next`, and its answer.
-fn next_from(bytes: &[u8], start: usize, growing: bool) -> (u8, Vec<u8>) {
+fn next_from(bytes: &[u8], start: usize, opened: bool) -> (u8, Vec<u8>) {
     let (mut at, mut junk, mut bad, mut short) = (start, 0_u64, 0_u64, 0_u64);
     let (number, next, needed, kind, sender, length) = loop {
         match step(bytes, at) {
             Step::Finished => break (1, at, 0, 0, 0, 0),
-            Step::Short { needed } if growing => break (2, at, needed, 0, 0, 0),
+            Step::Short { needed } if opened => break (2, at, needed, 0, 0, 0),
             Step::Short { .. } => short += 1,
             Step::Junk => junk += 1,
             Step::Bad => bad += 1,
@@ -201,16 +201,16 @@ fn ask_next(asked: &mut Asked, rng: &mut Rng, bytes: &[u8]) {
         1 => bytes.len() + rng.below(3),
         _ => rng.below(bytes.len() + 1),
     };
-    let growing = rng.chance(1, 2);
+    let opened = rng.chance(1, 2);
     let room = room(rng, FOUND);
     let mut request = vec![b'n'];
     request.extend((at as u64).to_le_bytes());
-    request.push(u8::from(growing));
+    request.push(u8::from(opened));
     request.extend((room as u32).to_le_bytes());
     let (number, buf) = if room < FOUND {
         (BUFFER_TOO_SHORT, lent(room, &[]))
     } else {
-        let (number, row) = next_from(bytes, at, growing);
+        let (number, row) = next_from(bytes, at, opened);
         (number, lent(room, &row))
     };
     asked.call("next", &with_bytes(request, bytes), &told(number, &buf));

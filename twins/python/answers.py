@@ -1,12 +1,16 @@
 #!/usr/bin/env python3
-"""Works out what vectors must print, with Python's own codecs and none of our code.
+"""Works out what vectors must print, by the twin beside it and Python's own codecs.
 
-usage: answers.py > stdout
+usage: answers.py > crates/vectors/stdout
 """
 import binascii
 import struct
 
+from twin import FIX_MODES, FLAGS, HEARTBEAT_FLAGS, MESSAGES, OBS, Sorter, answer, frame, is_obs, made, obs, reading, row
+
+# type through payload of the example frame of 003, section 4, and the fields that table 4.0.2 reads in it
 EXAMPLE = bytes.fromhex("0202cc0414703dd018cfefffffefe8fffff018000000000500")
+FIELDS = dict(tow=416300400, x=-4145, y=-5905, z=6384, accuracy=0, n_sats=5, flags=0)
 
 
 def checksums():
@@ -49,37 +53,6 @@ def doubles():
     yield "double one-with-pattern 3ff0000000000000"
 
 
-def frame(kind, sender, payload):
-    body = struct.pack("<HHB", kind, sender, len(payload)) + payload
-    return b"\x55" + body + struct.pack("<H", binascii.crc_hqx(body, 0))
-
-
-def reading(data, growing):
-    """Document 01's five lines: the frames, the four counts, and how many bytes an open reading asks for (None: it ended)."""
-    p, found, counts = 0, [], dict(framed=0, junk=0, bad=0, short=0)
-    while p < len(data):
-        left = len(data) - p
-        need = 6 if left < 6 else data[p + 5] + 8
-        if data[p] != 0x55:
-            kind, step = "junk", 1
-        elif left < need:
-            if growing:
-                return found, counts, need
-            kind, step = "short", 1
-        elif binascii.crc_hqx(data[p + 1:p + need - 2], 0) != struct.unpack("<H", data[p + need - 2:p + need])[0]:
-            kind, step = "bad", 1
-        else:
-            found.append((p, *struct.unpack("<HH", data[p + 1:p + 5]), data[p + 6:p + need - 2]))
-            kind, step = "framed", need
-        counts[kind] += step
-        p += step
-    return found, counts, None
-
-
-def row(counts):
-    return "%(framed)d %(junk)d %(bad)d %(short)d" % counts
-
-
 def captures():
     example = frame(0x0202, 1228, EXAMPLE[5:])
     inside = bytes.fromhex("5501010202085500000000000000aabb")
@@ -95,6 +68,8 @@ def captures():
                 line += " frame %d %d %d %d %s" % (at, kind, sender, len(payload), payload.hex())
             yield line + (" end " if need is None else " needs %d " % need) + row(counts)
         yield "totals %s %s" % (name, row(reading(data, False)[1]))
+        if name == "example":
+            yield "baseline-ecef %s %s" % (" ".join("%d" % v for v in FIELDS.values()), frame(0x0202, 0x0201, EXAMPLE[5:]).hex())
 
 
 def mixed(seed, step, size):
@@ -109,48 +84,30 @@ def written():
     yield "write 255-into-263 263"
     for n in range(264):
         found, _, need = reading(data[:n], True)
-        told = "frame %d" % found[0][2] if found else "end" if need is None else "needs %d" % need
-        yield "cut %d %s %s" % (n, told, row(reading(data[:n], False)[1]))
+        outcome = "frame %d" % found[0][2] if found else "end" if need is None else "needs %d" % need
+        yield "cut %d %s %s" % (n, outcome, row(reading(data[:n], False)[1]))
     untouched = "11" * 12
     yield "write 5-into-12 refused 32 " + untouched
     yield "write 256-into-12 refused 31 " + untouched
     yield "write 3-into-12 11 " + frame(0x0102, 0x42, mixed(7, 3, 3)).hex() + "11"
 
 
-# name: type, struct format (d is printed as its bits), and the fix modes that flags may have
-MESSAGES = {
-    "gps-time": (0x0100, "HIiB", None), "dops": (0x0206, "IHHHHH", None), "pos-ecef": (0x0200, "IdddHBB", 2), "pos-llh": (0x0201, "IdddHHBB", 2),
-    "baseline-ecef": (0x0202, "IiiiHBB", 1), "vel-ecef": (0x0204, "IiiiHBB", None), "baseline-ned": (0x0203, "IiiiHHBB", 1),
-    "vel-ned": (0x0205, "IiiiHHBB", None), "baseline-heading": (0x0207, "IIBB", 1), "base-pos-llh": (0x0044, "ddd", None),
-    "base-pos-ecef": (0x0048, "ddd", None), "read-by-index-req": (0x00A2, "H", None),
-    "startup": (0xFF00, "I", None), "heartbeat": (0xFFFF, "I", None)}
-
-
-def answer(name, payload):
-    """0, 22 or 23."""
-    _, layout, last = MESSAGES[name]
-    if len(payload) != struct.calcsize("<" + layout):
-        return 22
-    if name == "gps-time" and not -500000 <= struct.unpack("<HIiB", payload)[2] <= 500000:
-        return 23
-    return 23 if last is not None and payload[-1] % 8 > last else 0
-
-
 def message(name, payload):
     kind, layout, _ = MESSAGES[name]
-    refused = answer(name, payload)
+    refused = answer(kind, payload)
     if refused:
         return "%s refused %d" % (name, refused)
     fields = struct.unpack("<" + layout.replace("d", "Q"), payload)
     shown = ["%016x" % v if c == "d" else "%d" % v for c, v in zip(layout, fields)]
-    return "%s %s %s" % (name, " ".join(shown), frame(kind, 0x0201, payload).hex())
+    return " ".join([name, *shown, frame(kind, 0x0201, payload).hex()])
 
 
 def each():
     for seed in 0, 5:
         for off in -1, 0, 1:
             for name, (_, layout, _) in MESSAGES.items():
-                yield message(name, mixed(seed, 37, struct.calcsize("<" + layout) + off))
+                if layout:
+                    yield message(name, mixed(seed, 37, struct.calcsize("<" + layout) + off))
     for ns in 500000, 500001, -500000, -500001:
         yield message("gps-time", struct.pack("<HIiB", 0, 0, ns, 0))
     for bits in 0x8000000000000000, 0x7FF0000000000001, 0xFFF8000000000123, 0x7FFFFFFFFFFFFFFF:
@@ -159,19 +116,27 @@ def each():
         yield message("pos-ecef", payload[:32])
         yield message("base-pos-llh", payload[4:28])
         yield message("base-pos-ecef", payload[4:28])
-    tables = ("single", "float", "fixed"), ("single", "fixed", "float"), ("float", "fixed")
+    for name in "settings-save", "read-by-index-done":
+        for size in 0, 1:
+            yield message(name, bytes(size))
+
+
+def flags():
+    """A flags byte at all values: each ranged message's answer and its fix mode, then the single flags; and HEARTBEAT's, bit by bit."""
     for flags in range(256):
+        ends = lambda name: bytes(struct.calcsize("<" + MESSAGES[name][1]) - 1) + bytes([flags])
         line = "flags %d" % flags
-        for name, table in zip(("pos-ecef", "pos-llh", "baseline-ecef"), tables):
-            size = struct.calcsize("<" + MESSAGES[name][1])
-            line += " %d %s" % (answer(name, bytes(size - 1) + bytes([flags])), (table + ("reserved",) * 8)[flags % 8])
-        for name, size in ("baseline-ned", 22), ("baseline-heading", 10):
-            line += " %d" % answer(name, bytes(size - 1) + bytes([flags]))
-        yield line + "".join(" %d" % (flags >> k & 1) for k in (3, 4, 3, 4, 5))
+        for name, table in ("pos-ecef", "pos-ecef"), ("pos-llh", "pos-llh"), ("baseline-ecef", "baseline"):
+            line += " %d %s" % (answer(MESSAGES[name][0], ends(name)), FIX_MODES[table].get(flags % 8, "reserved"))
+        for name in "baseline-ned", "baseline-heading":
+            line += " %d" % answer(MESSAGES[name][0], ends(name))
+        yield line + bits(flags, FLAGS)
+    for flags in 0, *(1 << k for k in range(32)), 2**32 - 1:
+        yield "heartbeat-flags %08x%s" % (flags, bits(flags, HEARTBEAT_FLAGS))
 
 
-def is_obs(size):
-    return size in range(7, 248, 16)
+def bits(flags, table):
+    return "".join(" %d" % (flags >> k & 1) for k in table.values())
 
 
 def entry(payload, i):
@@ -191,10 +156,10 @@ def observations():
             yield "observation %d %s" % (i, entry(payload, i))
     for count in 2, 15, 16:
         whole = data[:39] + bytes(16 * (count - 2))
-        yield "write-obs " + (frame(0x0049, 0, whole).hex() if count <= 15 else "refused 31")
+        yield "write-obs " + (frame(OBS, 0, whole).hex() if count <= 15 else "refused 31")
     for size in 0, 1, 9, 255, 256:
-        told = "%d %d %s" % (data[0], size - 1, data[1:size].hex()) if 1 <= size <= 255 else "refused 22"
-        yield "log %d %s" % (size, told)
+        outcome = "%d %d %s" % (data[0], size - 1, data[1:size].hex()) if 1 <= size <= 255 else "refused 22"
+        yield "log %d %s" % (size, outcome)
     buf = b""
     for size, room in (0, 9), (5, 14), (5, 13), (254, 264), (255, 264):
         buf = buf if len(buf) == room else b"\xee" * room
@@ -215,62 +180,29 @@ def walks():
     for payload in s[:39], s[:8], s[:7], t[:55]:
         place, line = 0, "walk %d" % len(payload)
         for _ in range(5):
-            told = entry(payload, place)
-            place += not told.startswith("refused")
-            line += " %s at %d" % (told, place)
+            outcome = entry(payload, place)
+            place += not outcome.startswith("refused")
+            line += " %s at %d" % (outcome, place)
         yield line
 
 
 def types():
     sizes = {kind: [struct.calcsize("<" + layout)] for kind, layout, _ in MESSAGES.values()}
-    sizes.update({0x0049: range(7, 248, 16), 0x0401: range(1, 256), 0x00A1: [0], 0x00A6: [0]})
+    sizes.update({OBS: range(7, 248, 16), 0x0401: range(1, 256)})
     order = (0x0100, 0x0206, 0x0200, 0x0201, 0x0202, 0x0204, 0x0203, 0x0205, 0x0207, 0x0044, 0x0048, 0x0049, 0x0401, 0x00A1, 0x00A6, 0x00A2, 0xFF00, 0xFFFF)
     for kind in order:
         yield "lengths %04x %s" % (kind, " ".join("%d" % n for n in sizes[kind]))
     yield "types %d %d" % (65536 - len(order), sum(0 not in sizes[kind] for kind in order))
 
 
-def obs(tow, wn, n_obs, count):
-    return struct.pack("<IHB", tow, wn, n_obs) + bytes(16 * count)
-
-
-def made(roster):
-    return 41 if not 1 <= len(roster) <= 8 else 42 if len(set(roster)) < len(roster) else 0
-
-
-class Sorter:
-    """Document 01's epochs by their meaning: the well-formed frames of each listed sender, and whether the last n of them are one."""
-
-    def __init__(self, *roster):
-        self.own = {sender: [] for sender in roster}
-
-    def feed(self, kind, sender, payload):
-        if kind != 0x0049:
-            return " refused 46"
-        if not is_obs(len(payload)):
-            return " refused 22"
-        if sender not in self.own:
-            return " refused 43"
-        tow, wn, n_obs = struct.unpack_from("<IHB", payload)
-        n, i = divmod(n_obs, 16)
-        if not i < n:
-            return " refused %d" % (45 if n else 44)
-        own = self.own[sender]
-        own.append((tow, wn, n, i, (len(payload) - 7) // 16))
-        run = own[-n:]
-        if [packet[:4] for packet in run] != [(tow, wn, n, k) for k in range(n)]:
-            return " taken"
-        return " epoch %d %d %d %d %d" % (sender, wn, tow, n, sum(packet[4] for packet in run))
-
-
 def fed(name, sorter, *packets):
-    return name + "".join(sorter.feed(0x0049, sender, obs(*packet)) for sender, *packet in packets)
+    return name + "".join(sorter.feed(OBS, sender, obs(*packet)) for sender, *packet in packets)
 
 
 def replayed(name, data):
     sorter = Sorter(1228, 0)
-    told = [sorter.feed(kind, sender, payload) for _, kind, sender, payload in reading(data, False)[0]]
-    epochs = [t for t in told if t.startswith(" epoch")]
+    outcome = [sorter.feed(kind, sender, payload) for _, kind, sender, payload in reading(data, False)[0]]
+    epochs = [t for t in outcome if t.startswith(" epoch")]
     yield name + "".join(epochs)
     yield "%s 0 %d %d" % (name, *(sum(t.startswith(" epoch %d " % s) for t in epochs) for s in (1228, 0)))
 
@@ -278,12 +210,12 @@ def replayed(name, data):
 def collated():
     rosters = (), (7,), (0, 65535), range(1, 9), range(1, 10), (5, 6, 5), (1, 1, 3, 4, 5, 6, 7, 8, 9)
     yield "rosters" + "".join(" %d" % made(roster) for roster in rosters)
-    listed = 1228, 0, 65535
-    yield fed("halves", Sorter(*listed), (0, 1, 2, 0x00, 0), (0, 1, 2, 0x11, 0), (0, 1, 2, 0x10, 3), (0, 1, 2, 0x02, 0), (0, 1, 2, 0x10, 15), (65535, 9, 8, 0x10, 0))
-    c, zeros = Sorter(*listed), obs(1, 2, 0, 1)
-    yield (fed("refusals", c, (0, 5, 6, 0x20, 1)) + c.feed(0x004A, 9, zeros[:8]) + c.feed(0x0049, 9, zeros[:8]) + c.feed(0x0049, 9, zeros[:7])
-           + c.feed(0x0049, 0, zeros[:7]) + fed("", c, (0, 5, 6, 0x12, 1), (1228, 5, 6, 0x21, 1), (0, 5, 6, 0x21, 2)))
-    c = Sorter(*listed)
+    three = 1228, 0, 65535
+    yield fed("halves", Sorter(*three), (0, 1, 2, 0x00, 0), (0, 1, 2, 0x11, 0), (0, 1, 2, 0x10, 3), (0, 1, 2, 0x02, 0), (0, 1, 2, 0x10, 15), (65535, 9, 8, 0x10, 0))
+    c, zeros = Sorter(*three), obs(1, 2, 0, 1)
+    yield (fed("refusals", c, (0, 5, 6, 0x20, 1)) + c.feed(0x004A, 9, zeros[:8]) + c.feed(OBS, 9, zeros[:8]) + c.feed(OBS, 9, zeros[:7])
+           + c.feed(OBS, 0, zeros[:7]) + fed("", c, (0, 5, 6, 0x12, 1), (1228, 5, 6, 0x21, 1), (0, 5, 6, 0x21, 2)))
+    c = Sorter(*three)
     yield fed("repeated", c, (0, 5, 6, 0x30, 1), (0, 5, 6, 0x31, 1), (0, 5, 6, 0x31, 1), (0, 5, 6, 0x32, 1))
     yield fed("begun-again", c, (0, 5, 6, 0x30, 1), (0, 5, 6, 0x31, 1), (0, 5, 6, 0x30, 4), (0, 5, 6, 0x31, 5), (0, 5, 6, 0x32, 6), (0, 5, 6, 0x32, 6))
     yield fed("other-week", c, (0, 5, 6, 0x20, 1), (0, 5, 7, 0x21, 1), (0, 5, 6, 0x21, 1))
@@ -293,21 +225,21 @@ def collated():
         yield fed("packets %d" % n, c, *((65535, 100, 1900, 16 * n + i, 15) for i in range(n)))
     each_once = [(sender, 5, 6, n_obs, count) for n_obs in (0x20, 0x21) for sender, count in zip((65535, 6, 5, 4, 3, 2, 1, 0, 7), (7, 6, 5, 4, 3, 2, 1, 0, 8))]
     yield fed("eight-senders", Sorter(0, 1, 2, 3, 4, 5, 6, 65535), *each_once)
-    c, told = Sorter(*listed), ""
+    c, outcome = Sorter(*three), ""
     for tow in range(400):
         packets = (1228, 0x30, 12), (0, 0x20, 9), (77, 0x21, 9), (1228, 0x31, 12), (0, 0x00, 1), (0, 0x21, 4), (1228, 0x32, 1)
-        told += fed("", c, *((sender, tow, 1900, n_obs, count) for sender, n_obs, count in packets))
-    yield "ticket %d %d" % (told.count(" epoch 1228 "), told.count(" epoch 0 "))
+        outcome += fed("", c, *((sender, tow, 1900, n_obs, count) for sender, n_obs, count in packets))
+    yield "ticket %d %d" % (outcome.count(" epoch 1228 "), outcome.count(" epoch 0 "))
     base = (1228, 10, 1900, 0x20, 1), (1228, 10, 1900, 0x21, 2), (1228, 20, 1900, 0x10, 3)
     rover = (0, 10, 1900, 0x20, 2), (0, 10, 1900, 0x21, 1), (0, 20, 1900, 0x20, 1)
     stranger = 77, 10, 1900, 0x21, 1
-    in_a_row = lambda *packets: b"".join(frame(0x0049, sender, obs(*packet)) for sender, *packet in packets)
+    in_a_row = lambda *packets: b"".join(frame(OBS, sender, obs(*packet)) for sender, *packet in packets)
     yield from replayed("ordered", in_a_row(*base, *rover))
     yield from replayed("shuffled", bytes(3) + in_a_row(rover[0], base[0], stranger, base[1]) + bytes(5) + in_a_row(*rover[1:], base[2]))
 
 
 def lines():
-    for part in checksums, numbers, doubles, captures, written, each, observations, walks, types, collated:
+    for part in checksums, numbers, doubles, captures, written, each, flags, observations, walks, types, collated:
         yield from part()
 
 
