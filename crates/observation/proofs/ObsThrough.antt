@@ -6,12 +6,15 @@ use native.Mathlib.Omega.{arith}
 use lib.Dec.{lit<, lit≤}
 use lib.ListN.{length, getD, take}
 use lib.Seq.{getD-take, length-take-le, take-all}
+use borrow.Author.Tests.{le-leb}
 use mir.Syntax.{w32}
 use Rattle.wire.specs.Number.{Bytes}
-use Rattle.wire.specs.Layout.{HeldRows, SettledRows, HeldBody, SettledBody}
+use Rattle.wire.specs.Layout.{HeldRows, SettledRows, HeldBody, SettledBody, encodeBody}
 use Rattle.wire.specs.Description.{rowsOf, inside, readAs}
 use Rattle.wire.specs.Refusals.{given}
 use Rattle.wire.proofs.Fields.{signed-settled}
+use Rattle.wire.proofs.Layouts.{allowed-rows}
+use Rattle.wire.proofs.Descriptions.{reads-same}
 use Rattle.frames.specs.Step.{stepAt, payloadIn}
 use Rattle.frames.specs.Writer.{withFrame}
 use Rattle.frames.specs.Faithful.{Faithful, writeAnswer, writtenAs}
@@ -23,6 +26,7 @@ use Rattle.observation.specs.ObsWriter.{obsWriteAnswer, observed, obsWri
 use Rattle.observation.specs.ObsFaithful.{written, obsFrame, after, ObsFaithful}
 use Rattle.observation.specs.declared.entry.Observation.{Observation}
 use Rattle.observation.specs.declared.obs.Obs.{Obs}
+use Rattle.observation.proofs.Editions.{rows-counted}
 use Rattle.observation.proofs.ObsReading.{each-read, shown-read, only-shown}
 use Rattle.observation.proofs.ObsWritten.{same-answer, same-written}
 
@@ -36,6 +40,11 @@ settled-rows (o ∷ os) held = ((refl, (signed-settled w32 (o .«l_i») (held .0
 
 pub settled : (r : Observed Head Observation) → HeldBody (obs first .layout) (obs first .row r) → SettledBody (obs first .layout) (obs first .row r)
 settled r held = ((refl, (refl, (refl, tt))), settled-rows (r .observations) (held .1))
+
+-- the payload of a message that is not too long reads back whole
+pub held-whole : (r : Observed Head Observation) → length (r .observations) ≤ 15 → HeldBody (obs first .layout) (obs first .row r)
+    → readAs (obs first) (encodeBody (obs first .layout) (obs first .row r)) ≡ given r
+held-whole r few held = reads-same (obs first) (lit≤ tt) r held (allowed-rows (observation .fields) (λ v. refl) (rowsOf observation (r .observations))) (rw (rows-counted first (r .observations)) (le-leb (length (r .observations)) 15 few)) (settled r held)
 
 module _ (sender : ℕ) (o : Obs) (entries : List Observation) (buf : List ℕ) (enough : o .count ≤ length entries) where
   as-message : after sender o entries buf ≡ writtenAs (obs first) sender (written sender o entries) buf
