@@ -24,8 +24,8 @@ use Rattle.frames.specs.Faithful.{Faithful}
 use Rattle.frames.specs.declared.step.Frame.{Frame}
 use Rattle.frames.specs.declared.step.Step.{Step}
 use Rattle.frames.specs.declared.step.Step.the-variants.{Found}
-use Rattle.frames.proofs.Steps.{only, decided}
 use Rattle.frames.specs.Decides.{Decides}
+use Rattle.frames.proofs.Steps.{only, decided}
 use Rattle.frames.proofs.Frames.{found-bytes}
 use Rattle.frames.proofs.Tiling.{closed-tiled, only-closed, open-closed, each-once, adds-up}
 use Rattle.frames.proofs.WrittenRead.{reads-back-at}
