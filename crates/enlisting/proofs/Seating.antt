@@ -4,11 +4,11 @@ use mathlib.Core.Bool.{Bool, true, false, cond}
 use mathlib.Core.List.{List, [], _∷_, _++_}
 use Prim.Native.Nat.{ℕ, zero, suc, _+_, _≤_, _<_}
 use native.Mathlib.Omega.{arith}
-use lib.Dec.{eqb}
 use lib.ListN.{length, set, take, replicate, length-append}
 use borrow.Author.Tests.{le-leb, lt-leb}
-use Rattle.frames.specs.declared.step.Frame.{Frame}
-use Rattle.epochs.specs.Packet.{obsKind, seatOf}
+use Rattle.frames.specs.Frame.{Content}
+use Rattle.observation.specs.Edition.{isObs}
+use Rattle.epochs.specs.Packet.{seatOf}
 use Rattle.epochs.specs.Collator.{rosterOf}
 use Rattle.epochs.specs.declared.judging.Seat.{Seat}
 use Rattle.epochs.specs.declared.judging.Seat.the-variants.{At, Nowhere}
@@ -16,9 +16,8 @@ use Rattle.epochs.specs.declared.placing.Place.{Place}
 use Rattle.epochs.specs.declared.collating.Collator.{Collator}
 use Rattle.epochs.proofs.Rosters.{seat-listed, seat-unlisted}
 use Rattle.epochs.proofs.Senders.{roster-kept}
-use Rattle.listing.specs.Roster.{joined, enlisted}
-use Rattle.listing.specs.Seating.{seatedIn, joinedTo, enlistedTo}
-use Rattle.listing.proofs.Rosters.{by-joining}
+use Rattle.enlisting.specs.Enlisting.{seatedIn, joinedTo, enlistedTo}
+use Rattle.enlisting.proofs.Joining.{joined, enlisted, by-joining}
 
 -- a collator of a roster, with its places in any state
 abbrev pub heldIn : List Place → List ℕ → Collator
@@ -56,6 +55,17 @@ module _ (c : Collator) (sender : ℕ) where
         let taken : seatedIn Nowhere c sender ≡ record { places = c .places; roster = set (c .roster) (c .count) sender; count = c .count + 1 } = rw (lt-leb 8 (c .count) h) in
         sym taken ∙ ap (λ (x : Seat). seatedIn x c sender) (sym e)
 
+-- ---- and the two through `enlist`
+
+module _ (c : Collator) (kind sender : ℕ) where
+  pub enlists : {d : Collator} → isObs kind ≡ true → d ≡ joinedTo c sender → d ≡ enlistedTo c kind sender
+  unfolding enlistedTo
+  enlists e q = q ∙ sym (ap (λ (t : Bool). cond t (joinedTo c sender) c) e)
+
+  pub enlists-none : isObs kind ≡ false → c ≡ enlistedTo c kind sender
+  unfolding enlistedTo
+  enlists-none e = sym (ap (λ (t : Bool). cond t (joinedTo c sender) c) e)
+
 -- ---- so a sender joins the seats as it joins the roster
 
 module _ (places : List Place) (roster : List ℕ) (few : length roster ≤ 8) where
@@ -75,9 +85,10 @@ module _ (places : List Place) (roster : List ℕ) (few : length roster ≤ 8) w
           ap₂ {C = Collator} (λ (ss : List ℕ) (n : ℕ). record { places = places; roster = ss; count = n }) (one-more roster 8 8 sender h (omega arith))
           (sym (length-append roster (sender ∷ [])))
 
-  pub held-enlisted : (f : Frame) → enlistedTo (heldIn places roster) f ≡ heldIn places (enlisted roster f)
-  held-enlisted f = by (eqb (f .kind) obsKind)
+  pub held-enlisted : (x : Content) → enlistedTo (heldIn places roster) (x .kind) (x .sender) ≡ heldIn places (enlisted roster x)
+  unfolding enlistedTo
+  held-enlisted x = by (isObs (x .kind))
     where
-      by : (t : Bool) → cond t (joinedTo (heldIn places roster) (f .sender)) (heldIn places roster) ≡ heldIn places (cond t (joined roster (f .sender)) roster)
-      by true = held-joined (f .sender)
+      by : (t : Bool) → cond t (joinedTo (heldIn places roster) (x .sender)) (heldIn places roster) ≡ heldIn places (cond t (joined roster (x .sender)) roster)
+      by true = held-joined (x .sender)
       by false = refl
