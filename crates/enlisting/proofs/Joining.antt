@@ -11,7 +11,7 @@ use lib.Seq.{take-all, take-at}
 use borrow.Author.Tests.{ltb-true, ltb-false}
 use Rattle.frames.specs.Frame.{Content}
 use Rattle.observation.specs.Edition.{isObs}
-use Rattle.epochs.specs.Collator.{names}
+use Rattle.epochs.specs.Search.{names}
 use Rattle.enlisting.specs.FirstEight.{obsSenders, different, grownBy}
 
 -- a sender that is not listed yet comes last, while there is room

@@ -1,6 +1,6 @@
 -- The eight seats of a collator: what they hold of a roster, and that a sender joins them as it joins the roster. Assumes nothing.
 use mathlib.Core.Path.{_≡_, refl, sym, ap, ap₂, _∙_}
-use mathlib.Core.Bool.{Bool, true, false, cond}
+use mathlib.Core.Bool.{Bool, true, false, cond, true≢false}
 use mathlib.Core.List.{List, [], _∷_, _++_}
 use Prim.Native.Nat.{ℕ, zero, suc, _+_, _≤_, _<_}
 use native.Mathlib.Omega.{arith}
@@ -8,13 +8,13 @@ use lib.ListN.{length, set, take, replicate, length-append}
 use borrow.Author.Tests.{le-leb, lt-leb}
 use Rattle.frames.specs.Frame.{Content}
 use Rattle.observation.specs.Edition.{isObs}
-use Rattle.epochs.specs.Packet.{seatOf}
+use Rattle.epochs.specs.Search.{seatOf, isAt, names}
 use Rattle.epochs.specs.Collator.{rosterOf}
-use Rattle.epochs.specs.declared.judging.Seat.{Seat}
-use Rattle.epochs.specs.declared.judging.Seat.the-variants.{At, Nowhere}
-use Rattle.epochs.specs.declared.placing.Place.{Place}
+use Rattle.epochs.specs.declared.seating.Seat.{Seat}
+use Rattle.epochs.specs.declared.seating.Seat.the-variants.{At, Nowhere}
+use Rattle.epochs.specs.declared.collating.Place.{Place}
 use Rattle.epochs.specs.declared.collating.Collator.{Collator}
-use Rattle.epochs.proofs.Rosters.{seat-listed, seat-unlisted}
+use Rattle.epochs.proofs.Searches.{seat-listed}
 use Rattle.epochs.proofs.Senders.{roster-kept}
 use Rattle.enlisting.specs.Enlisting.{seatedIn, joinedTo, enlistedTo}
 use Rattle.enlisting.proofs.Joining.{joined, enlisted, by-joining}
@@ -66,13 +66,22 @@ module _ (c : Collator) (kind sender : ℕ) where
   unfolding enlistedTo
   enlists-none e = sym (ap (λ (t : Bool). cond t (joinedTo c sender) c) e)
 
+-- a sender that is not named has no seat
+seat-unlisted : (xs : List ℕ) (sender : ℕ) → names xs sender ≡ false → seatOf xs sender 0 ≡ Nowhere
+unfolding names
+seat-unlisted xs sender n = by (seatOf xs sender 0) refl
+  where
+    by : (x : Seat) → seatOf xs sender 0 ≡ x → seatOf xs sender 0 ≡ Nowhere
+    by Nowhere e = e
+    by (At i) e = absurd (true≢false (ap isAt (sym e) ∙ n))
+
 -- ---- so a sender joins the seats as it joins the roster
 
 module _ (places : List Place) (roster : List ℕ) (few : length roster ≤ 8) where
   held-joined : (sender : ℕ) → joinedTo (heldIn places roster) sender ≡ heldIn places (joined roster sender)
   held-joined sender =
-      by-joining roster sender (λ (r : List ℕ). joinedTo c sender ≡ heldIn places r) (λ n. sym (joins-listed c sender (seat ∙ seat-listed roster sender 0 n .1)))
-      (λ n h. sym (joins-full c sender (seat ∙ seat-unlisted roster sender 0 n) h)) (λ n h. sym (joins-last c sender (seat ∙ seat-unlisted roster sender 0 n) h) ∙ last h)
+      by-joining roster sender (λ (r : List ℕ). joinedTo c sender ≡ heldIn places r) (λ n. sym (joins-listed c sender (seat ∙ seat-listed roster sender n .1)))
+      (λ n h. sym (joins-full c sender (seat ∙ seat-unlisted roster sender n) h)) (λ n h. sym (joins-last c sender (seat ∙ seat-unlisted roster sender n) h) ∙ last h)
     where
       c : Collator
       c = heldIn places roster

@@ -8,11 +8,11 @@ use lib.Dec.{leb}
 use lib.ListN.{set}
 use Rattle.frames.specs.Frame.{Content}
 use Rattle.observation.specs.Edition.{isObs}
-use Rattle.epochs.specs.Packet.{seatOf}
-use Rattle.epochs.specs.Collator.{rosterOf, made}
-use Rattle.epochs.specs.Epoch.{fedFrame, after}
-use Rattle.epochs.specs.declared.judging.Seat.{Seat}
-use Rattle.epochs.specs.declared.judging.Seat.the-variants.{At, Nowhere}
+use Rattle.epochs.specs.Search.{seatOf}
+use Rattle.epochs.specs.Collator.{rosterOf, fedFrame, made}
+use Rattle.epochs.specs.Epoch.{after, outcomes}
+use Rattle.epochs.specs.declared.seating.Seat.{Seat}
+use Rattle.epochs.specs.declared.seating.Seat.the-variants.{At, Nowhere}
 use Rattle.epochs.specs.declared.collating.Collator.{Collator}
 use Rattle.epochs.specs.declared.collating.Fed.{Fed}
 use Rattle.epochs.specs.declared.collating.Happened.{Happened}
@@ -30,11 +30,6 @@ joinedTo c sender = seatedIn (seatOf (rosterOf c) sender 0) c sender
 unfoldable pub enlistedTo : Collator → ℕ → ℕ → Collator
 unfolding isObs
 enlistedTo c kind sender = cond (isObs kind) (joinedTo c sender) c
-
--- TEMPORARY: what each frame came to
-unfoldable pub outcomes : Collator → List Content → List Happened
-outcomes c [] = []
-outcomes c (x ∷ xs) = fedFrame c x .happened ∷ outcomes (fedFrame c x .collator) xs
 
 -- ---- frames whose senders are enlisted as they come
 

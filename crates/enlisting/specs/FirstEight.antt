@@ -6,7 +6,7 @@ use mathlib.Core.List.{List, [], _∷_, _++_}
 use lib.ListN.{take}
 use Rattle.frames.specs.Frame.{Content}
 use Rattle.observation.specs.Edition.{isObs}
-use Rattle.epochs.specs.Collator.{names}
+use Rattle.epochs.specs.Search.{names}
 use Rattle.epochs.specs.Epoch.{contentsOf}
 
 -- the senders of frames of type OBS, as they come

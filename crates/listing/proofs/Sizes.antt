@@ -17,8 +17,8 @@ use Rattle.frames.proofs.Frames.{found-at, found-fits, found-numbers, payload-b
 use Rattle.frames.proofs.Tiling.{closed-tiled, adds-up}
 use Rattle.payloads.specs.Table.{Line, table, readLine, lookUp, numberOf, answerFor}
 use Rattle.payloads.specs.declared.Message.{Message}
-use Rattle.epochs.specs.Collator.{made}
-use Rattle.epochs.specs.Epoch.{fedFrame, contentIn, contentsOf}
+use Rattle.epochs.specs.Collator.{fedFrame, made}
+use Rattle.epochs.specs.Epoch.{contentIn, contentsOf, outcomes}
 use Rattle.epochs.specs.declared.collating.Collator.{Collator}
 use Rattle.epochs.specs.declared.collating.Happened.{Happened}
 use Rattle.epochs.specs.declared.collating.Happened.the-variants as H
@@ -27,7 +27,6 @@ use Rattle.text.specs.Line.{fields, line}
 use Rattle.text.proofs.Decimals.{few-digits}
 use Rattle.text.proofs.Lines.{length-fields, length-line}
 use Rattle.enlisting.specs.FirstEight.{rosterIn}
-use Rattle.enlisting.specs.Enlisting.{outcomes}
 use Rattle.listing.specs.Listing.{frameLine, totalsLine, epochPart, framesText, textOf, mostListed}
 
 -- ---- a line of five numbers
@@ -84,7 +83,7 @@ module _ (s : List ℕ) (bytes : Bytes s) (short : length s ≤ mostListed) wher
         (omega (arith, here, inside)) (omega (arith, small .0)) (omega (arith, small .1)) (omega (arith, small .2)) (small-answer table (f .kind) (payloadIn s f))
 
     frame-epoch : (c : Collator) → length (epochPart (fedFrame c (contentIn s f) .happened)) ≤ 34
-    frame-epoch c = epoch-size (fedFrame c (contentIn s f) .happened) (report-small c (f .kind) (f .sender) (payloadIn s f) (payload-bytes s p e bytes) (found-numbers s p e bytes .1))
+    frame-epoch c = epoch-size (fedFrame c (contentIn s f) .happened) (report-small c (contentIn s f) (payload-bytes s p e bytes) (found-numbers s p e bytes .1))
 
   -- what a collator makes of frames
   abbrev textBy : Collator → List Frame → List ℕ
@@ -104,8 +103,9 @@ module _ (s : List ℕ) (bytes : Bytes s) (short : length s ≤ mostListed) wher
       by Bad q later = omega (arith, later c, ap passed q)
       by (Found f) q later =
           let fed = fedFrame c (contentIn s f) in
-          let whole = length-append (frameLine s f ++ epochPart (fed .happened)) (textBy (fed .collator) (framesOf xs)) in
-          let lines = length-append (frameLine s f) (epochPart (fed .happened)) in
+          let rest = textBy (fed .collator) (framesOf xs) in
+          let whole = length-append (frameLine s f) (epochPart (fed .happened) ++ rest) in
+          let lines = length-append (epochPart (fed .happened)) rest in
           let one = frame-size p q in
           let two = frame-epoch p q c in
           omega (arith, later (fed .collator), whole, lines, one, two, ap passed q)

@@ -1,5 +1,5 @@
 -- A listing put into a buffer line by line: what the loop of `put_text` keeps, and what `list` answers. Assumes nothing.
-use mathlib.Core.Path.{_≡_, refl, sym, ap, _∙_, subst}
+use mathlib.Core.Path.{_≡_, refl, sym, ap, ap₂, _∙_, subst}
 use mathlib.Core.Bool.{Bool, true, false, cond}
 use mathlib.Core.List.{List, [], _++_, append-assoc, map}
 use Prim.Native.Nat.{ℕ, _+_, _%_, _^_, _≤_, _<_}
@@ -19,8 +19,8 @@ use Rattle.frames.specs.declared.cursor.Cursor.{Cursor}
 use Rattle.frames.specs.declared.cursor.Next as Next
 use Rattle.frames.proofs.Walks.{Walking, left, walking-begun, walking-on, walking-end, end-counts}
 use Rattle.payloads.specs.Table.{answerFor}
-use Rattle.epochs.specs.Collator.{made}
-use Rattle.epochs.specs.Epoch.{fedFrame, contentIn, contentsOf}
+use Rattle.epochs.specs.Collator.{fedFrame, made}
+use Rattle.epochs.specs.Epoch.{contentIn, contentsOf}
 use Rattle.epochs.specs.declared.collating.Collator.{Collator}
 use Rattle.epochs.specs.declared.collating.Fed.{Fed}
 use Rattle.epochs.specs.declared.collating.Happened.{Happened}
@@ -32,8 +32,8 @@ use Rattle.listing.specs.Listing.{frameShown, frameLine, totalsShown, to
 
 -- ---- line by line
 
-reassoc : (a b c d : List ℕ) → ((a ++ b) ++ c) ++ d ≡ a ++ (b ++ (c ++ d))
-reassoc a b c d = append-assoc (a ++ b) c d ∙ append-assoc a b (c ++ d)
+reassoc : (a b c d : List ℕ) → (a ++ (b ++ c)) ++ d ≡ a ++ (b ++ (c ++ d))
+reassoc a b c d = append-assoc a (b ++ c) d ∙ ap (λ (t : List ℕ). a ++ t) (append-assoc b c d)
 
 module _ (s buf : List ℕ) where
   -- the buffer has room for the whole text
@@ -65,20 +65,22 @@ module _ (s buf : List ℕ) where
         walking-begun s small (Putting c buf 0) (record { pending = subst (λ (t : List ℕ). Left buf 0 (t ++ totalsLine s)) (sym same) all }) b
 
     -- a frame's line, then the line of the epoch that it ends
-    pub putting-on : {c seated : Collator} {now : List ℕ} {at : ℕ} {cur d : Cursor} {f : Frame} {answer : ℕ} {fed : Fed} {mid after : List ℕ} {between to : ℕ}
-        → Walking s (Putting c now at) cur → nextOf s cur ≡ Next.the-variants.Frame f d → answer ≡ answerFor (f .kind) (payloadIn s f)
+    pub putting-on : {c seated : Collator} {now : List ℕ} {at : ℕ} {cur d : Cursor} {f : Frame} {payload : List ℕ} {answer : ℕ} {fed : Fed} {mid after : List ℕ} {between to : ℕ}
+        → Walking s (Putting c now at) cur → nextOf s cur ≡ Next.the-variants.Frame f d → payload ≡ payloadIn s f → answer ≡ answerFor (f .kind) payload
         → between ≡ (at + length (frameShown f answer)) % 2 ^ 64 → mid ≡ laid now at (frameShown f answer)
-        → seated ≡ enlistedTo c (f .kind) (f .sender) → fed ≡ fedFrame seated (contentIn s f)
+        → seated ≡ enlistedTo c (f .kind) (f .sender) → fed ≡ fedFrame seated (record { kind = f .kind; sender = f .sender; payload = payload })
         → to ≡ (between + length (epochPart (fed .happened))) % 2 ^ 64 → after ≡ laid mid between (epochPart (fed .happened)) → Walking s (Putting (fed .collator) after to) d
     unfolding framesText newOutcomes
-    putting-on {c} {now = now} {at} {d = d} {f} {answer} {fed} {mid} {after} {between} {to} w e a q1 e1 j k q2 e2 =
+    putting-on {c} {seated} {now} {at} {d = d} {f} {payload} {answer} {fed} w e g a q1 e1 j k q2 e2 =
         walking-on s small w e
         (λ p.
         let rest = totalsLine s in
         let h = fedFrame (enlistedTo c (f .kind) (f .sender)) (contentIn s f) in
+        let same : fedFrame seated (record { kind = f .kind; sender = f .sender; payload = payload }) ≡ h
+        = ap₂ (λ (c : Collator) (p : List ℕ). fedFrame c (record { kind = f .kind; sender = f .sender; payload = p })) j g in
         let parts = subst (Left now at) (reassoc (frameLine s f) (epochPart (h .happened)) (newText (h .collator) (left s d)) rest) (p .pending) in
-        let fed-parts = subst (λ (x : Fed). Left now at (frameLine s f ++ (epochPart (x .happened) ++ (newText (x .collator) (left s d) ++ rest)))) (sym (k ∙ ap (λ (c : Collator). fedFrame c (contentIn s f)) j)) parts in
-        let all-parts = subst (λ (n : ℕ). Left now at (frameShown f n ++ (epochPart (fed .happened) ++ (newText (fed .collator) (left s d) ++ rest)))) (sym a) fed-parts in
+        let fed-parts = subst (λ (x : Fed). Left now at (frameLine s f ++ (epochPart (x .happened) ++ (newText (x .collator) (left s d) ++ rest)))) (sym (k ∙ same)) parts in
+        let all-parts = subst (λ (n : ℕ). Left now at (frameShown f n ++ (epochPart (fed .happened) ++ (newText (fed .collator) (left s d) ++ rest)))) (sym (a ∙ ap (answerFor (f .kind)) g)) fed-parts in
         let first = pending-laid (frameShown f answer) (epochPart (fed .happened) ++ (newText (fed .collator) (left s d) ++ rest)) all-parts short room e1 q1 in
         record { pending = pending-laid (epochPart (fed .happened)) (newText (fed .collator) (left s d) ++ rest) first short room e2 q2 })
 

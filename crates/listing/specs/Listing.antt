@@ -11,13 +11,12 @@ use Rattle.frames.specs.declared.step.Frame.{Frame}
 use Rattle.frames.specs.declared.cursor.Counts.{Counts}
 use Rattle.payloads.specs.Table.{answerFor}
 use Rattle.epochs.specs.Collator.{made}
-use Rattle.epochs.specs.Epoch.{contentsOf}
+use Rattle.epochs.specs.Epoch.{contentsOf, outcomes}
 use Rattle.epochs.specs.declared.collating.Report.{Report}
 use Rattle.epochs.specs.declared.collating.Happened.{Happened}
 use Rattle.epochs.specs.declared.collating.Happened.the-variants.{Refused, Taken, Epoch}
 use Rattle.text.specs.Line.{line}
 use Rattle.enlisting.specs.FirstEight.{rosterIn}
-use Rattle.enlisting.specs.Enlisting.{outcomes}
 
 -- `F` offset type sender length payload-answer
 abbrev pub frameShown : Frame → ℕ → List ℕ
@@ -47,7 +46,7 @@ epochPart (Epoch e) = epochLine e
 unfoldable pub framesText : List ℕ → List Frame → List Happened → List ℕ
 framesText s [] hs = []
 framesText s (f ∷ fs) [] = []
-framesText s (f ∷ fs) (h ∷ hs) = frameLine s f ++ epochPart h ++ framesText s fs hs
+framesText s (f ∷ fs) (h ∷ hs) = frameLine s f ++ (epochPart h ++ framesText s fs hs)
 
 -- what the frames of a capture come to in a collator of its roster. Where that is empty the collator lists nobody, and reports nothing
 abbrev pub outcomesIn : List ℕ → List Happened

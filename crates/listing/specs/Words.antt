@@ -11,6 +11,6 @@ use Rattle.listing.specs.Listing.{frameLine, epochLine}
 pub data Lines (s roster : List ℕ) : List Content → List Frame → List ℕ → Type 0 where
   none : {past : List Content} → Lines s roster past [] []
   ending : {past : List Content} {f : Frame} {fs : List Frame} {e : Report} {text : List ℕ} → EndsEpoch roster past (contentIn s f) e
-      → Lines s roster (past ++ contentIn s f ∷ []) fs text → Lines s roster past (f ∷ fs) (frameLine s f ++ epochLine e ++ text)
+      → Lines s roster (past ++ contentIn s f ∷ []) fs text → Lines s roster past (f ∷ fs) (frameLine s f ++ (epochLine e ++ text))
   passing : {past : List Content} {f : Frame} {fs : List Frame} {text : List ℕ} → ((e : Report) → EndsEpoch roster past (contentIn s f) e → ⊥)
       → Lines s roster (past ++ contentIn s f ∷ []) fs text → Lines s roster past (f ∷ fs) (frameLine s f ++ text)

@@ -5,8 +5,6 @@ use borrow.Author.Needs.{needs}
 use lib.ListN.{length}
 use lib.Seq.{length-sets}
 use Rattle.frames.proofs.Walks.{Walking, left, left-fewer, never-needs}
-use Rattle.payloads.specs.Table.{answerFor}
-use Rattle.epochs.specs.Collator.{fed}
 use Rattle.epochs.specs.declared.collating.Made.{Made}
 use Rattle.listing.specs.Listing.{textOf}
 use Rattle.listing.proofs.Texts.{Putting, putting-begun, putting-on, putting-end}
@@ -69,12 +67,12 @@ loop-again c =
     let a = at .before .before .before .before .before .before .before .before in
     let frame = c .before .before .before .before .before .before .before .before .before .before .before .before .before .before .next2 .given in
     let payload = c .before .before .before .before .before .before .before .before .before .before .before .before .payload .ensures in
-    let answer = c .before .before .before .before .before .before .before .before .before .before .answer .ensures ∙ ap (answerFor (frame .0 .0 .kind)) payload in
-    let seated = c .before .before .before .before .before .before .enlist in
-    let fed-on = c .before .before .before .before .before .feed .ensures ∙ ap (fed (seated .result) (frame .0 .0 .kind) (frame .0 .0 .sender)) payload in
+    let answer = c .before .before .before .before .before .before .before .before .before .before .answer .ensures in
+    let seated = c .before .before .before .before .before .before .enlist .ensures in
+    let fed = c .before .before .before .before .before .feed .ensures in
     let put = c .before .before .before .before .before .before .before .before .before .put-frame .ensures in
     let said = c .before .before .before .put-epoch .ensures in
-    putting-on (a .args .s .now) (a .args .buf .now) (a .good .0 .0) (a .pre) (at .before .loop .inv) (sym (at .next .ensures) ∙ frame .1) answer (put .0) (put .1) (seated .ensures) fed-on (said .0) (said .1)
+    putting-on (a .args .s .now) (a .args .buf .now) (a .good .0 .0) (a .pre) (at .before .loop .inv) (sym (at .next .ensures) ∙ frame .1) payload answer (put .0) (put .1) seated fed (said .0) (said .1)
 
 enum-known-next-2 : tie.Need-enum-known-next-2 Inv-loop μ-loop
 enum-known-next-2 c = search needs
