@@ -25,9 +25,9 @@ use Rattle.epochs.specs.declared.collating.Fed.{Fed}
 use Rattle.epochs.proofs.Searches.{names-first, names-later, seat-listed}
 use Rattle.epochs.proofs.Placings.{placed-seat, placed-unread}
 use Rattle.epochs.proofs.Making.{nobody, made-seated}
-use Rattle.enlisting.specs.FirstEight.{obsSenders, different, grownBy, firstEight}
+use Rattle.enlisting.specs.FirstEight.{obsSenders, different, firstEight}
 use Rattle.enlisting.specs.Enlisting.{newOutcomes, newAfter, AsOfTheFirst}
-use Rattle.enlisting.proofs.Joining.{joined, enlisted, Few, by-joining, few-joined, few-enlisted, few-grown, grown-none, grown-on}
+use Rattle.enlisting.proofs.Joining.{joined, enlisted, Few, by-joining, few-joined, few-enlisted, grownBy, few-grown, grown-none, grown-on}
 use Rattle.enlisting.proofs.EightSenders.{first-seated}
 use Rattle.enlisting.proofs.Seating.{heldIn, held-list, held-enlisted}
 

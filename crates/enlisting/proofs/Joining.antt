@@ -12,7 +12,7 @@ use borrow.Author.Tests.{ltb-true, ltb-false}
 use Rattle.frames.specs.Frame.{Content}
 use Rattle.observation.specs.Edition.{isObs}
 use Rattle.epochs.specs.Search.{names}
-use Rattle.enlisting.specs.FirstEight.{obsSenders, different, grownBy}
+use Rattle.enlisting.specs.FirstEight.{obsSenders, different}
 
 -- a sender that is not listed yet comes last, while there is room
 unfoldable pub joined : List ℕ → ℕ → List ℕ
@@ -50,7 +50,10 @@ enlisted-keeps P keeps x roster p = by (isObs (x .kind))
 pub few-enlisted : (x : Content) (roster : List ℕ) → Few roster → Few (enlisted roster x)
 few-enlisted = enlisted-keeps Few few-joined
 
--- ---- where it comes to
+-- ---- where it comes to: the senders that come, while there is room. From nobody on they are the first eight
+
+abbrev pub grownBy : List ℕ → List Content → List ℕ
+grownBy roster xs = take 8 (roster ++ different roster (obsSenders xs))
 
 pub grown-none : (roster : List ℕ) → Few roster → grownBy roster [] ≡ roster
 unfolding obsSenders different

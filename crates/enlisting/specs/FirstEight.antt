@@ -21,12 +21,8 @@ unfolding names
 different before [] = []
 different before (x ∷ xs) = cond (names before x) (different before xs) (x ∷ different (before ++ x ∷ []) xs)
 
--- a roster with the senders that come, while there is room
-abbrev pub grownBy : List ℕ → List Content → List ℕ
-grownBy roster xs = take 8 (roster ++ different roster (obsSenders xs))
-
 abbrev pub firstEight : List Content → List ℕ
-firstEight xs = grownBy [] xs
+firstEight xs = take 8 (different [] (obsSenders xs))
 
 -- those of a capture
 abbrev pub obsSendersIn : List ℕ → List ℕ

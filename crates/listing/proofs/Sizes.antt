@@ -25,7 +25,7 @@ use Rattle.epochs.specs.declared.collating.Happened.the-variants as H
 use Rattle.epochs.proofs.Reports.{SmallIn, report-small}
 use Rattle.text.specs.Line.{fields, line}
 use Rattle.text.proofs.Decimals.{few-digits}
-use Rattle.text.proofs.Lines.{length-fields, length-line}
+use Rattle.text.proofs.LinesPut.{length-fields, length-line}
 use Rattle.enlisting.specs.FirstEight.{rosterIn}
 use Rattle.listing.specs.Listing.{frameLine, totalsLine, epochPart, framesText, textOf, mostListed}
 

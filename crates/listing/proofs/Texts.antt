@@ -28,7 +28,7 @@ use Rattle.text.specs.Line.{laid}
 use Rattle.text.proofs.Pending.{Pending, pending-begun, pending-laid, pending-done, pending-last}
 use Rattle.enlisting.specs.Enlisting.{enlistedTo, newOutcomes}
 use Rattle.enlisting.proofs.Growing.{as-of-the-first}
-use Rattle.listing.specs.Listing.{frameShown, frameLine, totalsShown, totalsLine, epochPart, framesText, textOf, mostListed, listAnswer, listedAs, withListing}
+use Rattle.listing.specs.Listing.{frameShown, frameLine, totalsShown, totalsLine, epochPart, framesText, textOf, mostListed, listAnswer, withListingFor, withListing}
 
 -- ---- line by line
 
@@ -114,14 +114,14 @@ puts buf at e q r = (q ∙ ap (λ (h : Happened). (at + length (epochPart h)) % 
 -- ---- what `list` answers
 
 module _ (s buf : List ℕ) where
-  abbrev pub Listed : Answer ℕ → List ℕ → Type 0
-  Listed a after = (a ≡ listAnswer s (length buf)) × (after ≡ withListing s buf)
+  abbrev pub Lists : Answer ℕ → List ℕ → Type 0
+  Lists a after = (a ≡ listAnswer s (length buf)) × (after ≡ withListing s buf)
 
   -- a refusal changes nothing
-  refuses : {n : ℕ} → refused n ≡ listAnswer s (length buf) → Listed (refused n) buf
-  refuses e = (e, ap (λ (a : Answer ℕ). listedAs a s buf) e)
+  refuses : {n : ℕ} → refused n ≡ listAnswer s (length buf) → Lists (refused n) buf
+  refuses e = (e, ap (λ (a : Answer ℕ). withListingFor a s buf) e)
 
-  pub too-long : mostListed < length s → Listed (refused 11) buf
+  pub too-long : mostListed < length s → Lists (refused 11) buf
   unfolding listAnswer
   too-long h = refuses answered
     where
@@ -129,18 +129,18 @@ module _ (s buf : List ℕ) where
       answered = rw (lt-leb (length s) mostListed h)
 
   module _ (short : length s ≤ mostListed) where
-    pub no-room : leb (length (textOf s)) (length buf) ≡ false → Listed (refused 32) buf
+    pub no-room : leb (length (textOf s)) (length buf) ≡ false → Lists (refused 32) buf
     unfolding listAnswer
     no-room e = refuses answered
       where
         answered : refused 32 ≡ listAnswer s (length buf)
         answered = rw (le-leb (length s) mostListed short, e)
 
-    pub all-listed : {n : ℕ} {after : List ℕ} → leb (length (textOf s)) (length buf) ≡ true → n ≡ length (textOf s) → (Room s buf → after ≡ sets buf 0 (textOf s))
-        → Listed (given n) after
+    pub text-put : {n : ℕ} {after : List ℕ} → leb (length (textOf s)) (length buf) ≡ true → n ≡ length (textOf s) → (Room s buf → after ≡ sets buf 0 (textOf s))
+        → Lists (given n) after
     unfolding listAnswer
-    all-listed {after = after} e size put =
-        subst (λ (k : ℕ). Listed (given k) after) (sym size) (answered, put fits ∙ stored ∙ ap (λ (a : Answer ℕ). listedAs a s buf) answered)
+    text-put {after = after} e size put =
+        subst (λ (k : ℕ). Lists (given k) after) (sym size) (answered, put fits ∙ stored ∙ ap (λ (a : Answer ℕ). withListingFor a s buf) answered)
       where
         fits : Room s buf
         fits = leb-true (length (textOf s)) (length buf) e

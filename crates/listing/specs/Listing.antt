@@ -75,12 +75,12 @@ unfoldable pub listAnswer : List ℕ → ℕ → Answer ℕ
 listAnswer s room = ordered (listing s room) (length (textOf s))
 
 -- the buffer after it: the text and the bytes after it as they were, or all as it was
-abbrev pub listedAs : Answer ℕ → List ℕ → List ℕ → List ℕ
-listedAs (given n) s buf = textOf s ++ drop n buf
-listedAs (refused n) s buf = buf
+abbrev pub withListingFor : Answer ℕ → List ℕ → List ℕ → List ℕ
+withListingFor (given n) s buf = textOf s ++ drop n buf
+withListingFor (refused n) s buf = buf
 
 abbrev pub withListing : List ℕ → List ℕ → List ℕ
-withListing s buf = listedAs (listAnswer s (length buf)) s buf
+withListing s buf = withListingFor (listAnswer s (length buf)) s buf
 
 -- the whole output of `sbplist`: `R 11` alone for an over-long capture
 abbrev pub output : List ℕ → List ℕ

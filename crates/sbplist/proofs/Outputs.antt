@@ -14,7 +14,7 @@ use Rattle.wire.specs.Refusals.{refused, given, Answer, FirstFails}
 use Rattle.wire.proofs.Ordered.{exactly-first, exactly-all}
 use Rattle.text.specs.Decimal.{digitsOf}
 use Rattle.text.specs.Line.{line}
-use Rattle.listing.specs.Listing.{textOf, mostListed, longestText, listing, listAnswer, listedAs, withListing, output}
+use Rattle.listing.specs.Listing.{textOf, mostListed, longestText, listing, listAnswer, withListingFor, withListing, output}
 use Rattle.listing.proofs.Sizes.{text-size}
 
 -- `R 11` and a line's end
@@ -27,15 +27,15 @@ Put s n text = (n ≡ length (output s)) × ((take n text ≡ output s) × (n �
 
 module _ (s : List ℕ) where
   -- a listing was given
-  listed-when : (room n : ℕ) → listAnswer s room ≡ given n → (length s ≤ mostListed) × (n ≡ length (textOf s))
+  given-when : (room n : ℕ) → listAnswer s room ≡ given n → (length s ≤ mostListed) × (n ≡ length (textOf s))
   unfolding listAnswer
-  listed-when room n g = let all = exactly-all (length (textOf s)) (listing s room) n .0 g in (leb-true (length s) mostListed (all .0 .0), sym (all .1))
+  given-when room n g = let all = exactly-all (length (textOf s)) (listing s room) n .0 g in (leb-true (length s) mostListed (all .0 .0), sym (all .1))
 
   pub puts-listing : (buf : List ℕ) {n : ℕ} {after : List ℕ} → listAnswer s (length buf) ≡ given n → after ≡ withListing s buf → Put s n after
   puts-listing buf {n} {after} g e =
-      let when = listed-when (length buf) n g in
+      let when = given-when (length buf) n g in
       let short : output s ≡ textOf s = rw (le-leb (length s) mostListed (when .0)) in
-      let made-of : after ≡ textOf s ++ drop n buf = e ∙ ap (λ (a : Answer ℕ). listedAs a s buf) g in
+      let made-of : after ≡ textOf s ++ drop n buf = e ∙ ap (λ (a : Answer ℕ). withListingFor a s buf) g in
       let front = ap (λ (k : ℕ). take k (textOf s ++ drop n buf)) (when .1) ∙ take-append-seam (textOf s) (drop n buf) in
       let size = ap length made-of ∙ length-append (textOf s) (drop n buf) in
       (when .1 ∙ ap length (sym short), (ap (take n) made-of ∙ front ∙ sym short, omega (arith, when .1, size)))
@@ -58,7 +58,7 @@ module _ (s : List ℕ) where
   puts-refusal buf bytes {n} {same} h r e =
       let long = refused-when bytes h r in
       let shown : output s ≡ refusal = rw (lt-leb (length s) mostListed long) in
-      let as-it-was : same ≡ buf = e ∙ ap (λ (a : Answer ℕ). listedAs a s buf) r in
+      let as-it-was : same ≡ buf = e ∙ ap (λ (a : Answer ℕ). withListingFor a s buf) r in
       let room = length-sets same 0 refusal ∙ ap length as-it-was in
       let stored = sets-eq refusal same 0 (omega (arith, h, ap length as-it-was)) in
       (ap length (sym shown), (ap (take 5) stored ∙ take-append-seam refusal (drop 5 same) ∙ sym shown, omega (arith, h, room)))
