@@ -9,7 +9,7 @@ use Rattle.frames.specs.Step.{payloadIn}
 use Rattle.frames.specs.Reading.{closedSteps, framesOf, countsOf}
 use Rattle.frames.specs.declared.step.Frame.{Frame}
 use Rattle.frames.specs.declared.cursor.Counts.{Counts}
-use Rattle.payloads.specs.Table.{answerFor}
+use Rattle.payloads.specs.Payloads.{answerFor}
 use Rattle.epochs.specs.Collator.{made}
 use Rattle.epochs.specs.Epoch.{contentsOf, outcomes}
 use Rattle.epochs.specs.declared.collating.Report.{Report}

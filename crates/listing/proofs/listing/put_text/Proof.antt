@@ -4,7 +4,7 @@ use native.Mathlib.Omega.{arith}
 use borrow.Author.Needs.{needs}
 use lib.ListN.{length}
 use lib.Seq.{length-sets}
-use Rattle.frames.proofs.Walks.{Walking, left, left-fewer, never-needs}
+use Rattle.frames.proofs.CursorLoops.{Walking, left, left-fewer, never-needs}
 use Rattle.epochs.specs.declared.collating.Made.{Made}
 use Rattle.listing.specs.Listing.{textOf}
 use Rattle.listing.proofs.Texts.{Putting, putting-begun, putting-on, putting-end}
