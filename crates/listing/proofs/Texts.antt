@@ -8,7 +8,8 @@ use lib.Dec.{leb}
 use lib.ListN.{length, drop}
 use lib.Seq.{sets, sets-eq, length-sets}
 use borrow.Author.Tests.{le-leb, lt-leb, leb-true}
-use Rattle.wire.specs.Refusals.{refused, given, Answer}
+use Rattle.wire.specs.Refusals.{refused, given, Answer, leaves}
+use Rattle.frames.specs.Writer.{startingWith}
 use Rattle.frames.specs.Step.{payloadIn}
 use Rattle.frames.specs.Reading.{closedSteps, framesOf}
 use Rattle.frames.specs.Cursors.{nextOf, countsIn}
@@ -28,7 +29,7 @@ use Rattle.text.specs.Line.{laid}
 use Rattle.text.proofs.Pending.{Pending, pending-begun, pending-laid, pending-done, pending-last}
 use Rattle.enlisting.specs.Enlisting.{enlistedTo, newOutcomes}
 use Rattle.enlisting.proofs.Growing.{as-of-the-first}
-use Rattle.listing.specs.Listing.{frameShown, frameLine, totalsShown, totalsLine, epochPart, framesText, textOf, mostListed, listAnswer, withListingFor, withListing}
+use Rattle.listing.specs.Listing.{frameShown, frameLine, totalsShown, totalsLine, epochPart, framesText, textOf, mostListed, listAnswer, withListing}
 
 -- ---- line by line
 
@@ -119,7 +120,7 @@ module _ (s buf : List ℕ) where
 
   -- a refusal changes nothing
   refuses : {n : ℕ} → refused n ≡ listAnswer s (length buf) → Lists (refused n) buf
-  refuses e = (e, ap (λ (a : Answer ℕ). withListingFor a s buf) e)
+  refuses e = (e, ap (λ (a : Answer ℕ). leaves (startingWith (textOf s)) a buf) e)
 
   pub too-long : mostListed < length s → Lists (refused 11) buf
   unfolding listAnswer
@@ -140,7 +141,7 @@ module _ (s buf : List ℕ) where
         → Lists (given n) after
     unfolding listAnswer
     text-put {after = after} e size put =
-        subst (λ (k : ℕ). Lists (given k) after) (sym size) (answered, put fits ∙ stored ∙ ap (λ (a : Answer ℕ). withListingFor a s buf) answered)
+        subst (λ (k : ℕ). Lists (given k) after) (sym size) (answered, put fits ∙ stored ∙ ap (λ (a : Answer ℕ). leaves (startingWith (textOf s)) a buf) answered)
       where
         fits : Room s buf
         fits = leb-true (length (textOf s)) (length buf) e

@@ -3,8 +3,9 @@ use Prim.Native.Nat.{ℕ, _+_, _*_}
 use mathlib.Core.Bool.{cond}
 use mathlib.Core.List.{List, [], _∷_, _++_}
 use lib.Dec.{leb}
-use lib.ListN.{length, drop}
-use Rattle.wire.specs.Refusals.{refused, given, Answer, Tests, ordered}
+use lib.ListN.{length}
+use Rattle.wire.specs.Refusals.{Answer, Tests, ordered, leaves}
+use Rattle.frames.specs.Writer.{startingWith}
 use Rattle.frames.specs.Step.{payloadIn}
 use Rattle.frames.specs.Reading.{closedSteps, framesOf, countsOf}
 use Rattle.frames.specs.declared.step.Frame.{Frame}
@@ -75,12 +76,8 @@ unfoldable pub listAnswer : List ℕ → ℕ → Answer ℕ
 listAnswer s room = ordered (listing s room) (length (textOf s))
 
 -- the buffer after it: the text and the bytes after it as they were, or all as it was
-abbrev pub withListingFor : Answer ℕ → List ℕ → List ℕ → List ℕ
-withListingFor (given n) s buf = textOf s ++ drop n buf
-withListingFor (refused n) s buf = buf
-
 abbrev pub withListing : List ℕ → List ℕ → List ℕ
-withListing s buf = withListingFor (listAnswer s (length buf)) s buf
+withListing s buf = leaves (startingWith (textOf s)) (listAnswer s (length buf)) buf
 
 -- the whole output of `sbplist`: `R 11` alone for an over-long capture
 abbrev pub output : List ℕ → List ℕ

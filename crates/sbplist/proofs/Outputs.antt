@@ -10,11 +10,12 @@ use lib.ListN.{length, take, drop, length-append}
 use lib.Seq.{sets, sets-eq, length-sets, take-append-seam}
 use borrow.Author.Tests.{le-leb, lt-leb, leb-true, leb-false}
 use Rattle.wire.specs.Number.{Bytes}
-use Rattle.wire.specs.Refusals.{refused, given, Answer, FirstFails}
+use Rattle.wire.specs.Refusals.{refused, given, Answer, leaves, FirstFails}
+use Rattle.frames.specs.Writer.{startingWith}
 use Rattle.wire.proofs.Ordered.{exactly-first, exactly-all}
 use Rattle.text.specs.Decimal.{digitsOf}
 use Rattle.text.specs.Line.{line}
-use Rattle.listing.specs.Listing.{textOf, mostListed, longestText, listing, listAnswer, withListingFor, withListing, output}
+use Rattle.listing.specs.Listing.{textOf, mostListed, longestText, listing, listAnswer, withListing, output}
 use Rattle.listing.proofs.Sizes.{text-size}
 
 -- `R 11` and a line's end
@@ -35,7 +36,7 @@ module _ (s : List ℕ) where
   puts-listing buf {n} {after} g e =
       let when = given-when (length buf) n g in
       let short : output s ≡ textOf s = rw (le-leb (length s) mostListed (when .0)) in
-      let made-of : after ≡ textOf s ++ drop n buf = e ∙ ap (λ (a : Answer ℕ). withListingFor a s buf) g in
+      let made-of : after ≡ textOf s ++ drop n buf = e ∙ ap (λ (a : Answer ℕ). leaves (startingWith (textOf s)) a buf) g in
       let front = ap (λ (k : ℕ). take k (textOf s ++ drop n buf)) (when .1) ∙ take-append-seam (textOf s) (drop n buf) in
       let size = ap length made-of ∙ length-append (textOf s) (drop n buf) in
       (when .1 ∙ ap length (sym short), (ap (take n) made-of ∙ front ∙ sym short, omega (arith, when .1, size)))
@@ -58,7 +59,7 @@ module _ (s : List ℕ) where
   puts-refusal buf bytes {n} {same} h r e =
       let long = refused-when bytes h r in
       let shown : output s ≡ refusal = rw (lt-leb (length s) mostListed long) in
-      let as-it-was : same ≡ buf = e ∙ ap (λ (a : Answer ℕ). withListingFor a s buf) r in
+      let as-it-was : same ≡ buf = e ∙ ap (λ (a : Answer ℕ). leaves (startingWith (textOf s)) a buf) r in
       let room = length-sets same 0 refusal ∙ ap length as-it-was in
       let stored = sets-eq refusal same 0 (omega (arith, h, ap length as-it-was)) in
       (ap length (sym shown), (ap (take 5) stored ∙ take-append-seam refusal (drop 5 same) ∙ sym shown, omega (arith, h, room)))
