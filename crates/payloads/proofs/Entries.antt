@@ -11,8 +11,9 @@ use Rattle.wire.specs.Refusals.{refused, Answer, Tests, ordered}
 use Rattle.frames.proofs.Promised.{faithful}
 use Rattle.observation.specs.Edition.{first}
 use Rattle.observation.specs.Obs.{readingObs, obsIn, readObs}
-use Rattle.system.specs.Log.{logKind, logIn, readLog}
-use Rattle.payloads.specs.Payloads.{Named, messages, Entry, readIn, entryOf, obsEntry, logEntry, noEntry, table, entryFor, readingLog, testsOf, readFor, named, Typed, TypedIn, PromisedIn, Promised, AllOf}
+use Rattle.system.specs.Log as system
+use Rattle.system.specs.Log.{logIn, readingLog, readLog}
+use Rattle.payloads.specs.Payloads.{Named, messages, Entry, readIn, entryOf, obsEntry, logEntry, noEntry, table, entryFor, testsOf, readFor, named, Typed, TypedIn, PromisedIn, Promised, AllOf}
 use Rattle.payloads.specs.declared.Message.{Message}
 use Rattle.payloads.specs.declared.Message.the-variants as M
 
@@ -93,6 +94,6 @@ pub obs : Typed (first .kind) (λ r. M.Obs r) readObs
 unfolding entryFor readObs
 obs s = named-ordered (λ r. M.Obs r) (readingObs first s) (obsIn s)
 
-pub log : Typed logKind (λ r. M.Log r) readLog
+pub log : Typed (system.log .kind) (λ r. M.Log r) readLog
 unfolding entryFor readLog
 log s = named-ordered (λ r. M.Log r) (readingLog s) (logIn s)

@@ -12,7 +12,8 @@ use Rattle.wire.specs.Refusals.{Tests, ordered}
 use Rattle.navigation.specs.Range.{inNs, fixUpTo}
 use Rattle.observation.specs.Edition.{first}
 use Rattle.observation.specs.Obs.{readingObs}
-use Rattle.payloads.specs.Payloads.{Entry, table, readingLog, testsOf, numberOf}
+use Rattle.system.specs.Log.{readingLog}
+use Rattle.payloads.specs.Payloads.{Entry, table, testsOf, numberOf}
 use Rattle.payloads.specs.declared.check.Check.{Check}
 use Rattle.payloads.specs.declared.check.Check.the-variants.{Unknown, Length, Ns, Fix, Obs, Log}
 

@@ -23,7 +23,7 @@ use Rattle.observation.specs.Edition.{first}
 use Rattle.observation.specs.Obs.{readingObs, obsIn}
 use Rattle.system.specs.Empty.{settingsSave, readByIndexDone}
 use Rattle.system.specs.Heartbeat.{heartbeat}
-use Rattle.system.specs.Log.{logKind, logLength, logIn}
+use Rattle.system.specs.Log.{log, logIn, readingLog}
 use Rattle.system.specs.ReadByIndexReq.{readByIndexReq}
 use Rattle.system.specs.Startup.{startup}
 use Rattle.payloads.specs.declared.Message.{Message}
@@ -69,9 +69,6 @@ messages =
 
 -- ---- the table
 
-abbrev pub readingLog : List ℕ → Tests
-readingLog s = (logLength (length s), 22) ∷ []
-
 -- a row of it: a type, whether it has a reading, its reader's tests, and what a payload that passes them holds
 pub record Entry : Type 0 where
   pub kind : ℕ
@@ -87,7 +84,7 @@ abbrev pub obsEntry : Entry
 obsEntry = record { kind = first .kind; known = true; tests = readingObs first; holds = λ s. M.Obs (obsIn s) }
 
 abbrev pub logEntry : Entry
-logEntry = record { kind = logKind; known = true; tests = readingLog; holds = λ s. M.Log (logIn s) }
+logEntry = record { kind = log .kind; known = true; tests = readingLog; holds = λ s. M.Log (logIn s) }
 
 -- of a type without a reading: 21, so what it holds is never given
 abbrev pub noEntry : ℕ → Entry
