@@ -7,7 +7,7 @@ use Prim.Native.Nat.{ℕ, _<_}
 use native.Mathlib.Omega.{arith}
 use lib.ListN.{length}
 use Rattle.wire.specs.Refusals.{refused, given, Answer, Tests, ordered}
-use Rattle.wire.proofs.Answers.{same-given, never-both}
+use Rattle.wire.proofs.Distinct.{same-given, never-both}
 use Rattle.frames.specs.Frame.{Content}
 use Rattle.packets.specs.Packet.{packetIn, shape, numbering, readPacket}
 use Rattle.packets.specs.declared.packet.Packet.{Packet}
