@@ -24,8 +24,8 @@ use Rattle.epochs.specs.declared.collating.Happened.{Happened}
 use Rattle.epochs.specs.declared.collating.Happened.the-variants as H
 use Rattle.epochs.proofs.Judgements.{judged-below, judged-formed, judged-n, judged-time}
 use Rattle.epochs.proofs.Reports.{SmallIn, Small, report-small}
-use Rattle.exports.specs.State.{placeIn, placeStored, stateIn}
-use Rattle.exports.specs.Feed.{reportFields, reportRow, happenedNumber, happenedStored, FedIn, untouched, cameOut, takenIn, actedIn, fedIn}
+use Rattle.exports.specs.State.{stateSize, placeIn, placeStored, stateIn}
+use Rattle.exports.specs.Feed.{reportFields, reportSize, reportRow, happenedNumber, happenedStored, FedIn, untouched, cameOut, takenIn, actedIn, fedIn}
 use Rattle.exports.proofs.Parts.{stored-front, decode-stored}
 use Rattle.exports.proofs.States.{SmallPacket, stepped-small, state-place}
 
@@ -38,19 +38,19 @@ module _ (s : List ℕ) (kind sender : ℕ) (payload report : List ℕ) where
   pub came : {out : FedIn} → fedIn s kind sender payload report ≡ out → Out (out .answer) (out .state) (out .report)
   came e = (ap (λ (x : FedIn). x .answer) (sym e), (ap (λ (x : FedIn). x .state) (sym e), ap (λ (x : FedIn). x .report) (sym e)))
 
-  pub state-short : length s < 105 → fedIn s kind sender payload report ≡ untouched s report
+  pub state-short : length s < stateSize → fedIn s kind sender payload report ≡ untouched s report
   unfolding fedIn
-  state-short h = rw (lt-leb 105 (length s) h)
+  state-short h = rw (lt-leb stateSize (length s) h)
 
-  module _ (long : 105 ≤ length s) where
-    pub report-short : length report < 11 → fedIn s kind sender payload report ≡ untouched s report
+  module _ (long : stateSize ≤ length s) where
+    pub report-short : length report < reportSize → fedIn s kind sender payload report ≡ untouched s report
     unfolding fedIn
-    report-short h = rw (le-leb 105 (length s) long, lt-leb 11 (length report) h)
+    report-short h = rw (le-leb stateSize (length s) long, lt-leb reportSize (length report) h)
 
-    module _ (room : 11 ≤ length report) where
+    module _ (room : reportSize ≤ length report) where
       pub fed-acted : fedIn s kind sender payload report ≡ actedIn s report sender (judged (rosterOf (stateIn s)) kind sender payload)
       unfolding fedIn
-      fed-acted = rw (le-leb 105 (length s) long, le-leb 11 (length report) room)
+      fed-acted = rw (le-leb stateSize (length s) long, le-leb reportSize (length report) room)
 
       pub fed-refused : {n : ℕ} → judged (rosterOf (stateIn s)) kind sender payload ≡ J.Refused n → fedIn s kind sender payload report ≡ cameOut s report (H.Refused n)
       fed-refused e = fed-acted ∙ ap (actedIn s report sender) e
@@ -81,7 +81,7 @@ pub record Tied (out : FedIn) (f : Fed) (report : List ℕ) : Type 0 where
   pub answer : out .answer ≡ happenedNumber (f .happened)
   pub reported : out .report ≡ happenedStored (f .happened) report
 
-module _ (s : List ℕ) (kind sender : ℕ) (payload report : List ℕ) (long : 105 ≤ length s) (room : 11 ≤ length report) (bytes : Bytes payload) where
+module _ (s : List ℕ) (kind sender : ℕ) (payload report : List ℕ) (long : stateSize ≤ length s) (room : reportSize ≤ length report) (bytes : Bytes payload) where
   -- feeding the bytes is feeding the collator that they stand for
   pub feeds : Tied (fedIn s kind sender payload report) (fed (stateIn s) kind sender payload) report
   unfolding fed

@@ -24,20 +24,20 @@ use Rattle.epochs.specs.declared.collating.Happened.{Happened}
 use Rattle.epochs.specs.declared.collating.Happened.the-variants as H
 use Rattle.epochs.proofs.Judgements.{exactly-judged, never-for}
 use Rattle.epochs.proofs.Collations.{epoch-told}
-use Rattle.exports.specs.State.{slotFields, slotRow, slotOf, slotAt, placeIn, stateIn}
-use Rattle.exports.specs.Feed.{reportFields, reportRow, happenedNumber, happenedStored, FedIn, actedIn, fedIn, afterIn, madeStored}
+use Rattle.exports.specs.State.{stateSize, slotFields, slotRow, slotOf, slotAt, placeIn, stateIn}
+use Rattle.exports.specs.Feed.{reportFields, reportSize, reportRow, happenedNumber, happenedStored, FedIn, actedIn, fedIn, afterIn, madeStored}
 use Rattle.exports.proofs.Parts.{stored-front}
 use Rattle.exports.proofs.Feeds.{Tied, fed-acted, feeds, report-back}
 use Rattle.exports.proofs.Makes.{makes, length-made}
 
 -- ---- lent bytes keep their length
 
-happened-length : (h : Happened) (report : List ℕ) → 11 ≤ length report → length (happenedStored h report) ≡ length report
+happened-length : (h : Happened) (report : List ℕ) → reportSize ≤ length report → length (happenedStored h report) ≡ length report
 happened-length (H.Refused n) report room = refl
 happened-length H.Taken report room = refl
 happened-length (H.Epoch e) report room = ap length (sym (stored-front reportFields (reportRow e) report room)) ∙ length-row reportFields (reportRow e) report 0
 
-module _ (s : List ℕ) (kind sender : ℕ) (payload report : List ℕ) (long : 105 ≤ length s) (room : 11 ≤ length report) where
+module _ (s : List ℕ) (kind sender : ℕ) (payload report : List ℕ) (long : stateSize ≤ length s) (room : reportSize ≤ length report) where
   abbrev Kept : FedIn → Type 0
   Kept out = (length (out .state) ≡ length s) × (length (out .report) ≡ length report)
 
@@ -56,8 +56,8 @@ abbrev pub AllBytes : List Content → Type 0
 AllBytes [] = Unit {0}
 AllBytes (x ∷ xs) = Bytes (x .payload) × AllBytes xs
 
-pub feeds-all : (xs : List Content) (s report : List ℕ) → 105 ≤ length s → 11 ≤ length report → AllBytes xs
-    → (stateIn (afterIn s report xs) ≡ after (stateIn s) xs) × (105 ≤ length (afterIn s report xs))
+pub feeds-all : (xs : List Content) (s report : List ℕ) → stateSize ≤ length s → reportSize ≤ length report → AllBytes xs
+    → (stateIn (afterIn s report xs) ≡ after (stateIn s) xs) × (stateSize ≤ length (afterIn s report xs))
 unfolding afterIn after
 feeds-all [] s report long room bytes = (refl, long)
 feeds-all (x ∷ xs) s report long room bytes =
@@ -100,15 +100,15 @@ one-told c kind sender payload = by (judged (rosterOf c) kind sender payload) re
 -- ---- from the making on
 
 module _ (roster : List ℕ) (ok : made roster .number ≡ 0) (senders : (i : ℕ) → getD roster i 0 < 65536)
-    (s report : List ℕ) (long : 105 ≤ length s) (room : 11 ≤ length report) (xs : List Content) (bytes : AllBytes xs) where
-  led : (stateIn (afterIn (madeStored roster s) report xs) ≡ after (stateIn (madeStored roster s)) xs) × (105 ≤ length (afterIn (madeStored roster s) report xs))
+    (s report : List ℕ) (long : stateSize ≤ length s) (room : reportSize ≤ length report) (xs : List Content) (bytes : AllBytes xs) where
+  led : (stateIn (afterIn (madeStored roster s) report xs) ≡ after (stateIn (madeStored roster s)) xs) × (stateSize ≤ length (afterIn (madeStored roster s) report xs))
   led = feeds-all xs (madeStored roster s) report (omega (arith, length-made roster s)) room bytes
 
   -- the bytes stand for the collator that the frames lead to
   pub stands : stateIn (afterIn (madeStored roster s) report xs) ≡ after (made roster .collator) xs
   stands = led .0 ∙ ap (λ (c : Collator). after c xs) (makes roster s ok senders long)
 
-  module _ (x : Content) (byte : Bytes (x .payload)) (lent : List ℕ) (enough : 11 ≤ length lent) where
+  module _ (x : Content) (byte : Bytes (x .payload)) (lent : List ℕ) (enough : reportSize ≤ length lent) where
     -- and what comes out of one frame more is what comes out of that collator
     pub comes-out : Tied (fedIn (afterIn (madeStored roster s) report xs) (x .kind) (x .sender) (x .payload) lent) (fedFrame (after (made roster .collator) xs) x) lent
     comes-out =

@@ -14,7 +14,7 @@ use Rattle.epochs.specs.declared.collating.Collator.{Collator}
 use Rattle.epochs.specs.declared.collating.Made.{Made}
 use Rattle.epochs.proofs.Making.{accepted}
 use Rattle.epochs.proofs.Rosters.{with-zeros}
-use Rattle.exports.specs.State.{stateIn, collatorStored}
+use Rattle.exports.specs.State.{stateSize, stateIn, collatorStored}
 use Rattle.exports.specs.Feed.{madeAnswer, madeStored}
 use Rattle.exports.proofs.States.{Held, Small, state-stored, length-collator}
 
@@ -32,18 +32,18 @@ module _ (roster s : List ℕ) {m : Made} (e : m ≡ made roster) where
     none : made roster .number ≡ 0
     none = sym number ∙ zero
 
-    pub made-short : length s < 105 → (32 ≡ madeAnswer roster (length s)) × (s ≡ madeStored roster s)
+    pub made-short : length s < stateSize → (32 ≡ madeAnswer roster (length s)) × (s ≡ madeStored roster s)
     unfolding madeAnswer madeStored
-    made-short h = (rw (eq-eqb (made roster .number) 0 none, lt-leb 105 (length s) h), rw (eq-eqb (made roster .number) 0 none, lt-leb 105 (length s) h))
+    made-short h = (rw (eq-eqb (made roster .number) 0 none, lt-leb stateSize (length s) h), rw (eq-eqb (made roster .number) 0 none, lt-leb stateSize (length s) h))
 
     pub made-few : m .collator .count ≤ 8
     made-few = let a = accepted roster none in omega (arith, ap (λ (m : Made). m .collator .count) (e ∙ a .whole), a .few)
 
-    pub made-put : {t : List ℕ} → 105 ≤ length s → t ≡ collatorStored (m .collator) s → (0 ≡ madeAnswer roster (length s)) × (t ≡ madeStored roster s)
+    pub made-put : {t : List ℕ} → stateSize ≤ length s → t ≡ collatorStored (m .collator) s → (0 ≡ madeAnswer roster (length s)) × (t ≡ madeStored roster s)
     unfolding madeAnswer madeStored
     made-put h q = (
-      rw (eq-eqb (made roster .number) 0 none, le-leb 105 (length s) h),
-      q ∙ ap (λ (m : Made). collatorStored (m .collator) s) e ∙ rw (eq-eqb (made roster .number) 0 none, le-leb 105 (length s) h),
+      rw (eq-eqb (made roster .number) 0 none, le-leb stateSize (length s) h),
+      q ∙ ap (λ (m : Made). collatorStored (m .collator) s) e ∙ rw (eq-eqb (made roster .number) 0 none, le-leb stateSize (length s) h),
     )
 
 -- ---- tied to the collator
@@ -61,7 +61,7 @@ fresh-held roster few senders =
     }
 
 -- the bytes that are made stand for the collator that is made
-pub makes : (roster s : List ℕ) → made roster .number ≡ 0 → ((i : ℕ) → getD roster i 0 < 65536) → 105 ≤ length s
+pub makes : (roster s : List ℕ) → made roster .number ≡ 0 → ((i : ℕ) → getD roster i 0 < 65536) → stateSize ≤ length s
     → stateIn (madeStored roster s) ≡ made roster .collator
 makes roster s zero senders long =
     let a = accepted roster zero in
@@ -73,7 +73,7 @@ makes roster s zero senders long =
 
 pub length-made : (roster s : List ℕ) → length (madeStored roster s) ≡ length s
 unfolding madeStored
-length-made roster s = by (eqb (made roster .number) 0 && leb 105 (length s))
+length-made roster s = by (eqb (made roster .number) 0 && leb stateSize (length s))
   where
     by : (t : Bool) → length (cond t (collatorStored (made roster .collator) s) s) ≡ length s
     by true = length-collator (made roster .collator) s

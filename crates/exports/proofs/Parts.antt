@@ -9,7 +9,7 @@ use lib.Seq.{sets, sets-eq, drop-drop, take-take, take-at, drop-at, length-take-
 use Rattle.wire.specs.Number.{little, numberAt}
 use Rattle.wire.specs.Field.{Field, formatOf, width, valueOf, Row, HeldRow, SettledRow, size, encode, decode, rowStored}
 use Rattle.wire.proofs.Fields.{again-settled, length-encode, decode-encode, row-sets}
-use Rattle.exports.specs.Rows.{atFront}
+use Rattle.exports.specs.Lent.{atFront}
 
 -- the n elements from an offset on
 abbrev part : ℕ → ℕ → List ℕ → List ℕ

@@ -12,7 +12,7 @@ use borrow.Author.Tests.{eqb-true, eqb-false}
 use Rattle.wire.specs.Field.{Field, Row, HeldRow, SettledRow, size, decode, rowStored}
 use Rattle.wire.proofs.Fields.{length-row}
 use Rattle.crc.specs.Table.{tabulated}
-use Rattle.exports.specs.Rows.{rowsStored}
+use Rattle.exports.specs.Lent.{rowsStored}
 use Rattle.exports.proofs.Parts.{decode-stored, decode-before}
 
 -- ---- lists by index

@@ -14,12 +14,8 @@ use Rattle.epochs.specs.declared.judging.Judged.the-variants as J
 use Rattle.epochs.specs.declared.collating.Report.{Report}
 use Rattle.epochs.specs.declared.collating.Happened.{Happened}
 use Rattle.epochs.specs.declared.collating.Happened.the-variants as H
-use Rattle.exports.specs.Rows.{atFront}
-use Rattle.exports.specs.State.{placeIn, placeStored, stateIn, collatorStored}
-
--- the bytes of a collator
-abbrev pub stateSize : ℕ
-stateSize = 105
+use Rattle.exports.specs.Lent.{atFront}
+use Rattle.exports.specs.State.{stateSize, placeIn, placeStored, stateIn, collatorStored}
 
 -- ---- made
 
@@ -32,9 +28,13 @@ madeStored roster s = cond (eqb (made roster .number) 0 && leb stateSize (length
 
 -- ---- what happened, as a number and as the bytes of a report
 
--- sender, wn, tow, n, observations: 11 bytes
+-- sender, wn, tow, n, observations
 abbrev pub reportFields : List Field
 reportFields = any u16 ∷ any u16 ∷ any u32 ∷ any u8 ∷ any u16 ∷ []
+
+-- 11 bytes
+abbrev pub reportSize : ℕ
+reportSize = size reportFields
 
 abbrev pub reportRow : Report → Row reportFields
 reportRow e = (e .sender, (e .wn, (e .tow, (e .n, (e .observations, tt)))))
@@ -79,7 +79,7 @@ actedIn state report sender (J.For i p) = takenIn state report sender i p
 -- 32, then 46, 22, 43, 44, 45
 unfoldable pub fedIn : List ℕ → ℕ → ℕ → List ℕ → List ℕ → FedIn
 fedIn state kind sender payload report =
-    cond (leb stateSize (length state) && leb (size reportFields) (length report))
+    cond (leb stateSize (length state) && leb reportSize (length report))
     (actedIn state report sender (judged (rosterOf (stateIn state)) kind sender payload))
     (untouched state report)
 

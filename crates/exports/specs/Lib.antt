@@ -1,4 +1,4 @@
-pub mod Rows
+pub mod Lent
 pub mod Found
 pub mod Totals
 pub mod Text

@@ -5,27 +5,38 @@ ghost use lib.ListN.{length};
 ghost use Rattle.wire.specs.Field.{rowStored};
 ghost use Rattle.epochs.specs.Packet.{judged};
 ghost use Rattle.epochs.specs.Collator.{stepped, told, rosterOf};
-ghost use Rattle.exports.specs.State.{seatsIn, stateIn, placeIn, placeStored};
-ghost use Rattle.exports.specs.Feed.{reportFields, reportRow, happenedNumber, happenedStored, fedIn};
+ghost use Rattle.exports.specs.State.{seatIn, seatsIn, stateIn, placeIn, placeStored};
+ghost use Rattle.exports.specs.Feed.{reportFields, reportSize, reportRow, happenedNumber, happenedStored, fedIn};
 use crate::placing::place_in;
 use crate::placing::put_place;
+use crate::sizes::REPORT_SIZE;
+use crate::sizes::SEAT_SIZE;
+use crate::sizes::SEATS_AT;
+use crate::sizes::STATE_SIZE;
 use epochs::Ended;
 use epochs::Judged;
 use epochs::Packet;
 use epochs::Report;
 
+fn seat_in(s: &[u8], i: usize) -> u16
+    requires { ⌜ i < 8 ⌝ }
+    ensures { λ r. ⌜ r ≡ seatIn (now (s .entry)) i ⌝ }
+{
+    wire::read_u16(s, SEATS_AT + i * SEAT_SIZE)
+}
+
 fn seats_in(s: &[u8]) -> [u16; 8]
     ensures { λ r. ⌜ r ≡ seatsIn (now (s .entry)) ⌝ }
 {
     [
-        wire::read_u16(s, 1),
-        wire::read_u16(s, 3),
-        wire::read_u16(s, 5),
-        wire::read_u16(s, 7),
-        wire::read_u16(s, 9),
-        wire::read_u16(s, 11),
-        wire::read_u16(s, 13),
-        wire::read_u16(s, 15),
+        seat_in(s, 0),
+        seat_in(s, 1),
+        seat_in(s, 2),
+        seat_in(s, 3),
+        seat_in(s, 4),
+        seat_in(s, 5),
+        seat_in(s, 6),
+        seat_in(s, 7),
     ]
 }
 
@@ -62,7 +73,7 @@ fn put_report(buf: &mut [u8], e: Report)
 
 // 0, or 1 with an epoch's report.
 fn tell(buf: &mut [u8], sender: u16, packet: Packet, ended: Ended) -> u8
-    requires { ⌜ 11 ≤ length (now buf) ⌝ }
+    requires { ⌜ reportSize ≤ length (now buf) ⌝ }
     ensures { λ r. ⌜ r ≡ happenedNumber (told sender packet ended) ⌝ }
     ensures { λ _. ⌜ now (buf .exit) ≡ happenedStored (told sender packet ended) (now (buf .entry)) ⌝ }
 {
@@ -85,8 +96,7 @@ fn tell(buf: &mut [u8], sender: u16, packet: Packet, ended: Ended) -> u8
     }
 }
 
-// 32 where state is shorter than 105 bytes or report shorter than 11, then 46, 22, 43, 44, 45; 0 taken; 1 an epoch, whose report is at
-// report[0..11].
+// 32 where state or report is too short, then 46, 22, 43, 44, 45; 0 taken; 1 an epoch, whose row is at the start of report.
 #[no_mangle]
 pub extern "C" fn sbp_feed(
     state: &mut [u8],
@@ -99,10 +109,10 @@ pub extern "C" fn sbp_feed(
     ensures { λ _. ⌜ now (state .exit) ≡ fedIn (now (state .entry)) kind sender (now (payload .entry)) (now (report .entry)) .state ⌝ }
     ensures { λ _. ⌜ now (report .exit) ≡ fedIn (now (state .entry)) kind sender (now (payload .entry)) (now (report .entry)) .report ⌝ }
 {
-    if state.len() < 105 {
+    if state.len() < STATE_SIZE {
         return 32;
     }
-    if report.len() < 11 {
+    if report.len() < REPORT_SIZE {
         return 32;
     }
     let verdict = judged_in(state, kind, sender, payload);

@@ -8,6 +8,7 @@ mod feeding;
 mod making;
 mod placing;
 mod reading;
+mod sizes;
 mod texting;
 
 pub use answering::sbp_answer;

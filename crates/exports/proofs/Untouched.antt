@@ -1,4 +1,5 @@
--- A refusal writes nothing and moves no state: of every exported function that is lent something to write. Assumes nothing.
+-- A refusal writes nothing and moves no state: once for every call, since what it hands back and what it leaves are read off its answer; then of
+-- each exported function that is lent something to write. Assumes nothing.
 use mathlib.Core.Path.{_≡_, refl, ap}
 use mathlib.Core.Bool.{Bool, true, false, _&&_, cond}
 use mathlib.Core.List.{List}
@@ -6,11 +7,9 @@ use Prim.Native.Nat.{ℕ, _≤_}
 use native.Mathlib.Omega.{arith}
 use lib.Dec.{eqb, leb}
 use lib.ListN.{length}
-use Rattle.wire.specs.Field.{size}
-use Rattle.wire.specs.Refusals.{refused, Answer}
-use Rattle.frames.specs.Cursors.{nextOf}
+use Rattle.wire.specs.Refusals.{refused, given, Answer}
 use Rattle.frames.specs.declared.cursor.Next as Next
-use Rattle.payloads.specs.Table.{numberOf}
+use Rattle.frames.specs.declared.cursor.Counts.{Counts}
 use Rattle.epochs.specs.Packet.{judged}
 use Rattle.epochs.specs.Collator.{stepped, told, rosterOf, made}
 use Rattle.epochs.specs.declared.judging.Packet.{Packet}
@@ -19,29 +18,35 @@ use Rattle.epochs.specs.declared.judging.Judged.the-variants as J
 use Rattle.epochs.specs.declared.placing.Ended.{Ended}
 use Rattle.epochs.specs.declared.placing.Ended.the-variants.{Not, Whole}
 use Rattle.listing.specs.Listing.{listAnswer, listedAs, listed}
-use Rattle.exports.specs.Found.{foundFields, startAt, numberIn, nextAnswer, nextStored}
-use Rattle.exports.specs.Totals.{countsFields, totalsAnswer, totalsStored}
-use Rattle.exports.specs.Text.{sizeAfter}
-use Rattle.exports.specs.State.{placeIn, stateIn}
-use Rattle.exports.specs.Feed.{stateSize, reportFields, happenedNumber, madeAnswer, madeStored, FedIn, untouched, actedIn, fedIn}
-use Rattle.exports.proofs.Answered.{row-keeps}
+use Rattle.exports.specs.Lent.{numbered, leaves}
+use Rattle.exports.specs.Found.{numberIn, nextFrom, nextAnswer, nextStored}
+use Rattle.exports.specs.Totals.{totalsFor, totalsAnswer, totalsStored}
+use Rattle.exports.specs.Text.{textAnswer, sizeAfter}
+use Rattle.exports.specs.State.{stateSize, placeIn, stateIn}
+use Rattle.exports.specs.Feed.{reportSize, happenedNumber, madeAnswer, madeStored, FedIn, untouched, actedIn, fedIn}
 
--- what comes next is told by 0, 1 or 2
+-- a number that is none of those of what is given says that nothing was put
+module _ {A B : Type 0} (number : A → ℕ) (put : A → B → B) (Is : ℕ → Type 0) (none : (x : A) → Is (number x) → ⊥) where
+  pub untouched-by : (a : Answer A) (lent : B) → Is (numbered number a) → leaves put a lent ≡ lent
+  untouched-by (given x) lent h = absurd (none x h)
+  untouched-by (refused n) lent h = refl
+
+-- what comes next is 0, 1 or 2
 never-32 : (x : Next.Next) → numberIn x ≡ 32 → ⊥
 never-32 (Next.the-variants.Frame f c) e = absurd (omega (arith, e))
 never-32 (Next.the-variants.End c) e = absurd (omega (arith, e))
 never-32 (Next.the-variants.Needs n c) e = absurd (omega (arith, e))
 
 pub next-keeps : (s : List ℕ) (at : ℕ) (opened : Bool) (buf : List ℕ) → nextAnswer s at opened (length buf) ≡ 32 → nextStored s at opened buf ≡ buf
-next-keeps s at opened buf = row-keeps foundFields _ _ buf (never-32 (nextOf s (startAt at opened)))
+next-keeps s at opened buf = untouched-by numberIn _ (λ n. n ≡ 32) never-32 (nextFrom s at opened (length buf)) buf
 
-pub totals-keeps : (s buf : List ℕ) → totalsAnswer (length buf) ≡ 32 → totalsStored s buf ≡ buf
-totals-keeps s buf = row-keeps countsFields 0 _ buf (λ e. absurd (omega (arith, e)))
+pub totals-keeps : (s buf : List ℕ) → totalsAnswer s (length buf) ≡ 32 → totalsStored s buf ≡ buf
+totals-keeps s buf = untouched-by (λ c. 0) _ (λ n. n ≡ 32) (λ c e. absurd (omega (arith, e))) (totalsFor s (length buf)) buf
 
--- the text, and the length that is told
+-- the text, and the length that is given
 pub list-keeps : (s buf : List ℕ) (before n : ℕ) → listAnswer s (length buf) ≡ refused n
-    → (numberOf (listAnswer s (length buf)) ≡ n) × (listed s buf ≡ buf) × (sizeAfter (listAnswer s (length buf)) before ≡ before)
-list-keeps s buf before n e = (ap numberOf e, ap (λ (a : Answer ℕ). listedAs a s buf) e, ap (λ (a : Answer ℕ). sizeAfter a before) e)
+    → (textAnswer s (length buf) ≡ n) × (listed s buf ≡ buf) × (sizeAfter s (length buf) before ≡ before)
+list-keeps s buf before n e = (ap (numbered (λ n. 0)) e, ap (λ (a : Answer ℕ). listedAs a s buf) e, ap (λ (a : Answer ℕ). leaves (λ n size. n) a before) e)
 
 pub collator-keeps : (roster s : List ℕ) → (madeAnswer roster (length s) ≡ 0 → ⊥) → madeStored roster s ≡ s
 unfolding madeAnswer madeStored
@@ -56,7 +61,7 @@ collator-keeps roster s = by (eqb (made roster .number) 0) (leb stateSize (lengt
 pub feed-keeps : (s : List ℕ) (kind sender : ℕ) (payload report : List ℕ) → 2 ≤ fedIn s kind sender payload report .answer
     → (fedIn s kind sender payload report .state ≡ s) × (fedIn s kind sender payload report .report ≡ report)
 unfolding fedIn
-feed-keeps s kind sender payload report = by (leb stateSize (length s) && leb (size reportFields) (length report)) (judged (rosterOf (stateIn s)) kind sender payload)
+feed-keeps s kind sender payload report = by (leb stateSize (length s) && leb reportSize (length report)) (judged (rosterOf (stateIn s)) kind sender payload)
   where
     Kept : FedIn → Type 0
     Kept out = (out .state ≡ s) × (out .report ≡ report)

@@ -1,0 +1,39 @@
+-- What a call hands back and what it leaves in what it is lent, both read off its answer: a refusal is its number, and leaves all as it was.
+-- And rows of fields in lent bytes. Assumes nothing.
+use Prim.Native.Nat.{ℕ, zero, suc, _+_, _*_}
+use mathlib.Core.List.{List, [], _∷_, _++_}
+use lib.Dec.{leb}
+use lib.ListN.{drop}
+use Rattle.wire.specs.Refusals.{refused, given, Answer, Tests}
+use Rattle.wire.specs.Field.{Field, Row, size, encode, rowStored}
+
+-- ---- what C and Rust see of an answer
+
+-- the number handed back: what is given has one of its own
+abbrev pub numbered : {A : Type 0} → (A → ℕ) → Answer A → ℕ
+numbered number (given x) = number x
+numbered number (refused n) = n
+
+-- 0, or the number of a refusal
+abbrev pub zeroOr : {A : Type 0} → Answer A → ℕ
+zeroOr = numbered (λ x. 0)
+
+-- what was lent, after the call
+abbrev pub leaves : {A B : Type 0} → (A → B → B) → Answer A → B → B
+leaves put (given x) lent = put x lent
+leaves put (refused n) lent = lent
+
+-- ---- rows
+
+-- 32 where so many bytes have no room
+abbrev pub roomFor : ℕ → ℕ → Tests
+roomFor n room = (leb n room, 32) ∷ []
+
+-- a buffer with a row's bytes at its start, the bytes after as they were
+abbrev pub atFront : (fs : List Field) → Row fs → List ℕ → List ℕ
+atFront fs v buf = encode fs v ++ drop (size fs) buf
+
+-- s with the first n of some rows stored one after the other from an offset on
+unfoldable pub rowsStored : (fs : List Field) → (ℕ → Row fs) → ℕ → List ℕ → ℕ → List ℕ
+rowsStored fs row zero s at = s
+rowsStored fs row (suc n) s at = rowStored fs (row n) (rowsStored fs row n s at) (at + n * size fs)
