@@ -26,6 +26,7 @@ use Rattle.epochs.proofs.Judgements.{exactly-judged, never-for}
 use Rattle.epochs.proofs.Collations.{epoch-told}
 use Rattle.exports.specs.State.{stateSize, slotFields, slotRow, slotOf, slotAt, placeIn, stateIn}
 use Rattle.exports.specs.Feed.{reportFields, reportSize, reportRow, happenedNumber, happenedStored, FedIn, actedIn, fedIn, afterIn, madeStored}
+use Rattle.exports.specs.Claims.{AllBytes}
 use Rattle.exports.proofs.Parts.{stored-front}
 use Rattle.exports.proofs.Feeds.{Tied, fed-acted, feeds, report-back}
 use Rattle.exports.proofs.Makes.{makes, length-made}
@@ -51,10 +52,6 @@ module _ (s : List ℕ) (kind sender : ℕ) (payload report : List ℕ) (long : 
           (length-row slotFields (slotRow (slotOf (next .place))) s (slotAt i), happened-length (told sender p (next .ended)) report room)
 
 -- ---- frames one after the other
-
-abbrev pub AllBytes : List Content → Type 0
-AllBytes [] = Unit {0}
-AllBytes (x ∷ xs) = Bytes (x .payload) × AllBytes xs
 
 pub feeds-all : (xs : List Content) (s report : List ℕ) → stateSize ≤ length s → reportSize ≤ length report → AllBytes xs
     → (stateIn (afterIn s report xs) ≡ after (stateIn s) xs) × (stateSize ≤ length (afterIn s report xs))

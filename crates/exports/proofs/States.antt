@@ -19,7 +19,7 @@ use Rattle.epochs.specs.declared.placing.Place.{Place}
 use Rattle.epochs.specs.declared.placing.Stepped.{Stepped}
 use Rattle.epochs.specs.declared.collating.Collator.{Collator}
 use Rattle.epochs.proofs.Places.{step-cases}
-use Rattle.exports.specs.State.{countFields, seatFields, slotFields, seatsAt, placesAt, stateSize, seatAt, slotAt, slotRow, slotMake, placeOf, slotFor, slotOf, placeIn, placeStored, countIn, seatIn, seatsIn, stateIn, countStored, seatRow, seatsStored, placeRow, collatorStored}
+use Rattle.exports.specs.State.{countFields, seatFields, slotFields, seatsAt, placesAt, stateSize, seatAt, slotAt, slotRow, slotMake, placeOf, slotFor, slotOf, placeIn, placeStored, sendersIn, seatIn, seatsIn, stateIn, countStored, seatRow, seatsStored, placeRow, collatorStored}
 use Rattle.exports.proofs.Parts.{decode-stored, decode-before, decode-after}
 use Rattle.exports.proofs.Tables.{listed-set, listed-same, listed-all, rows-own, rows-before, length-stored}
 
@@ -89,7 +89,7 @@ module _ (s : List ℕ) (long : stateSize ≤ length s) (i : ℕ) (h : i < 8) (p
           let apart : i < j = omega arith in
           ap (λ (v : Row slotFields). placeOf (slotMake v)) (decode-after slotFields (slotRow (slotOf place)) s (slotAt i) room slotFields (slotAt j) (omega arith))
 
-  same-count : countIn (placeStored s i place) ≡ countIn s
+  same-count : sendersIn (placeStored s i place) ≡ sendersIn s
   same-count = ap (λ (v : Row countFields). v .0) (decode-before slotFields (slotRow (slotOf place)) s (slotAt i) room countFields 0 (omega arith))
 
   same-seats : seatsIn (placeStored s i place) ≡ seatsIn s
@@ -129,7 +129,7 @@ module _ (c : Collator) (h : Held c) (s : List ℕ) (long : stateSize ≤ length
   seated-long : stateSize ≤ length (seatsStored (c .roster) (countStored (c .count) s))
   seated-long = omega (arith, counted-long, length-stored seatFields (seatRow (c .roster)) (countStored (c .count) s) seatsAt 8)
 
-  count-back : countIn (collatorStored c s) ≡ c .count
+  count-back : sendersIn (collatorStored c s) ≡ c .count
   count-back =
       let first = countStored (c .count) s in
       ap (λ (v : Row countFields). v .0)

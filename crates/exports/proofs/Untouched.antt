@@ -18,7 +18,7 @@ use Rattle.epochs.specs.declared.judging.Judged.the-variants as J
 use Rattle.epochs.specs.declared.placing.Ended.{Ended}
 use Rattle.epochs.specs.declared.placing.Ended.the-variants.{Not, Whole}
 use Rattle.listing.specs.Listing.{listAnswer, listedAs, listed}
-use Rattle.exports.specs.Lent.{numbered, leaves}
+use Rattle.exports.specs.Lent.{numbered, zeroOr, leaves}
 use Rattle.exports.specs.Found.{numberIn, nextFrom, nextAnswer, nextStored}
 use Rattle.exports.specs.Totals.{totalsFor, totalsAnswer, totalsStored}
 use Rattle.exports.specs.Text.{textAnswer, sizeAfter}
@@ -40,13 +40,16 @@ never-32 (Next.the-variants.Needs n c) e = absurd (omega (arith, e))
 pub next-keeps : (s : List ℕ) (at : ℕ) (opened : Bool) (buf : List ℕ) → nextAnswer s at opened (length buf) ≡ 32 → nextStored s at opened buf ≡ buf
 next-keeps s at opened buf = untouched-by numberIn _ (λ n. n ≡ 32) never-32 (nextFrom s at opened (length buf)) buf
 
-pub totals-keeps : (s buf : List ℕ) → totalsAnswer s (length buf) ≡ 32 → totalsStored s buf ≡ buf
-totals-keeps s buf = untouched-by (λ c. 0) _ (λ n. n ≡ 32) (λ c e. absurd (omega (arith, e))) (totalsFor s (length buf)) buf
+pub totals-keeps : (s buf : List ℕ) → (totalsAnswer s (length buf) ≡ 0 → ⊥) → totalsStored s buf ≡ buf
+totals-keeps s buf = untouched-by (λ c. 0) _ (λ n. n ≡ 0 → ⊥) (λ c h. h refl) (totalsFor s (length buf)) buf
 
 -- the text, and the length that is given
-pub list-keeps : (s buf : List ℕ) (before n : ℕ) → listAnswer s (length buf) ≡ refused n
-    → (textAnswer s (length buf) ≡ n) × (listed s buf ≡ buf) × (sizeAfter s (length buf) before ≡ before)
-list-keeps s buf before n e = (ap (numbered (λ n. 0)) e, ap (λ (a : Answer ℕ). listedAs a s buf) e, ap (λ (a : Answer ℕ). leaves (λ n size. n) a before) e)
+pub list-keeps : (s buf : List ℕ) (before : ℕ) → (textAnswer s (length buf) ≡ 0 → ⊥) → (listed s buf ≡ buf) × (sizeAfter s (length buf) before ≡ before)
+list-keeps s buf before = by (listAnswer s (length buf))
+  where
+    by : (a : Answer ℕ) → (zeroOr a ≡ 0 → ⊥) → (listedAs a s buf ≡ buf) × (leaves (λ n size. n) a before ≡ before)
+    by (given n) h = absurd (h refl)
+    by (refused n) h = (refl, refl)
 
 pub collator-keeps : (roster s : List ℕ) → (madeAnswer roster (length s) ≡ 0 → ⊥) → madeStored roster s ≡ s
 unfolding madeAnswer madeStored

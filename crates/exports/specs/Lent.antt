@@ -34,6 +34,6 @@ abbrev pub atFront : (fs : List Field) → Row fs → List ℕ → List ℕ
 atFront fs v buf = encode fs v ++ drop (size fs) buf
 
 -- s with the first n of some rows stored one after the other from an offset on
-unfoldable pub rowsStored : (fs : List Field) → (ℕ → Row fs) → ℕ → List ℕ → ℕ → List ℕ
-rowsStored fs row zero s at = s
-rowsStored fs row (suc n) s at = rowStored fs (row n) (rowsStored fs row n s at) (at + n * size fs)
+unfoldable pub firstRowsStored : (fs : List Field) → (ℕ → Row fs) → ℕ → List ℕ → ℕ → List ℕ
+firstRowsStored fs row zero s at = s
+firstRowsStored fs row (suc n) s at = rowStored fs (row n) (firstRowsStored fs row n s at) (at + n * size fs)

@@ -4,3 +4,4 @@ pub mod Totals
 pub mod Text
 pub mod State
 pub mod Feed
+pub mod Claims

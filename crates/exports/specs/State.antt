@@ -12,7 +12,7 @@ use Rattle.epochs.specs.declared.placing.Run.{Run}
 use Rattle.epochs.specs.declared.placing.Run.the-variants.{Idle, Open}
 use Rattle.epochs.specs.declared.placing.Place.{Place}
 use Rattle.epochs.specs.declared.collating.Collator.{Collator}
-use Rattle.exports.specs.Lent.{rowsStored}
+use Rattle.exports.specs.Lent.{firstRowsStored}
 use Rattle.exports.specs.declared.placing.Slot.{Slot}
 
 -- ---- where the parts stand
@@ -78,8 +78,8 @@ placeStored s i place = slotStored s i (slotOf place)
 
 -- ---- what the bytes stand for; `tabulated f 8` is f at 0, 1, .. 7
 
-abbrev pub countIn : List ℕ → ℕ
-countIn s = numberAt 1 s 0
+abbrev pub sendersIn : List ℕ → ℕ
+sendersIn s = numberAt 1 s 0
 
 abbrev pub seatIn : List ℕ → ℕ → ℕ
 seatIn s i = numberAt 2 s (seatAt i)
@@ -88,7 +88,7 @@ abbrev pub seatsIn : List ℕ → List ℕ
 seatsIn s = tabulated (seatIn s) 8
 
 abbrev pub stateIn : List ℕ → Collator
-stateIn s = record { places = tabulated (placeIn s) 8; roster = seatsIn s; count = countIn s }
+stateIn s = record { places = tabulated (placeIn s) 8; roster = seatsIn s; count = sendersIn s }
 
 -- ---- a collator stored
 
@@ -99,13 +99,13 @@ abbrev pub seatRow : List ℕ → ℕ → Row seatFields
 seatRow roster i = (getD roster i 0, tt)
 
 abbrev pub seatsStored : List ℕ → List ℕ → List ℕ
-seatsStored roster s = rowsStored seatFields (seatRow roster) 8 s seatsAt
+seatsStored roster s = firstRowsStored seatFields (seatRow roster) 8 s seatsAt
 
 abbrev pub placeRow : List Place → ℕ → Row slotFields
 placeRow places i = slotRow (slotOf (getD places i idle))
 
 abbrev pub placesStored : List Place → List ℕ → List ℕ
-placesStored places s = rowsStored slotFields (placeRow places) 8 s placesAt
+placesStored places s = firstRowsStored slotFields (placeRow places) 8 s placesAt
 
 abbrev pub collatorStored : Collator → List ℕ → List ℕ
 collatorStored c s = placesStored (c .places) (seatsStored (c .roster) (countStored (c .count) s))

@@ -4,14 +4,14 @@ use Prim.Native.Nat.{ℕ, _-_, _≤_}
 use native.Mathlib.Omega.{arith}
 use borrow.Author.Needs.{needs}
 use lib.ListN.{length}
-use Rattle.exports.specs.Lent.{rowsStored}
+use Rattle.exports.specs.Lent.{firstRowsStored}
 use Rattle.exports.specs.State.{seatFields, seatsAt, seatRow}
 use Rattle.exports.proofs.Tables.{rows-none, rows-more, length-stored}
 use Rattle.exports.proofs.making.put_seats.Statement.{statement}
 use Rattle.exports.proofs.making.put_seats.Tie as tie
 
 abbrev Inv-loop : tie.InvT-loop
-Inv-loop s₀ roster i₀ s i = (i ≤ 8) × (s ≡ rowsStored seatFields (seatRow roster) i s₀ seatsAt)
+Inv-loop s₀ roster i₀ s i = (i ≤ 8) × (s ≡ firstRowsStored seatFields (seatRow roster) i s₀ seatsAt)
 
 abbrev μ-loop : tie.MeasureT-loop
 μ-loop s₀ roster i₀ s i = 8 - i
@@ -47,7 +47,7 @@ same-length : tie.Need-same-length Inv-loop μ-loop
 same-length c = let a = c .before .before .before .args in ap length (c .before .loop .inv .1) ∙ length-stored seatFields (seatRow (a .t2)) (a .s .now) seatsAt (c .before .loop .i)
 
 returns : tie.Need-returns Inv-loop μ-loop
-returns c = let a = c .before .before .before .args in let end : c .before .loop .i ≡ 8 = omega arith in c .before .loop .inv .1 ∙ ap (λ (n : ℕ). rowsStored seatFields (seatRow (a .t2)) n (a .s .now) seatsAt) end
+returns c = let a = c .before .before .before .args in let end : c .before .loop .i ≡ 8 = omega arith in c .before .loop .inv .1 ∙ ap (λ (n : ℕ). firstRowsStored seatFields (seatRow (a .t2)) n (a .s .now) seatsAt) end
 
 pub put-seats-spec : {M : Type 1} → statement M
 put-seats-spec =
