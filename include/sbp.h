@@ -24,11 +24,11 @@ uint16_t sbp_crc(const uint8_t *bytes, size_t n);
  * The caller keeps: n bytes are at payload. */
 uint8_t sbp_answer(uint16_t kind, const uint8_t *payload, size_t n);
 
-/* The next frame of a capture from a position on. In closed reading (growing false) the capture is complete; in open reading more may come.
+/* The next frame of a capture from a position on. In closed reading (opened false) the capture is complete; in open reading more may come.
  * 0: a frame; 1: the end; 2: more bytes are needed; 32: room is below SBP_FOUND. Otherwise found[0 .. SBP_FOUND] has the row of sbp_found.
  * The caller keeps: n bytes are at capture, and room bytes, that are no part of them, to write at found. at may be any number. */
 #define SBP_FOUND 53
-uint8_t sbp_next(const uint8_t *capture, size_t n, size_t at, bool growing, uint8_t *found, size_t room);
+uint8_t sbp_next(const uint8_t *capture, size_t n, size_t at, bool opened, uint8_t *found, size_t room);
 
 /* The counts of a whole complete capture: 0, and counts[0 .. SBP_TOTALS] has the row of sbp_counts; 32: room is below SBP_TOTALS.
  * The caller keeps: n bytes are at capture, and room bytes, that are no part of them, to write at counts. */

@@ -18,7 +18,7 @@ mod raw {
             capture: *const u8,
             n: usize,
             at: usize,
-            growing: bool,
+            opened: bool,
             found: *mut u8,
             room: usize,
         ) -> u8;
@@ -86,15 +86,15 @@ fn number(row: &[u8], at: usize, width: usize) -> u64 {
         .fold(0, |value, &b| value << 8 | u64::from(b))
 }
 
-/// The next frame from a position on; growing where more of the capture may come.
-pub fn next(capture: &[u8], at: usize, growing: bool) -> Next<'_> {
+/// The next frame from a position on; opened where more of the capture may come.
+pub fn next(capture: &[u8], at: usize, opened: bool) -> Next<'_> {
     let mut row = [0; FOUND];
     let told = unsafe {
         raw::sbp_next(
             capture.as_ptr(),
             capture.len(),
             at,
-            growing,
+            opened,
             row.as_mut_ptr(),
             row.len(),
         )

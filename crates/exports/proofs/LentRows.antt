@@ -10,7 +10,7 @@ use Rattle.wire.specs.Field.{Field, Row, size, rowStored}
 use Rattle.frames.specs.Reading.{steps, framesOf}
 use Rattle.frames.specs.Cursors.{nextOf, Told}
 use Rattle.frames.proofs.Answers.{told}
-use Rattle.exports.specs.Lent.{numbered, leaves, roomFor, atFront}
+use Rattle.exports.specs.Lent.{asNumber, leaves, roomFor, atFront}
 use Rattle.exports.specs.Found.{startAt}
 use Rattle.exports.proofs.Parts.{stored-front}
 
@@ -19,7 +19,7 @@ module _ {A : Type 0} (fs : List Field) (number : A → ℕ) (values : A → Row
   abbrev Out : ℕ → List ℕ → Type 0
   Out m t =
       let answer = ordered (roomFor (size fs) (length buf)) x in
-      (m ≡ numbered number answer) × (t ≡ leaves (λ y. atFront fs (values y)) answer buf)
+      (m ≡ asNumber number answer) × (t ≡ leaves (λ y. atFront fs (values y)) answer buf)
 
   pub row-32 : length buf < size fs → Out 32 buf
   row-32 h = rw (lt-leb (size fs) (length buf) h) (refl, refl)

@@ -10,15 +10,16 @@ use borrow.Author.Tests.{ltb-true, ltb-false}
 use Rattle.wire.specs.Field.{HeldRow, SettledRow, Row, size}
 use Rattle.wire.proofs.Fields.{length-row}
 use Rattle.crc.specs.Table.{tabulated}
-use Rattle.epochs.specs.Collator.{idle, stepped}
-use Rattle.epochs.specs.declared.judging.Packet.{Packet}
-use Rattle.epochs.specs.declared.placing.Part.{Part}
-use Rattle.epochs.specs.declared.placing.Run.{Run}
-use Rattle.epochs.specs.declared.placing.Run.the-variants.{Idle, Open}
-use Rattle.epochs.specs.declared.placing.Place.{Place}
-use Rattle.epochs.specs.declared.placing.Stepped.{Stepped}
+use Rattle.runs.specs.Run.{stepped}
+use Rattle.epochs.specs.Collator.{idle}
+use Rattle.packets.specs.declared.packet.Packet.{Packet}
+use Rattle.runs.specs.declared.running.Part.{Part}
+use Rattle.runs.specs.declared.running.Run.{Run}
+use Rattle.runs.specs.declared.running.Run.the-variants.{Idle, Open}
+use Rattle.epochs.specs.declared.collating.Place.{Place}
+use Rattle.runs.specs.declared.running.Stepped.{Stepped}
 use Rattle.epochs.specs.declared.collating.Collator.{Collator}
-use Rattle.epochs.proofs.Places.{step-cases}
+use Rattle.runs.proofs.StepCases.{step-cases}
 use Rattle.exports.specs.State.{countFields, seatFields, slotFields, seatsAt, placesAt, stateSize, seatAt, slotAt, slotRow, slotMake, placeOf, slotFor, slotOf, placeIn, placeStored, sendersIn, seatIn, seatsIn, stateIn, countStored, seatRow, seatsStored, placeRow, collatorStored}
 use Rattle.exports.proofs.Parts.{decode-stored, decode-before, decode-after}
 use Rattle.exports.proofs.Tables.{listed-set, listed-same, listed-all, rows-own, rows-before, length-stored}
@@ -53,16 +54,16 @@ back : (r : Run) → placeOf (slotFor r) ≡ record { run = r }
 back Idle = refl
 back (Open part) = refl
 
--- a packet whose numbers are small leaves a place whose numbers are
+-- a packet whose numbers are small leaves a run whose numbers are
 pub record SmallPacket (p : Packet) : Type 0 where
   pub tow : p .key .tow < 2 ^ 32
   pub wn : p .key .wn < 65536
   pub n : p .key .n < 256
   pub observations : p .observations < 65536
 
-pub stepped-small : (p : Packet) → SmallPacket p → (place : Place) → Small (stepped place p .place)
+pub stepped-small : (p : Packet) → SmallPacket p → (run : Run) → SmallRun (stepped run p .run)
 stepped-small p small =
-    step-cases (λ (s : Stepped). Small (s .place)) p tt (λ total h. tt)
+    step-cases (λ (s : Stepped). SmallRun (s .run)) p tt (λ total h. tt)
     (λ total h. record { tow = small .tow; wn = small .wn; n = small .n; next = omega arith; total = h (small .observations) })
 
 -- ---- one place stored

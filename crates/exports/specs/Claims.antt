@@ -22,8 +22,7 @@ pub record Kept : Type 0 where
   pub list : (s buf : List ℕ) (before : ℕ) → (textAnswer s (length buf) ≡ 0 → ⊥) → (listed s buf ≡ buf) × (sizeAfter s (length buf) before ≡ before)
   pub collator : (roster s : List ℕ) → (madeAnswer roster (length s) ≡ 0 → ⊥) → madeStored roster s ≡ s
   -- 0 and 1 are the answers of a frame that was taken
-  pub feed : (s : List ℕ) (kind sender : ℕ) (payload report : List ℕ) → 2 ≤ fedIn s kind sender payload report .answer
-      → (fedIn s kind sender payload report .state ≡ s) × (fedIn s kind sender payload report .report ≡ report)
+  pub feed : (s : List ℕ) (x : Content) (report : List ℕ) → 2 ≤ fedIn s x report .answer → (fedIn s x report .state ≡ s) × (fedIn s x report .report ≡ report)
 
 -- frames whose payloads are bytes
 abbrev pub AllBytes : List Content → Type 0

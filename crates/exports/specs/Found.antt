@@ -8,7 +8,7 @@ use Rattle.wire.specs.Field.{Field, any, u8, u16, u64, Row, size}
 use Rattle.frames.specs.Cursors.{nextOf}
 use Rattle.frames.specs.declared.cursor.Cursor.{Cursor}
 use Rattle.frames.specs.declared.cursor.Next as Next
-use Rattle.exports.specs.Lent.{numbered, leaves, roomFor, atFront}
+use Rattle.exports.specs.Lent.{asNumber, leaves, roomFor, atFront}
 use Rattle.exports.specs.declared.reading.FoundRow.{FoundRow}
 
 -- at, next, needed, junk, bad, short, kind, sender, length
@@ -51,7 +51,7 @@ unfoldable pub nextFrom : List ℕ → ℕ → Bool → ℕ → Answer Next.Next
 nextFrom s at opened room = ordered (finding room) (nextOf s (startAt at opened))
 
 abbrev pub nextAnswer : List ℕ → ℕ → Bool → ℕ → ℕ
-nextAnswer s at opened room = numbered numberIn (nextFrom s at opened room)
+nextAnswer s at opened room = asNumber numberIn (nextFrom s at opened room)
 
 abbrev pub nextStored : List ℕ → ℕ → Bool → List ℕ → List ℕ
 nextStored s at opened buf = leaves (λ x. atFront foundFields (foundValues (foundIn x))) (nextFrom s at opened (length buf)) buf

@@ -10,13 +10,13 @@ use Rattle.wire.specs.Field.{Field, Row, size, encode, rowStored}
 -- ---- what C and Rust see of an answer
 
 -- the number handed back: what is given has one of its own
-abbrev pub numbered : {A : Type 0} → (A → ℕ) → Answer A → ℕ
-numbered number (given x) = number x
-numbered number (refused n) = n
+abbrev pub asNumber : {A : Type 0} → (A → ℕ) → Answer A → ℕ
+asNumber number (given x) = number x
+asNumber number (refused n) = n
 
 -- 0, or the number of a refusal
 abbrev pub zeroOr : {A : Type 0} → Answer A → ℕ
-zeroOr = numbered (λ x. 0)
+zeroOr = asNumber (λ x. 0)
 
 -- what was lent, after the call
 abbrev pub leaves : {A B : Type 0} → (A → B → B) → Answer A → B → B

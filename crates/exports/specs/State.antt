@@ -8,9 +8,9 @@ use Rattle.wire.specs.Number.{numberAt}
 use Rattle.wire.specs.Field.{Field, any, u8, u16, u32, Row, size, decode, rowStored}
 use Rattle.crc.specs.Table.{tabulated}
 use Rattle.epochs.specs.Collator.{idle}
-use Rattle.epochs.specs.declared.placing.Run.{Run}
-use Rattle.epochs.specs.declared.placing.Run.the-variants.{Idle, Open}
-use Rattle.epochs.specs.declared.placing.Place.{Place}
+use Rattle.runs.specs.declared.running.Run.{Run}
+use Rattle.runs.specs.declared.running.Run.the-variants.{Idle, Open}
+use Rattle.epochs.specs.declared.collating.Place.{Place}
 use Rattle.epochs.specs.declared.collating.Collator.{Collator}
 use Rattle.exports.specs.Lent.{firstRowsStored}
 use Rattle.exports.specs.declared.placing.Slot.{Slot}

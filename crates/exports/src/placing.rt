@@ -4,10 +4,10 @@ ghost use Prim.Native.Nat.{_<_};
 ghost use Rattle.exports.specs.State.{slotAt, placeOf, slotOf, slotIn, slotStored, placeIn, placeStored};
 use crate::sizes::PLACES_AT;
 use crate::sizes::SLOT_SIZE;
-use epochs::Key;
-use epochs::Part;
 use epochs::Place;
-use epochs::Run;
+use packets::Key;
+use runs::Part;
+use runs::Run;
 
 // A place as numbers; opened is 0 for one that is idle.
 pub struct Slot {

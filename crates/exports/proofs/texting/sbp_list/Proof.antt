@@ -4,7 +4,7 @@ use Prim.Native.Nat.{ℕ}
 use Rattle.wire.specs.Refusals.{Answer}
 use Rattle.frames.specs.Writer.{writtenAnswer}
 use Rattle.payloads.proofs.Lines.{as-met}
-use Rattle.exports.specs.Lent.{numbered, leaves}
+use Rattle.exports.specs.Lent.{asNumber, leaves}
 use borrow.Author.Needs.{needs}
 use Rattle.exports.proofs.texting.sbp_list.Statement.{statement}
 use Rattle.exports.proofs.texting.sbp_list.Tie as tie
@@ -25,7 +25,7 @@ returns : tie.Need-returns
 returns c =
     let l = c .before .before .before .before .before .list .ensures in
     let e = as-met writtenAnswer (l .0) (c .before .written .given .1) in
-    (ap (numbered (λ n. 0)) e, (l .1, ap (λ (a : Answer ℕ). leaves (λ n size. n) a (c .before .before .before .before .before .before .before .before .before .args .size .now)) e))
+    (ap (asNumber (λ n. 0)) e, (l .1, ap (λ (a : Answer ℕ). leaves (λ n size. n) a (c .before .before .before .before .before .before .before .before .before .args .size .now)) e))
 
 same-length-2 : tie.Need-same-length-2
 same-length-2 c = search needs
@@ -34,7 +34,7 @@ returns-2 : tie.Need-returns-2
 returns-2 c =
     let l = c .before .before .before .before .before .list .ensures in
     let e = as-met writtenAnswer (l .0) (c .before .written2 .given .1) in
-    (ap (numbered (λ n. 0)) e, (l .1, ap (λ (a : Answer ℕ). leaves (λ n size. n) a (c .before .before .before .before .before .before .before .before .before .args .size .now)) e))
+    (ap (asNumber (λ n. 0)) e, (l .1, ap (λ (a : Answer ℕ). leaves (λ n size. n) a (c .before .before .before .before .before .before .before .before .before .args .size .now)) e))
 
 pub sbp-list-spec : {M : Type 1} → statement M
 sbp-list-spec =
