@@ -1,4 +1,5 @@
 pub mod Layouts
+pub mod Editions
 pub mod Rows
 pub mod RowsStored
 pub mod Payloads

@@ -1,4 +1,5 @@
 pub mod Layout
+pub mod Edition
 pub mod Obs
 pub mod ObsWriter
 pub mod Phase

@@ -21,6 +21,7 @@ pub use entry::ObservationRead;
 pub use entry::read_observation;
 pub use obs::Obs;
 pub use obs::ObsRead;
+pub use obs::is_obs;
 pub use obs::read_obs;
 pub use obs_write::write_obs;
 pub use phase::Phase;
