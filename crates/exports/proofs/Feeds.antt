@@ -24,7 +24,7 @@ use Rattle.epochs.specs.declared.collating.Report.{Report}
 use Rattle.epochs.specs.declared.collating.Fed.{Fed}
 use Rattle.epochs.specs.declared.collating.Happened.{Happened}
 use Rattle.epochs.specs.declared.collating.Happened.the-variants as H
-use Rattle.epochs.proofs.Placings.{place-below, place-packet}
+use Rattle.epochs.proofs.Placings.{placed, placed-below}
 use Rattle.epochs.proofs.Reports.{SmallIn, Small, report-small}
 use Rattle.exports.specs.Lent.{atFront}
 use Rattle.exports.specs.State.{stateSize, placeIn, placeStored, stateIn}
@@ -71,7 +71,7 @@ module _ (s : List ℕ) (x : Content) (report : List ℕ) where
 -- the place of a packet is one of the eight
 pub eight : (s : List ℕ) (x : Content) {i : ℕ} {p : Packet} → forPlace (rosterOf (stateIn s)) x ≡ given (i, p) → i < 8
 unfolding tabulated
-eight s x e = omega (arith, simp length-take at (place-below (rosterOf (stateIn s)) x e))
+eight s x e = omega (arith, simp length-take at (placed-below (rosterOf (stateIn s)) x e))
 
 -- ---- tied to the collator
 
@@ -109,7 +109,7 @@ module _ (s : List ℕ) (x : Content) (report : List ℕ) (long : stateSize ≤ 
     where
       small : {i : ℕ} {p : Packet} → forPlace (rosterOf (stateIn s)) x ≡ given (i, p) → SmallPacket p
       small e =
-          let own = place-packet (rosterOf (stateIn s)) x e in
+          let own = placed (rosterOf (stateIn s)) x e .1 in
           let time = time-small (x .kind) (x .payload) own bytes in
           let n = n-small (x .kind) (x .payload) own bytes in
           record { tow = time .0; wn = time .1; n = omega arith; observations = omega (arith, formed (x .kind) (x .payload) own .few) }

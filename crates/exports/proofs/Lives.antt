@@ -22,6 +22,7 @@ use Rattle.epochs.specs.Epoch.{after, EndsEpoch}
 use Rattle.epochs.specs.declared.collating.Collator.{Collator}
 use Rattle.epochs.specs.declared.collating.Report.{Report}
 use Rattle.epochs.specs.declared.collating.Happened.the-variants as H
+use Rattle.epochs.proofs.Making.{seated}
 use Rattle.epochs.proofs.Collations.{epoch-outcome}
 use Rattle.exports.specs.State.{stateSize, slotFields, slotAt, slotRow, slotOf, stateIn}
 use Rattle.exports.specs.Feed.{reportFields, reportSize, reportRow, endedStored, stepIn, FedIn, cameOut, fedIn, afterIn, madeStored, forPlaceIn}
@@ -118,12 +119,12 @@ module _ (roster : List ℕ) (ok : made roster .number ≡ 0) (senders : (i : �
         there : fedIn now x lent .answer ≡ 1 → (e : Report) × EndsEpoch roster xs x e
         there q =
             let e = one-happened (after (made roster .collator) xs) x (sym (comes-out .answer) ∙ q) in
-            (e .0, epoch-outcome roster ok xs x (e .0) .0 (e .1))
+            (e .0, epoch-outcome roster (seated roster ok) xs x (e .0) .0 (e .1))
 
         back : (e : Report) × EndsEpoch roster xs x e → fedIn now x lent .answer ≡ 1
-        back w = comes-out .answer ∙ ap happenedNumber (epoch-outcome roster ok xs x (w .0) .1 (w .1))
+        back w = comes-out .answer ∙ ap happenedNumber (epoch-outcome roster (seated roster ok) xs x (w .0) .1 (w .1))
 
     -- and its report is read back from the lent bytes
     pub epoch-row : {e : Report} → x .sender < 65536 → EndsEpoch roster xs x e → decode reportFields (fedIn now x lent .report) 0 ≡ reportRow e
     epoch-row {e} h w =
-        report-back now x lent (led .1) enough byte h (ap (λ (c : Collator). fedFrame c x .happened) stands ∙ epoch-outcome roster ok xs x e .1 w)
+        report-back now x lent (led .1) enough byte h (ap (λ (c : Collator). fedFrame c x .happened) stands ∙ epoch-outcome roster (seated roster ok) xs x e .1 w)

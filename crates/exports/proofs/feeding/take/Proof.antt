@@ -22,8 +22,8 @@ same-length c = search needs
 
 returns : tie.Need-returns
 returns c =
-    let a = c .before .before .before .before .before .before .before .before .before .args in
-    let e = c .before .before .before .before .before .step .ensures ∙ ap (λ (q : Place). stepped (q .run) (a .packet)) (c .before .before .before .before .before .before .place-in .ensures) in
+    let a = c .before .before .before .before .before .before .before .before .args in
+    let e = c .before .before .before .before .step .ensures ∙ ap (λ (q : Place). stepped (q .run) (a .packet)) (c .before .before .before .before .before .place-in .ensures) in
     (ap (λ (x : Stepped). x .ended) e, c .before .before .put-place .ensures ∙ ap (λ (x : Stepped). placeStored (a .s .now) (a .i) (record { run = x .run })) e)
 
 pub take-spec : {M : Type 1} → statement M
