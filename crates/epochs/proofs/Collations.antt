@@ -1,7 +1,7 @@
 -- Whole collations, of a roster whose senders have their seats and any frames. Demand 2: each frame comes to an epoch exactly when it ends one, and
 -- reports are read off that. Demand 3: the end state and each listed sender's reports depend on that sender's own frames alone, for frames and for
 -- captures. Nothing here looks inside a packet or a step. Assumes nothing.
-use mathlib.Core.Path.{_≡_, refl, sym, ap, _∙_, subst}
+use mathlib.Core.Path.{_≡_, refl, sym, ap, ap₂, _∙_, subst}
 use mathlib.Core.Bool.{Bool, true, false, cond}
 use mathlib.Core.List.{List, [], _∷_, _++_}
 use mathlib.Core.Logic.{_↔_}
@@ -22,27 +22,26 @@ use Rattle.runs.proofs.Fronts.{total-small}
 use Rattle.runs.proofs.WholeEpochs.{whole-epoch}
 use Rattle.epochs.specs.Search.{names}
 use Rattle.epochs.specs.Collator.{idle, outcome, fedFrame, made}
-use Rattle.epochs.specs.Epoch.{packetFrom, kept, packetsOf, ofSender, historyOf, after, outcomes, reportIn, reports, reportsOf, EndsEpoch, CameTo, Seated, SameFrames, contentsOf}
+use Rattle.epochs.specs.Epoch.{ownPacket, kept, packetsOf, ofSender, historyOf, after, outcomes, reportIn, reportsIn, reports, reportsOf, EndsEpoch, CameTo, Epochs, none, ending, passing, Seated, SameFrames, contentsOf}
 use Rattle.epochs.specs.declared.collating.Place.{Place}
 use Rattle.epochs.specs.declared.collating.Collator.{Collator}
 use Rattle.epochs.specs.declared.collating.Report.{Report}
 use Rattle.epochs.specs.declared.collating.Happened.{Happened}
 use Rattle.epochs.specs.declared.collating.Happened.the-variants as H
 use Rattle.epochs.specs.declared.collating.Fed.{Fed}
-use Rattle.epochs.proofs.Pasts.{placeOf, placesOf, stateOf}
 use Rattle.epochs.proofs.Searches.{map-listed}
 use Rattle.epochs.proofs.Making.{made-seated}
 use Rattle.epochs.proofs.Feeding.{never-refused, never-taken, report-own}
-use Rattle.epochs.proofs.Senders.{heardBy, comesTo, fresh-state, fed-listed, fed-unlisted, fed-state, after-state}
+use Rattle.epochs.proofs.Senders.{placeOf, placesOf, stateOf, heardBy, comesTo, fresh-state, fed-listed, fed-unlisted, fed-state, after-state}
 
 -- ---- what is kept of frames is well-formed
 
 pub packets-formed : (xs : List Content) (past : List Packet) → AllFormed past → AllFormed (packetsOf xs past)
 unfolding packetsOf
 packets-formed [] past all = all
-packets-formed (x ∷ xs) past all = packets-formed xs (kept (packetFrom x) past) (one (packetFrom x) refl)
+packets-formed (x ∷ xs) past all = packets-formed xs (kept (ownPacket x) past) (one (ownPacket x) refl)
   where
-    one : (a : Answer Packet) → packetFrom x ≡ a → AllFormed (kept a past)
+    one : (a : Answer Packet) → ownPacket x ≡ a → AllFormed (kept a past)
     one (refused n) q = all
     one (given p) q = (formed (x .kind) (x .payload) q, all)
 
@@ -58,11 +57,30 @@ unfolding after
 after-one c [] x = refl
 after-one c (y ∷ xs) x = after-one (fedFrame c y .collator) xs x
 
+-- ---- the epochs of frames, read off what each came to
+
+module _ {roster : List ℕ} where
+  pub epochs-in : (past xs : List Content) (hs : List Happened) → CameTo roster past xs hs → Epochs roster past xs (reportsIn hs)
+  epochs-in past [] [] c = none
+  epochs-in past (x ∷ xs) (H.Refused n ∷ hs) c = passing (λ e w. never-refused (c .0 e .1 w)) (epochs-in (past ++ x ∷ []) xs hs (c .1))
+  epochs-in past (x ∷ xs) (H.Taken ∷ hs) c = passing (λ e w. never-taken (c .0 e .1 w)) (epochs-in (past ++ x ∷ []) xs hs (c .1))
+  epochs-in past (x ∷ xs) (H.Epoch r ∷ hs) c = ending (c .0 r .0 refl) (epochs-in (past ++ x ∷ []) xs hs (c .1))
+
+  pub only-epochs : {past xs : List Content} {es : List Report} → Epochs roster past xs es → (hs : List Happened) → CameTo roster past xs hs → es ≡ reportsIn hs
+  only-epochs none [] c = refl
+  only-epochs (ending {e = e} w rest) (h ∷ hs) c = ap₂ reportIn (sym (c .0 e .1 w)) (only-epochs rest hs (c .1))
+  only-epochs (passing {es = es} never rest) (h ∷ hs) c = by h refl ∙ ap (reportIn h) (only-epochs rest hs (c .1))
+    where
+      by : (k : Happened) → h ≡ k → es ≡ reportIn k es
+      by (H.Refused n) q = refl
+      by H.Taken q = refl
+      by (H.Epoch e) q = absurd (never e (c .0 e .0 q))
+
 -- ---- the reports of one sender, from its own frames alone
 
 unfoldable ownReports : ℕ → List Packet → List Content → List Report
 ownReports s past [] = []
-ownReports s past (x ∷ xs) = reportIn (comesTo s past (packetFrom x)) (ownReports s (kept (packetFrom x) past) xs)
+ownReports s past (x ∷ xs) = reportIn (comesTo s past (ownPacket x)) (ownReports s (kept (ownPacket x) past) xs)
 
 comes-own : (s : ℕ) (past : List Packet) (a : Answer Packet) (rs : List Report) → reportsOf s (reportIn (comesTo s past a) rs) ≡ reportIn (comesTo s past a) (reportsOf s rs)
 unfolding reportsOf
@@ -93,7 +111,7 @@ module _ (roster : List ℕ) (is : Seated roster) where
     abbrev past : ℕ → List Packet
     past s = historyOf s xs
 
-    formed-on : {p : Packet} → packetFrom x ≡ given p → AllFormed (p ∷ past (x .sender))
+    formed-on : {p : Packet} → ownPacket x ≡ given p → AllFormed (p ∷ past (x .sender))
     formed-on q = (formed (x .kind) (x .payload) q, history-formed (x .sender) xs)
 
     -- a frame that is fed after others comes to an epoch exactly when it ends it
@@ -103,21 +121,21 @@ module _ (roster : List ℕ) (is : Seated roster) where
         at : fedFrame (after start xs) x .happened ≡ fedFrame (stateOf roster past) x .happened
         at = ap (λ (c : Collator). fedFrame c x .happened) (standing xs)
 
-        listed-comes : names roster (x .sender) ≡ true → fedFrame (stateOf roster past) x .happened ≡ comesTo (x .sender) (past (x .sender)) (packetFrom x)
+        listed-comes : names roster (x .sender) ≡ true → fedFrame (stateOf roster past) x .happened ≡ comesTo (x .sender) (past (x .sender)) (ownPacket x)
         listed-comes n = ap (λ (f : Fed). f .happened) (fed-listed roster (is .few) (is .once) past x n)
 
-        by-ended : names roster (x .sender) ≡ true → (p : Packet) → packetFrom x ≡ given p → (d : Ended) → stepped (runOf (past (x .sender))) p .ended ≡ d
+        by-ended : names roster (x .sender) ≡ true → (p : Packet) → ownPacket x ≡ given p → (d : Ended) → stepped (runOf (past (x .sender))) p .ended ≡ d
             → outcome (x .sender) p d ≡ H.Epoch e → EndsEpoch roster xs x e
         by-ended n p q Not r h = absurd (never-taken h)
         by-ended n p q (Whole t) r h =
             record { packet = p; total = t; listed = n; formed = q; ends = whole-epoch p (past (x .sender)) t (formed-on q) .0 r; report = sym (same-report h) }
 
-        by-own : names roster (x .sender) ≡ true → (a : Answer Packet) → packetFrom x ≡ a → comesTo (x .sender) (past (x .sender)) a ≡ H.Epoch e → EndsEpoch roster xs x e
+        by-own : names roster (x .sender) ≡ true → (a : Answer Packet) → ownPacket x ≡ a → comesTo (x .sender) (past (x .sender)) a ≡ H.Epoch e → EndsEpoch roster xs x e
         by-own n (refused m) q h = absurd (never-refused h)
         by-own n (given p) q h = by-ended n p q (stepped (runOf (past (x .sender))) p .ended) refl h
 
         there : (t : Bool) → names roster (x .sender) ≡ t → fedFrame (stateOf roster past) x .happened ≡ H.Epoch e → EndsEpoch roster xs x e
-        there true n h = by-own n (packetFrom x) refl (sym (listed-comes n) ∙ h)
+        there true n h = by-own n (ownPacket x) refl (sym (listed-comes n) ∙ h)
         there false n h =
             let r = fed-unlisted roster (is .few) (is .once) past x n in
             absurd (never-refused (sym (ap (λ (f : Fed). f .happened) (r .1)) ∙ h))
@@ -135,6 +153,10 @@ module _ (roster : List ℕ) (is : Seated roster) where
         let w = epoch-outcome .0 h in
         let n = n-small (x .kind) (x .payload) (w .formed) bytes in
         subst (λ (r : Report). r .observations ≤ 225) (sym (w .report)) (total-small (formed-on (w .formed)) n (w .ends))
+
+  -- a frame ends one epoch at most
+  pub one-epoch : {past : List Content} {x : Content} {d e : Report} → EndsEpoch roster past x d → EndsEpoch roster past x e → d ≡ e
+  one-epoch {past} {x} {d} {e} v w = same-report (sym (epoch-outcome past x d .1 v) ∙ epoch-outcome past x e .1 w)
 
   -- each frame with its report or none: the one law that reports and listings are read off
   pub came-to : (past xs : List Content) → CameTo roster past xs (outcomes (after (made roster .collator) past) xs)
@@ -166,17 +188,17 @@ module _ (roster : List ℕ) (is : Seated roster) where
       rest = ap (λ (c : Collator). reportsOf s (reports c xs)) (fed-state roster (is .few) (is .once) past x)
 
       by : (t : Bool) → eqb (x .sender) s ≡ t
-          → reportsOf s (reports (stateOf roster (heardBy x past)) xs) ≡ ownReports s (cond t (kept (packetFrom x) (past s)) (past s)) (ofSender s xs)
+          → reportsOf s (reports (stateOf roster (heardBy x past)) xs) ≡ ownReports s (cond t (kept (ownPacket x) (past s)) (past s)) (ofSender s xs)
           → reportsOf s (reportIn (fedFrame (stateOf roster past) x .happened) (reports (fedFrame (stateOf roster past) x .collator) xs))
           ≡ ownReports s (past s) (cond t (x ∷ ofSender s xs) (ofSender s xs))
       by true q all =
           let own-sender = eqb-true (x .sender) s q in
-          let heard-of : fedFrame (stateOf roster past) x .happened ≡ comesTo s (past s) (packetFrom x)
+          let heard-of : fedFrame (stateOf roster past) x .happened ≡ comesTo s (past s) (ownPacket x)
           = ap (λ (f : Fed). f .happened) (fed-listed roster (is .few) (is .once) past x (ap (names roster) own-sender ∙ n))
-          ∙ ap (λ (k : ℕ). comesTo k (past k) (packetFrom x)) own-sender in
+          ∙ ap (λ (k : ℕ). comesTo k (past k) (ownPacket x)) own-sender in
           ap (λ (h : Happened). reportsOf s (reportIn h (reports (fedFrame (stateOf roster past) x .collator) xs))) heard-of
-          ∙ comes-own s (past s) (packetFrom x) (reports (fedFrame (stateOf roster past) x .collator) xs)
-          ∙ ap (reportIn (comesTo s (past s) (packetFrom x))) (rest ∙ all)
+          ∙ comes-own s (past s) (ownPacket x) (reports (fedFrame (stateOf roster past) x .collator) xs)
+          ∙ ap (reportIn (comesTo s (past s) (ownPacket x))) (rest ∙ all)
       by false q all = report-own (stateOf roster past) x (reports (fedFrame (stateOf roster past) x .collator) xs) (eqb-false (x .sender) s q) ∙ rest ∙ all
 
   from-start : (s : ℕ) → names roster s ≡ true → (xs : List Content) → reportsOf s (reports start xs) ≡ ownReports s [] (ofSender s xs)

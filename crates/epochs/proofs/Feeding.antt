@@ -18,7 +18,7 @@ use Rattle.runs.specs.declared.running.Stepped.{Stepped}
 use Rattle.runs.proofs.StepCases.{whole-rests}
 use Rattle.epochs.specs.Search.{seatOf}
 use Rattle.epochs.specs.Collator.{idle, outcome, forPlace, taken, acted, rosterOf, fedFrame}
-use Rattle.epochs.specs.Epoch.{reportIn, reportsOf}
+use Rattle.epochs.specs.Epoch.{ownPacket, reportIn, reportsOf}
 use Rattle.epochs.specs.declared.seating.Seat.the-variants.{At}
 use Rattle.epochs.specs.declared.collating.Place.{Place}
 use Rattle.epochs.specs.declared.collating.Collator.{Collator}
@@ -59,20 +59,20 @@ module _ (c : Collator) (x : Content) where
 
   -- ---- what every feeding has in common
 
-  -- it is a refusal, or a packet of the frame's sender at its seat
-  by-placing : (P : Fed → Type 0)
+  -- it is a refusal, or the frame's own packet at its sender's seat
+  pub by-placing : (P : Fed → Type 0)
       → ((n : ℕ) → P (record { collator = c; happened = H.Refused n }))
-      → ((i : ℕ) (p : Packet) → seatOf (rosterOf c) sender 0 ≡ At i → P (taken c sender i p))
+      → ((i : ℕ) (p : Packet) → seatOf (rosterOf c) sender 0 ≡ At i → ownPacket x ≡ given p → P (taken c sender i p))
       → P (fedFrame c x)
   by-placing P unchanged for = by (forPlace (rosterOf c) x) refl
     where
       by : (j : Answer (ℕ × Packet)) → forPlace (rosterOf c) x ≡ j → P (fedFrame c x)
       by (refused n) q = subst P (sym (fed-refused q)) (unchanged n)
-      by (given a) q = subst P (sym (fed-for q)) (for (a .0) (a .1) (placed (rosterOf c) x q .0))
+      by (given a) q = subst P (sym (fed-for q)) (let w = placed (rosterOf c) x q in for (a .0) (a .1) (w .0) (w .1))
 
   -- a refused frame changes no state
   pub refused-keeps : {n : ℕ} → fedFrame c x .happened ≡ H.Refused n → fedFrame c x .collator ≡ c
-  refused-keeps {n} = by-placing (λ (f : Fed). f .happened ≡ H.Refused n → f .collator ≡ c) (λ m e. refl) (λ i p s e. absurd (never p (stepped (getD (c .places) i idle .run) p .ended) e))
+  refused-keeps {n} = by-placing (λ (f : Fed). f .happened ≡ H.Refused n → f .collator ≡ c) (λ m e. refl) (λ i p s q e. absurd (never p (stepped (getD (c .places) i idle .run) p .ended) e))
     where
       never : (p : Packet) (e : Ended) → outcome sender p e ≡ H.Refused n → ⊥
       never p Not e = let z : _≡_ {A = ℕ} 0 1 = cc in omega arith
@@ -81,7 +81,7 @@ module _ (c : Collator) (x : Content) where
   -- a report leaves its sender's place idle
   pub report-rests : {r : Report} (i : ℕ) → seatOf (rosterOf c) sender 0 ≡ At i → fedFrame c x .happened ≡ H.Epoch r
       → getD (fedFrame c x .collator .places) i idle ≡ idle
-  report-rests {r} i s = by-placing (λ (f : Fed). f .happened ≡ H.Epoch r → getD (f .collator .places) i idle ≡ idle) (λ n e. absurd (never-refused e)) rests
+  report-rests {r} i s = by-placing (λ (f : Fed). f .happened ≡ H.Epoch r → getD (f .collator .places) i idle ≡ idle) (λ n e. absurd (never-refused e)) (λ k p q own. rests k p q)
     where
       ended : (p : Packet) (e : Ended) → outcome sender p e ≡ H.Epoch r → (t : ℕ) × (e ≡ Whole t)
       ended p Not e = absurd (never-taken e)
@@ -101,7 +101,7 @@ module _ (c : Collator) (x : Content) where
 
   -- a place is touched by its own sender only
   pub others-keep : (j : ℕ) → (getD (rosterOf c) j 0 ≡ sender → ⊥) → getD (fedFrame c x .collator .places) j idle ≡ getD (c .places) j idle
-  others-keep j other = by-placing (λ (f : Fed). getD (f .collator .places) j idle ≡ getD (c .places) j idle) (λ n. refl) keeps
+  others-keep j other = by-placing (λ (f : Fed). getD (f .collator .places) j idle ≡ getD (c .places) j idle) (λ n. refl) (λ i p s q. keeps i p s)
     where
       keeps : (i : ℕ) (p : Packet) → seatOf (rosterOf c) sender 0 ≡ At i → getD (taken c sender i p .collator .places) j idle ≡ getD (c .places) j idle
       keeps i p s =
@@ -110,13 +110,13 @@ module _ (c : Collator) (x : Content) where
 
   -- and the senders stay the same
   pub fed-lists : rosterOf (fedFrame c x .collator) ≡ rosterOf c
-  fed-lists = by-placing (λ (f : Fed). rosterOf (f .collator) ≡ rosterOf c) (λ n. refl) (λ i p s. refl)
+  fed-lists = by-placing (λ (f : Fed). rosterOf (f .collator) ≡ rosterOf c) (λ n. refl) (λ i p s q. refl)
 
   -- what it reports is of its own sender
   pub report-own : {s : ℕ} (rs : List Report) → (sender ≡ s → ⊥) → reportsOf s (reportIn (fedFrame c x .happened) rs) ≡ reportsOf s rs
   unfolding reportsOf
   report-own {s} rs other =
-      by-placing (λ (f : Fed). reportsOf s (reportIn (f .happened) rs) ≡ reportsOf s rs) (λ n. refl) (λ i p q. of p (stepped (getD (c .places) i idle .run) p .ended))
+      by-placing (λ (f : Fed). reportsOf s (reportIn (f .happened) rs) ≡ reportsOf s rs) (λ n. refl) (λ i p s q. of p (stepped (getD (c .places) i idle .run) p .ended))
     where
       of : (p : Packet) (e : Ended) → reportsOf s (reportIn (outcome sender p e) rs) ≡ reportsOf s rs
       of p Not = refl

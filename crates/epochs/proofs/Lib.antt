@@ -1,4 +1,3 @@
-pub mod Pasts
 pub mod Searches
 pub mod Making
 pub mod Placings

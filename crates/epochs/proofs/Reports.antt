@@ -5,7 +5,6 @@ use Prim.Native.Nat.{ℕ, _^_, _≤_, _<_}
 use native.Mathlib.Omega.{arith}
 use lib.ListN.{getD}
 use Rattle.wire.specs.Number.{Bytes}
-use Rattle.wire.specs.Refusals.{refused, given, Answer}
 use Rattle.frames.specs.Frame.{Content}
 use Rattle.packets.specs.declared.packet.Packet.{Packet}
 use Rattle.packets.proofs.Recognitions.{formed, n-small, time-small}
@@ -15,12 +14,13 @@ use Rattle.runs.specs.declared.running.Ended.{Ended}
 use Rattle.runs.specs.declared.running.Ended.the-variants.{Not, Whole}
 use Rattle.runs.specs.declared.running.Stepped.{Stepped}
 use Rattle.runs.proofs.StepCases.{step-cases}
-use Rattle.epochs.specs.Collator.{idle, outcome, forPlace, acted, rosterOf, fedFrame}
+use Rattle.epochs.specs.Collator.{idle, outcome, fedFrame}
 use Rattle.epochs.specs.declared.collating.Collator.{Collator}
 use Rattle.epochs.specs.declared.collating.Report.{Report}
+use Rattle.epochs.specs.declared.collating.Fed.{Fed}
 use Rattle.epochs.specs.declared.collating.Happened.{Happened}
 use Rattle.epochs.specs.declared.collating.Happened.the-variants as H
-use Rattle.epochs.proofs.Placings.{placed}
+use Rattle.epochs.proofs.Feeding.{by-placing}
 
 pub record Small (e : Report) : Type 0 where
   pub sender : e .sender < 65536
@@ -47,17 +47,11 @@ stepped-within run p few = step-cases (λ (s : Stepped). Within (s .ended)) p tt
 -- ---- the report
 
 pub report-small : (c : Collator) (x : Content) → Bytes (x .payload) → x .sender < 65536 → SmallIn (fedFrame c x .happened)
-unfolding fedFrame
-report-small c x bytes s = by (forPlace (rosterOf c) x) refl
+report-small c x bytes s = by-placing c x (λ (f : Fed). SmallIn (f .happened)) (λ n. tt) λ i p seat own.
+    let run = getD (c .places) i idle .run in
+    ended p (time-small (x .kind) (x .payload) own bytes) (n-small (x .kind) (x .payload) own bytes)
+    (stepped run p .ended) (stepped-within run p (formed (x .kind) (x .payload) own .few))
   where
     ended : (p : Packet) → (p .key .tow < 2 ^ 32) × (p .key .wn < 65536) → p .key .n ≤ 15 → (e : Ended) → Within e → SmallIn (outcome (x .sender) p e)
     ended p time n Not w = tt
     ended p time n (Whole total) w = record { sender = s; wn = time .1; tow = time .0; n = n; observations = w }
-
-    by : (a : Answer (ℕ × Packet)) → forPlace (rosterOf c) x ≡ a → SmallIn (acted c (x .sender) a .happened)
-    by (refused n) q = tt
-    by (given a) q =
-        let own = placed (rosterOf c) x q .1 in
-        let run = getD (c .places) (a .0) idle .run in
-        ended (a .1) (time-small (x .kind) (x .payload) own bytes) (n-small (x .kind) (x .payload) own bytes)
-        (stepped run (a .1) .ended) (stepped-within run (a .1) (formed (x .kind) (x .payload) own .few))

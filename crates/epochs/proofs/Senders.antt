@@ -17,21 +17,35 @@ use Rattle.runs.specs.Run.{stepped, runOf}
 use Rattle.runs.specs.declared.running.Run.{Run}
 use Rattle.epochs.specs.Search.{seatOf, names, repeats}
 use Rattle.epochs.specs.Collator.{idle, outcome, forPlace, rosterOf, fedFrame, fresh}
-use Rattle.epochs.specs.Epoch.{packetFrom, kept, packetsOf, ofSender, after}
+use Rattle.epochs.specs.Epoch.{ownPacket, kept, packetsOf, ofSender, after}
 use Rattle.epochs.specs.declared.seating.Seat.the-variants.{At}
 use Rattle.epochs.specs.declared.collating.Place.{Place}
 use Rattle.epochs.specs.declared.collating.Collator.{Collator}
 use Rattle.epochs.specs.declared.collating.Happened.{Happened}
 use Rattle.epochs.specs.declared.collating.Happened.the-variants as H
 use Rattle.epochs.specs.declared.collating.Fed.{Fed}
-use Rattle.epochs.proofs.Pasts.{placeOf, placesOf, stateOf}
 use Rattle.epochs.proofs.Searches.{seat-below, seat-named, seat-listed, map-others, map-seat, map-at}
 use Rattle.epochs.proofs.Placings.{at, placed-listed, placed-unlisted}
 use Rattle.epochs.proofs.Feeding.{fed-refused, fed-for}
 
+-- ---- how the laws see a collator's state
+
+-- a sender's place after its packets, the latest first
+abbrev pub placeOf : List Packet → Place
+placeOf past = record { run = runOf past }
+
+-- the places of a roster's senders, each after its own packets
+abbrev pub placesOf : List ℕ → (ℕ → List Packet) → List Place
+placesOf roster past = map (λ (s : ℕ). placeOf (past s)) roster
+
+-- the collator in which each listed sender has sent the packets of its past, and nothing else has left a trace
+abbrev pub stateOf : List ℕ → (ℕ → List Packet) → Collator
+stateOf roster past =
+    record { places = take 8 (placesOf roster past ++ replicate 8 idle); roster = take 8 (roster ++ replicate 8 0); count = length roster }
+
 -- the packets of every sender once a frame is fed: its own sender's has one more, where it is well-formed
 abbrev pub heardBy : Content → (ℕ → List Packet) → ℕ → List Packet
-heardBy x past s = cond (eqb (x .sender) s) (kept (packetFrom x) (past s)) (past s)
+heardBy x past s = cond (eqb (x .sender) s) (kept (ownPacket x) (past s)) (past s)
 
 -- what a frame of a listed sender comes to
 abbrev pub comesTo : ℕ → List Packet → Answer Packet → Happened
@@ -42,7 +56,7 @@ pub state-ext : (roster : List ℕ) {a b : ℕ → List Packet} → ((s : ℕ) �
 state-ext roster e = ap (stateOf roster) (λ i s. e s i)
 
 -- the frame's own sender, and the others
-heard-own : (x : Content) (past : ℕ → List Packet) → heardBy x past (x .sender) ≡ kept (packetFrom x) (past (x .sender))
+heard-own : (x : Content) (past : ℕ → List Packet) → heardBy x past (x .sender) ≡ kept (ownPacket x) (past (x .sender))
 heard-own x past = rw (eq-eqb (x .sender) (x .sender) refl)
 
 heard-other : (x : Content) (past : ℕ → List Packet) (s : ℕ) → (s ≡ x .sender → ⊥) → past s ≡ heardBy x past s
@@ -74,7 +88,7 @@ module _ (roster : List ℕ) (few : length roster ≤ 8) where
     fed-to places h = record { collator = record { places = places; roster = c .roster; count = c .count }; happened = h }
 
     -- a frame that is not well-formed leaves every sender's packets as they were
-    unheard : {n : ℕ} → packetFrom x ≡ refused n → c ≡ stateOf roster (heardBy x past)
+    unheard : {n : ℕ} → ownPacket x ≡ refused n → c ≡ stateOf roster (heardBy x past)
     unheard q = state-ext roster (λ s. both (eqb (x .sender) s) ∙ ap (λ (a : Answer Packet). cond (eqb (x .sender) s) (kept a (past s)) (past s)) (sym q))
       where
         both : {ps : List Packet} (t : Bool) → ps ≡ cond t ps ps
@@ -102,7 +116,7 @@ module _ (roster : List ℕ) (few : length roster ≤ 8) where
           ∙ ap (λ (s : ℕ). placeOf (past s)) named
 
       -- and once it has the next packet the others are as they were
-      placed-on : {p : Packet} → packetFrom x ≡ given p → set (c .places) i (record { run = stepped (runOf (past (x .sender))) p .run }) ≡ stateOf roster (heardBy x past) .places
+      placed-on : {p : Packet} → ownPacket x ≡ given p → set (c .places) i (record { run = stepped (runOf (past (x .sender))) p .run }) ≡ stateOf roster (heardBy x past) .places
       unfolding runOf
       placed-on {p} q =
           let v : Place = record { run = stepped (runOf (past (x .sender))) p .run } in
@@ -113,7 +127,7 @@ module _ (roster : List ℕ) (few : length roster ≤ 8) where
           (ap (set (placesOf roster past) i) next
           ∙ map-seat (x .sender) (λ y other. ap placeOf (heard-other x past y other)) roster i once below named)
 
-      fed-at : (a : Answer Packet) → packetFrom x ≡ a → fedFrame c x ≡ fed-to (stateOf roster (heardBy x past) .places) (comesTo (x .sender) (past (x .sender)) a)
+      fed-at : (a : Answer Packet) → ownPacket x ≡ a → fedFrame c x ≡ fed-to (stateOf roster (heardBy x past) .places) (comesTo (x .sender) (past (x .sender)) a)
       fed-at (refused n) q =
           fed-refused c x (at-roster ∙ placed-listed roster x e ∙ ap (mapped (at i)) q)
           ∙ ap (λ (d : Collator). record { collator = d; happened = H.Refused n }) (unheard q)
@@ -123,8 +137,8 @@ module _ (roster : List ℕ) (few : length roster ≤ 8) where
           ∙ ap (λ (ps : List Place). fed-to ps (comesTo (x .sender) (past (x .sender)) (given p))) (placed-on q)
 
     pub fed-listed : names roster (x .sender) ≡ true
-        → fedFrame c x ≡ record { collator = stateOf roster (heardBy x past); happened = comesTo (x .sender) (past (x .sender)) (packetFrom x) }
-    fed-listed n = let seat = seat-listed roster (x .sender) n in fed-at (seat .0) (seat .1) (packetFrom x) refl
+        → fedFrame c x ≡ record { collator = stateOf roster (heardBy x past); happened = comesTo (x .sender) (past (x .sender)) (ownPacket x) }
+    fed-listed n = let seat = seat-listed roster (x .sender) n in fed-at (seat .0) (seat .1) (ownPacket x) refl
 
     -- ---- a frame of another sender is refused, and leaves no trace
 
@@ -153,7 +167,7 @@ module _ (roster : List ℕ) (few : length roster ≤ 8) where
   unfolding packetsOf ofSender
   packets-on x xs past s = by (eqb (x .sender) s)
     where
-      by : (t : Bool) → packetsOf (ofSender s xs) (cond t (kept (packetFrom x) (past s)) (past s)) ≡ packetsOf (cond t (x ∷ ofSender s xs) (ofSender s xs)) (past s)
+      by : (t : Bool) → packetsOf (ofSender s xs) (cond t (kept (ownPacket x) (past s)) (past s)) ≡ packetsOf (cond t (x ∷ ofSender s xs) (ofSender s xs)) (past s)
       by true = refl
       by false = refl
 

@@ -25,8 +25,8 @@ use Rattle.epochs.specs.declared.collating.Happened.the-variants as H
 -- ---- the packets of frames
 
 -- what a frame is by itself
-abbrev pub packetFrom : Content → Answer Packet
-packetFrom x = recognised (x .kind) (x .payload)
+abbrev pub ownPacket : Content → Answer Packet
+ownPacket x = recognised (x .kind) (x .payload)
 
 -- the packet of a well-formed frame comes to those before it
 abbrev pub kept : Answer Packet → List Packet → List Packet
@@ -35,7 +35,7 @@ kept (given p) past = p ∷ past
 
 unfoldable pub packetsOf : List Content → List Packet → List Packet
 packetsOf [] past = past
-packetsOf (x ∷ xs) past = packetsOf xs (kept (packetFrom x) past)
+packetsOf (x ∷ xs) past = packetsOf xs (kept (ownPacket x) past)
 
 unfoldable pub ofSender : ℕ → List Content → List Content
 ofSender sender [] = []
@@ -80,7 +80,7 @@ pub record EndsEpoch (roster : List ℕ) (xs : List Content) (x : Content) (e : 
   pub packet : Packet
   pub total : ℕ
   pub listed : names roster (x .sender) ≡ true
-  pub formed : packetFrom x ≡ given packet
+  pub formed : ownPacket x ≡ given packet
   pub ends : EpochEnds packet (historyOf (x .sender) xs) total
   pub report : e ≡ reportOf (x .sender) packet total
 
@@ -90,6 +90,14 @@ CameTo roster past [] [] = Unit {0}
 CameTo roster past [] (h ∷ hs) = ⊥
 CameTo roster past (x ∷ xs) [] = ⊥
 CameTo roster past (x ∷ xs) (h ∷ hs) = ((e : Report) → (h ≡ H.Epoch e) ↔ EndsEpoch roster past x e) × CameTo roster (past ++ x ∷ []) xs hs
+
+-- the epochs of the frames that come after those of the past: one for each frame that ends one, in order
+pub data Epochs (roster : List ℕ) : List Content → List Content → List Report → Type 0 where
+  none : {past : List Content} → Epochs roster past [] []
+  ending : {past xs : List Content} {x : Content} {e : Report} {es : List Report} → EndsEpoch roster past x e → Epochs roster (past ++ x ∷ []) xs es
+      → Epochs roster past (x ∷ xs) (e ∷ es)
+  passing : {past xs : List Content} {x : Content} {es : List Report} → ((e : Report) → EndsEpoch roster past x e → ⊥) → Epochs roster (past ++ x ∷ []) xs es
+      → Epochs roster past (x ∷ xs) es
 
 -- each listed sender has its seat: an accepted roster, or that of nobody
 pub record Seated (roster : List ℕ) : Type 0 where

@@ -8,8 +8,8 @@ use borrow.Author.Tests.{le-leb, lt-leb}
 use Rattle.wire.specs.Refusals.{Answer, ordered}
 use Rattle.wire.specs.Field.{Field, Row, size, rowStored}
 use Rattle.frames.specs.Reading.{steps, framesOf}
-use Rattle.frames.specs.Cursors.{nextOf, Told}
-use Rattle.frames.proofs.Answers.{told}
+use Rattle.frames.specs.Cursors.{nextOf, Says}
+use Rattle.frames.proofs.NextAnswers.{says}
 use Rattle.exports.specs.Lent.{asNumber, leaves, roomFor, atFront}
 use Rattle.exports.specs.Found.{startAt}
 use Rattle.exports.proofs.Parts.{stored-front}
@@ -28,5 +28,5 @@ module _ {A : Type 0} (fs : List Field) (number : A → ℕ) (values : A → Row
   row-put h p q e = rw (le-leb (size fs) (length buf) h) (p, e ∙ ap (λ (w : Row fs). rowStored fs w buf 0) q ∙ stored-front fs (values x) buf h)
 
 -- from a position on it gives the first frame that is left of the reading there, and where the others are left; or none
-pub next-left : (s : List ℕ) → length s < 2 ^ 64 → (at : ℕ) (opened : Bool) → at ≤ length s → Told opened s (framesOf (steps opened s at)) (nextOf s (startAt at opened))
-next-left s small at opened h = told s small opened (startAt at opened) refl h
+pub next-left : (s : List ℕ) → length s < 2 ^ 64 → (at : ℕ) (opened : Bool) → at ≤ length s → Says opened s (framesOf (steps opened s at)) (nextOf s (startAt at opened))
+next-left s small at opened h = says s small opened (startAt at opened) refl h

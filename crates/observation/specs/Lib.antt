@@ -1,4 +1,3 @@
-pub mod Layout
 pub mod Edition
 pub mod Obs
 pub mod ObsWriter

@@ -1,7 +1,6 @@
 // OBS, 0x0049: the header and the number of observations that follow.
 ghost use mathlib.Core.Path.{_≡_};
-ghost use Rattle.observation.specs.Layout.{first, fitting};
-ghost use Rattle.observation.specs.Edition.{isObs};
+ghost use Rattle.observation.specs.Edition.{fitting, first, isObs};
 ghost use Rattle.observation.specs.Obs.{readObs, obsAnswer};
 
 // The observations themselves stay in the payload: `read_observation` gives one by its index, below count.

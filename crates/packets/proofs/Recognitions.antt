@@ -10,13 +10,12 @@ use Rattle.wire.specs.Number.{Bytes}
 use Rattle.wire.specs.Refusals.{refused, given, Answer}
 use Rattle.wire.proofs.Numbers.{number-lt}
 use Rattle.wire.proofs.Ordered.{exactly-all}
-use Rattle.observation.specs.Edition.{isObs}
-use Rattle.observation.specs.Layout.{first, fitting}
+use Rattle.observation.specs.Edition.{fitting, first, isObs}
 use Rattle.observation.specs.Obs.{obsIn, readObs}
-use Rattle.observation.proofs.Layouts.{whole}
+use Rattle.observation.proofs.Editions.{whole}
 use Rattle.packets.specs.Packet.{packetOf, packetIn, shape, numbering, readPacket, numbered, recognised, Formed}
 use Rattle.packets.specs.declared.packet.Packet.{Packet}
-use Rattle.packets.proofs.Joined.{mapped, ordered-mapped, first-passed}
+use Rattle.packets.proofs.Joined.{mapped, ordered-mapped, andThen, ordered-joined}
 
 -- ---- the two steps, refusal by refusal
 
@@ -47,7 +46,9 @@ module _ (p : Packet) where
 -- a frame that was read is recognised by its numbers
 pub read-recognised : (kind : ℕ) (s : List ℕ) {p : Packet} → readPacket kind s ≡ given p → recognised kind s ≡ numbered p
 read-recognised kind s {p} e =
-    first-passed (packetIn s) (packetIn s) (numbering (packetIn s)) (shape kind s) e ∙ ap numbered (exactly-all (packetIn s) (shape kind s) p .0 e .1)
+    ordered-joined (packetIn s) (packetIn s) (numbering (packetIn s)) (shape kind s)
+    ∙ ap (λ (a : Answer Packet). andThen a (numbered (packetIn s))) e
+    ∙ ap numbered (exactly-all (packetIn s) (shape kind s) p .0 e .1)
 
 -- ---- the packet of a frame that is recognised
 
