@@ -37,7 +37,7 @@ pub record Filled (roster s report : List ℕ) (xs : List Content) : Type 0 wher
   pub room : reportSize ≤ length report
   pub bytes : AllBytes xs
 
--- an epoch's numbers in a row of bytes, each where include/sbp.h has it
+-- an epoch's numbers in a row of bytes, each where link/include/sbp.h has it
 pub record Shown (row : List ℕ) (e : Report) : Type 0 where
   pub sender : numberAt 2 row 0 ≡ e .sender
   pub week : numberAt 2 row 2 ≡ e .wn

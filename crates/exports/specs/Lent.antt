@@ -1,4 +1,4 @@
--- What a call hands back and what it leaves in what it is lent, both read off its answer: a refusal is its number, and leaves all as it was.
+-- What a call hands back, read off its answer as what it leaves is (wire's `leaves`): a refusal is its number, and leaves all as it was.
 -- And rows of fields in lent bytes. Assumes nothing.
 use Prim.Native.Nat.{ℕ, zero, suc, _+_, _*_}
 use mathlib.Core.List.{List, [], _∷_, _++_}
@@ -17,11 +17,6 @@ asNumber number (refused n) = n
 -- 0, or the number of a refusal
 abbrev pub zeroOr : {A : Type 0} → Answer A → ℕ
 zeroOr = asNumber (λ x. 0)
-
--- what was lent, after the call
-abbrev pub leaves : {A B : Type 0} → (A → B → B) → Answer A → B → B
-leaves put (given x) lent = put x lent
-leaves put (refused n) lent = lent
 
 -- ---- rows
 

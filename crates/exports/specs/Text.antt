@@ -2,8 +2,9 @@
 use Prim.Native.Nat.{ℕ}
 use mathlib.Core.List.{List}
 use lib.ListN.{length}
+use Rattle.wire.specs.Refusals.{leaves}
 use Rattle.listing.specs.Listing.{listAnswer}
-use Rattle.exports.specs.Lent.{zeroOr, leaves}
+use Rattle.exports.specs.Lent.{zeroOr}
 
 abbrev pub textAnswer : List ℕ → ℕ → ℕ
 textAnswer s room = zeroOr (listAnswer s room)

@@ -1,4 +1,4 @@
-// How many bytes the rows and the state take, and where the state's parts begin: as specs/ has it, and include/sbp.h.
+// How many bytes the rows and the state take, and where the state's parts begin: as specs/ has it, and link/include/sbp.h.
 pub(crate) const FOUND_SIZE: usize = 53;
 
 pub(crate) const TOTALS_SIZE: usize = 32;
