@@ -10,7 +10,7 @@ use lib.ListN.{length, getD, replicate, length-append, getD-replicate}
 use lib.Seq.{length-take-le, getD-take}
 use borrow.Author.Tests.{le-leb, lt-leb}
 use Rattle.wire.specs.Refusals.{refused, given, Answer, ordered, leaves}
-use Rattle.packets.proofs.Joined.{first-refused, first-passed}
+use Rattle.packets.proofs.Joined.{andThen, ordered-joined}
 use Rattle.epochs.specs.Search.{repeats}
 use Rattle.epochs.specs.Collator.{idle, fresh, rostering, asMade, made}
 use Rattle.epochs.specs.declared.collating.Collator.{Collator}
@@ -41,38 +41,38 @@ module _ (roster s : List ℕ) where
   came : {a : Answer Collator} → a ≡ madeIn roster (length s) → Out (zeroOr a) (leaves collatorStored a s)
   came e = (ap zeroOr e, ap (λ (a : Answer Collator). leaves collatorStored a s) e)
 
+  -- the roster decides, and then the room
+  steps : {a : Answer Collator} → ordered (rostering roster) (fresh roster) ≡ a → andThen a (ordered (roomFor stateSize (length s)) (fresh roster)) ≡ madeIn roster (length s)
+  unfolding madeIn
+  steps e =
+      ap (λ (a : Answer Collator). andThen a (ordered (roomFor stateSize (length s)) (fresh roster))) (sym e)
+      ∙ sym (ordered-joined (fresh roster) (fresh roster) (roomFor stateSize (length s)) (rostering roster))
+
   module _ {m : Made} (e : m ≡ made roster) where
     pub made-refused : (m .number ≡ 0 → ⊥) → Out (m .number) s
-    unfolding made madeIn
+    unfolding made
     made-refused h = by (ordered (rostering roster) (fresh roster)) refl
       where
         by : (a : Answer Collator) → ordered (rostering roster) (fresh roster) ≡ a → Out (m .number) s
         by (given c) q = absurd (h (ap (λ (m : Made). m .number) (e ∙ ap asMade q)))
-        by (refused n) q =
-            let out = came (sym (first-refused (fresh roster) (fresh roster) (roomFor stateSize (length s)) (rostering roster) q)) in
-            (ap (λ (m : Made). m .number) (e ∙ ap asMade q) ∙ out .0, out .1)
+        by (refused n) q = let out = came (steps q) in (ap (λ (m : Made). m .number) (e ∙ ap asMade q) ∙ out .0, out .1)
 
     module _ (zero : m .number ≡ 0) where
       none : made roster .number ≡ 0
       none = ap (λ (m : Made). m .number) (sym e) ∙ zero
 
-      -- only the room is left to decide
-      roomed : ordered (roomFor stateSize (length s)) (fresh roster) ≡ madeIn roster (length s)
-      unfolding madeIn
-      roomed = sym (first-passed (fresh roster) (fresh roster) (roomFor stateSize (length s)) (rostering roster) (passes roster none))
-
       whole : m .collator ≡ fresh roster
       whole = ap (λ (m : Made). m .collator) (e ∙ accepted roster none .whole)
 
       pub made-short : length s < stateSize → Out 32 s
-      made-short h = came {a = refused 32} (rw (← roomed, lt-leb stateSize (length s) h))
+      made-short h = came {a = refused 32} (rw (← steps (passes roster none), lt-leb stateSize (length s) h))
 
       pub made-few : m .collator .count ≤ 8
       made-few = omega (arith, ap (λ (c : Collator). c .count) whole, accepted roster none .few)
 
       pub made-put : {t : List ℕ} → stateSize ≤ length s → t ≡ collatorStored (m .collator) s → Out 0 t
       made-put h q =
-          let out = came {a = given (fresh roster)} (rw (← roomed, le-leb stateSize (length s) h)) in
+          let out = came {a = given (fresh roster)} (rw (← steps (passes roster none), le-leb stateSize (length s) h)) in
           (out .0, q ∙ ap (λ (c : Collator). collatorStored c s) whole ∙ out .1)
 
 -- ---- tied to the collator

@@ -22,7 +22,7 @@ use Rattle.epochs.specs.declared.collating.Collator.{Collator}
 use Rattle.runs.proofs.StepCases.{step-cases}
 use Rattle.exports.specs.State.{countFields, seatFields, slotFields, seatsAt, placesAt, stateSize, seatAt, slotAt, slotRow, slotMake, placeOf, slotFor, slotOf, placeIn, placeStored, sendersIn, seatIn, seatsIn, stateIn, countStored, seatRow, seatsStored, placeRow, collatorStored}
 use Rattle.exports.proofs.Parts.{decode-stored, decode-before, decode-after}
-use Rattle.exports.proofs.Tables.{listed-set, listed-same, listed-all, rows-own, rows-before, length-stored}
+use Rattle.exports.proofs.Tables.{tabulated-set, tabulated-same, tabulated-all, rows-own, rows-before, length-stored}
 
 -- ---- a place that its bytes hold
 
@@ -95,7 +95,7 @@ module _ (s : List ℕ) (long : stateSize ≤ length s) (i : ℕ) (h : i < 8) (p
 
   same-seats : seatsIn (placeStored s i place) ≡ seatsIn s
   same-seats =
-      listed-same (seatIn (placeStored s i place)) (seatIn s) 8
+      tabulated-same (seatIn (placeStored s i place)) (seatIn s) 8
       λ j b.
       ap (λ (v : Row seatFields). v .0) (decode-before slotFields (slotRow (slotOf place)) s (slotAt i) room seatFields (seatAt j) (omega arith))
 
@@ -104,7 +104,7 @@ module _ (s : List ℕ) (long : stateSize ≤ length s) (i : ℕ) (h : i < 8) (p
       → stateIn (placeStored s i place) ≡ record { places = set (stateIn s .places) i place; roster = stateIn s .roster; count = stateIn s .count }
   state-place small =
       let places : tabulated (placeIn (placeStored s i place)) 8 ≡ set (tabulated (placeIn s) 8) i place
-      = listed-set (placeIn s) (placeIn (placeStored s i place)) 8 i h (λ k b. other-place k) ∙ ap (set (tabulated (placeIn s) 8) i) (own-place small) in
+      = tabulated-set (placeIn s) (placeIn (placeStored s i place)) 8 i h (λ k b. other-place k) ∙ ap (set (tabulated (placeIn s) 8) i) (own-place small) in
       λ k. record { places = places k; roster = same-seats k; count = same-count k }
 
 -- ---- a whole collator stored
@@ -158,7 +158,7 @@ module _ (c : Collator) (h : Held c) (s : List ℕ) (long : stateSize ≤ length
   state-stored =
       let t = collatorStored c s in
       let seats : tabulated (seatIn t) 8 ≡ c .roster
-      = ap (tabulated (seatIn t)) (sym (h .seats)) ∙ listed-all (seatIn t) (c .roster) 0 (λ j b. seat-back j (omega (arith, h .seats))) in
+      = ap (tabulated (seatIn t)) (sym (h .seats)) ∙ tabulated-all (seatIn t) (c .roster) 0 (λ j b. seat-back j (omega (arith, h .seats))) in
       let places : tabulated (placeIn t) 8 ≡ c .places
-      = ap (tabulated (placeIn t)) (sym (h .eight)) ∙ listed-all (placeIn t) (c .places) idle (λ j b. place-back j (omega (arith, h .eight))) in
+      = ap (tabulated (placeIn t)) (sym (h .eight)) ∙ tabulated-all (placeIn t) (c .places) idle (λ j b. place-back j (omega (arith, h .eight))) in
       λ k. record { places = places k; roster = seats k; count = count-back k }

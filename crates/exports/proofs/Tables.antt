@@ -18,27 +18,27 @@ use Rattle.exports.proofs.Parts.{decode-stored, decode-before}
 -- ---- lists by index
 
 module _ {A : Type 0} where
-  pub listed-same : (f g : ℕ → A) (n : ℕ) → ((j : ℕ) → j < n → f j ≡ g j) → tabulated f n ≡ tabulated g n
+  pub tabulated-same : (f g : ℕ → A) (n : ℕ) → ((j : ℕ) → j < n → f j ≡ g j) → tabulated f n ≡ tabulated g n
   unfolding tabulated
-  listed-same f g zero h = refl
-  listed-same f g (suc n) h =
-      ap₂ (λ (x : A) (xs : List A). x ∷ xs) (h 0 (omega arith)) (listed-same (λ k. f (suc k)) (λ k. g (suc k)) n (λ j b. h (suc j) (omega arith)))
+  tabulated-same f g zero h = refl
+  tabulated-same f g (suc n) h =
+      ap₂ (λ (x : A) (xs : List A). x ∷ xs) (h 0 (omega arith)) (tabulated-same (λ k. f (suc k)) (λ k. g (suc k)) n (λ j b. h (suc j) (omega arith)))
 
   -- one index alone is another's
-  pub listed-set : (f g : ℕ → A) (n j : ℕ) → j < n → ((k : ℕ) → k < n → (k ≡ j → ⊥) → g k ≡ f k) → tabulated g n ≡ set (tabulated f n) j (g j)
+  pub tabulated-set : (f g : ℕ → A) (n j : ℕ) → j < n → ((k : ℕ) → k < n → (k ≡ j → ⊥) → g k ≡ f k) → tabulated g n ≡ set (tabulated f n) j (g j)
   unfolding tabulated
-  listed-set f g zero j h others = absurd (omega arith)
-  listed-set f g (suc n) zero h others =
-      ap (λ (xs : List A). g 0 ∷ xs) (listed-same (λ k. g (suc k)) (λ k. f (suc k)) n (λ k b. others (suc k) (omega arith) (λ e. omega arith)))
-  listed-set f g (suc n) (suc j) h others =
+  tabulated-set f g zero j h others = absurd (omega arith)
+  tabulated-set f g (suc n) zero h others =
+      ap (λ (xs : List A). g 0 ∷ xs) (tabulated-same (λ k. g (suc k)) (λ k. f (suc k)) n (λ k b. others (suc k) (omega arith) (λ e. omega arith)))
+  tabulated-set f g (suc n) (suc j) h others =
       ap₂ (λ (x : A) (xs : List A). x ∷ xs) (others 0 (omega arith) (λ e. omega arith))
-      (listed-set (λ k. f (suc k)) (λ k. g (suc k)) n j (omega arith) (λ k b other. others (suc k) (omega arith) (λ e. other (omega arith))))
+      (tabulated-set (λ k. f (suc k)) (λ k. g (suc k)) n j (omega arith) (λ k b other. others (suc k) (omega arith) (λ e. other (omega arith))))
 
-  pub listed-all : (f : ℕ → A) (xs : List A) (d : A) → ((j : ℕ) → j < length xs → f j ≡ getD xs j d) → tabulated f (length xs) ≡ xs
+  pub tabulated-all : (f : ℕ → A) (xs : List A) (d : A) → ((j : ℕ) → j < length xs → f j ≡ getD xs j d) → tabulated f (length xs) ≡ xs
   unfolding tabulated
-  listed-all f [] d h = refl
-  listed-all f (x ∷ xs) d h =
-      ap₂ (λ (x : A) (xs : List A). x ∷ xs) (h 0 (omega arith)) (listed-all (λ k. f (suc k)) xs d (λ j b. h (suc j) (omega arith)))
+  tabulated-all f [] d h = refl
+  tabulated-all f (x ∷ xs) d h =
+      ap₂ (λ (x : A) (xs : List A). x ∷ xs) (h 0 (omega arith)) (tabulated-all (λ k. f (suc k)) xs d (λ j b. h (suc j) (omega arith)))
 
 -- ---- rows
 

@@ -12,7 +12,7 @@ use Rattle.frames.specs.Frame.{Content}
 use Rattle.packets.specs.declared.packet.Packet.{Packet}
 use Rattle.runs.specs.declared.running.Ended.{Ended}
 use Rattle.runs.specs.declared.running.Ended.the-variants.{Not, Whole}
-use Rattle.listing.specs.Listing.{listAnswer, listedAs, listed}
+use Rattle.listing.specs.Listing.{listAnswer, withListing}
 use Rattle.exports.specs.Lent.{asNumber, zeroOr}
 use Rattle.exports.specs.Found.{numberIn, nextFrom, nextAnswer, nextStored}
 use Rattle.exports.specs.Totals.{totalsFor, totalsAnswer, totalsStored}
@@ -26,6 +26,9 @@ module _ {A B : Type 0} (number : A → ℕ) (put : A → B → B) (Is : ℕ →
   untouched-by (given x) lent h = absurd (none x h)
   untouched-by (refused n) lent h = refl
 
+not-zero : {A B : Type 0} (put : A → B → B) (a : Answer A) (lent : B) → (zeroOr a ≡ 0 → ⊥) → leaves put a lent ≡ lent
+not-zero put = untouched-by (λ x. 0) put (λ n. n ≡ 0 → ⊥) (λ x h. h refl)
+
 -- what comes next is 0, 1 or 2
 never-32 : (x : Next.Next) → numberIn x ≡ 32 → ⊥
 never-32 (Next.the-variants.Frame f c) e = absurd (omega (arith, e))
@@ -36,18 +39,14 @@ pub next-keeps : (s : List ℕ) (at : ℕ) (opened : Bool) (buf : List ℕ) → 
 next-keeps s at opened buf = untouched-by numberIn _ (λ n. n ≡ 32) never-32 (nextFrom s at opened (length buf)) buf
 
 pub totals-keeps : (s buf : List ℕ) → (totalsAnswer s (length buf) ≡ 0 → ⊥) → totalsStored s buf ≡ buf
-totals-keeps s buf = untouched-by (λ c. 0) _ (λ n. n ≡ 0 → ⊥) (λ c h. h refl) (totalsFor s (length buf)) buf
+totals-keeps s buf = not-zero _ (totalsFor s (length buf)) buf
 
 -- the text, and the length that is given
-pub list-keeps : (s buf : List ℕ) (before : ℕ) → (textAnswer s (length buf) ≡ 0 → ⊥) → (listed s buf ≡ buf) × (sizeAfter s (length buf) before ≡ before)
-list-keeps s buf before = by (listAnswer s (length buf))
-  where
-    by : (a : Answer ℕ) → (zeroOr a ≡ 0 → ⊥) → (listedAs a s buf ≡ buf) × (leaves (λ n size. n) a before ≡ before)
-    by (given n) h = absurd (h refl)
-    by (refused n) h = (refl, refl)
+pub list-keeps : (s buf : List ℕ) (before : ℕ) → (textAnswer s (length buf) ≡ 0 → ⊥) → (withListing s buf ≡ buf) × (sizeAfter s (length buf) before ≡ before)
+list-keeps s buf before h = let a = listAnswer s (length buf) in (not-zero _ a buf h, not-zero _ a before h)
 
 pub collator-keeps : (roster s : List ℕ) → (madeAnswer roster (length s) ≡ 0 → ⊥) → madeStored roster s ≡ s
-collator-keeps roster s = untouched-by (λ c. 0) collatorStored (λ n. n ≡ 0 → ⊥) (λ c h. h refl) (madeIn roster (length s)) s
+collator-keeps roster s = not-zero collatorStored (madeIn roster (length s)) s
 
 -- a step's end is 0 or 1
 low : (y : Ended) → 2 ≤ endedNumber y → ⊥

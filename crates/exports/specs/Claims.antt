@@ -8,7 +8,7 @@ use Rattle.wire.specs.Number.{Bytes, numberAt}
 use Rattle.frames.specs.Frame.{Content}
 use Rattle.epochs.specs.Collator.{made}
 use Rattle.epochs.specs.declared.collating.Report.{Report}
-use Rattle.listing.specs.Listing.{listed}
+use Rattle.listing.specs.Listing.{withListing}
 use Rattle.exports.specs.Found.{nextAnswer, nextStored}
 use Rattle.exports.specs.Totals.{totalsAnswer, totalsStored}
 use Rattle.exports.specs.Text.{textAnswer, sizeAfter}
@@ -19,7 +19,7 @@ use Rattle.exports.specs.Feed.{reportSize, madeAnswer, madeStored, fedIn
 pub record Kept : Type 0 where
   pub next : (s : List ℕ) (at : ℕ) (opened : Bool) (buf : List ℕ) → nextAnswer s at opened (length buf) ≡ 32 → nextStored s at opened buf ≡ buf
   pub totals : (s buf : List ℕ) → (totalsAnswer s (length buf) ≡ 0 → ⊥) → totalsStored s buf ≡ buf
-  pub list : (s buf : List ℕ) (before : ℕ) → (textAnswer s (length buf) ≡ 0 → ⊥) → (listed s buf ≡ buf) × (sizeAfter s (length buf) before ≡ before)
+  pub list : (s buf : List ℕ) (before : ℕ) → (textAnswer s (length buf) ≡ 0 → ⊥) → (withListing s buf ≡ buf) × (sizeAfter s (length buf) before ≡ before)
   pub collator : (roster s : List ℕ) → (madeAnswer roster (length s) ≡ 0 → ⊥) → madeStored roster s ≡ s
   -- 0 and 1 are the answers of a frame that was taken
   pub feed : (s : List ℕ) (x : Content) (report : List ℕ) → 2 ≤ fedIn s x report .answer → (fedIn s x report .state ≡ s) × (fedIn s x report .report ≡ report)

@@ -1,11 +1,11 @@
 -- What a call hands back, read off its answer as what it leaves is (wire's `leaves`): a refusal is its number, and leaves all as it was.
 -- And rows of fields in lent bytes. Assumes nothing.
 use Prim.Native.Nat.{ℕ, zero, suc, _+_, _*_}
-use mathlib.Core.List.{List, [], _∷_, _++_}
+use mathlib.Core.List.{List, [], _∷_}
 use lib.Dec.{leb}
-use lib.ListN.{drop}
 use Rattle.wire.specs.Refusals.{refused, given, Answer, Tests}
 use Rattle.wire.specs.Field.{Field, Row, size, encode, rowStored}
+use Rattle.frames.specs.Writer.{startingWith}
 
 -- ---- what C and Rust see of an answer
 
@@ -26,7 +26,7 @@ roomFor n room = (leb n room, 32) ∷ []
 
 -- a buffer with a row's bytes at its start, the bytes after as they were
 abbrev pub atFront : (fs : List Field) → Row fs → List ℕ → List ℕ
-atFront fs v buf = encode fs v ++ drop (size fs) buf
+atFront fs v buf = startingWith (encode fs v) (size fs) buf
 
 -- s with the first n of some rows stored one after the other from an offset on
 unfoldable pub firstRowsStored : (fs : List Field) → (ℕ → Row fs) → ℕ → List ℕ → ℕ → List ℕ

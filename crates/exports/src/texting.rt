@@ -1,7 +1,7 @@
 // The listing of a capture.
 ghost use mathlib.Core.Path.{_≡_};
 ghost use lib.ListN.{length};
-ghost use Rattle.listing.specs.Listing.{listed};
+ghost use Rattle.listing.specs.Listing.{withListing};
 ghost use Rattle.exports.specs.Text.{textAnswer, sizeAfter};
 use frames::Written;
 
@@ -9,7 +9,7 @@ use frames::Written;
 #[no_mangle]
 pub extern "C" fn sbp_list(capture: &[u8], text: &mut [u8], size: &mut u64) -> u8
     ensures { λ r. ⌜ r ≡ textAnswer (now (capture .entry)) (length (now (text .entry))) ⌝ }
-    ensures { λ _. ⌜ now (text .exit) ≡ listed (now (capture .entry)) (now (text .entry)) ⌝ }
+    ensures { λ _. ⌜ now (text .exit) ≡ withListing (now (capture .entry)) (now (text .entry)) ⌝ }
     ensures { λ _. ⌜ now (size .exit) ≡ sizeAfter (now (capture .entry)) (length (now (text .entry))) (now (size .entry)) ⌝ }
 {
     let written = listing::list(capture, text);
