@@ -19,8 +19,8 @@ use Rattle.navigation.specs.PosEcef.{posEcef}
 use Rattle.navigation.specs.PosLlh.{posLlh}
 use Rattle.observation.specs.BasePosEcef.{basePosEcef}
 use Rattle.observation.specs.BasePosLlh.{basePosLlh}
-use Rattle.observation.specs.Edition.{first}
-use Rattle.observation.specs.Obs.{readingObs, obsIn}
+use Rattle.observation.specs.Edition.{obs, first}
+use Rattle.observation.specs.Obs.{shown}
 use Rattle.system.specs.Empty.{settingsSave, readByIndexDone}
 use Rattle.system.specs.Heartbeat.{heartbeat}
 use Rattle.system.specs.Log.{logKind, logLength, logIn}
@@ -46,7 +46,7 @@ pub record Named : Type 1 where
 abbrev pub under : {R : Type 0} → Description R → (R → Message) → Named
 under {R} d name = record { Of = R; description = d; name = name }
 
--- every message whose payloads have one length
+-- every message; of an OBS the code shows the header and how many observations follow
 abbrev pub messages : List Named
 messages =
     under gpsTime (λ r. M.GpsTime r) ∷
@@ -65,6 +65,7 @@ messages =
     under readByIndexReq (λ r. M.ReadByIndexReq r) ∷
     under startup (λ r. M.Startup r) ∷
     under heartbeat (λ r. M.Heartbeat r) ∷
+    under (obs first) (λ r. M.Obs (shown r)) ∷
     []
 
 -- ---- the table
@@ -83,9 +84,6 @@ pub record Entry : Type 0 where
 abbrev pub entryOf : Named → Entry
 entryOf m = let d = m .description in record { kind = d .kind; known = true; tests = reading d; holds = λ s. m .name (inside d s) }
 
-abbrev pub obsEntry : Entry
-obsEntry = record { kind = first .kind; known = true; tests = readingObs first; holds = λ s. M.Obs (obsIn s) }
-
 abbrev pub logEntry : Entry
 logEntry = record { kind = logKind; known = true; tests = readingLog; holds = λ s. M.Log (logIn s) }
 
@@ -94,7 +92,7 @@ abbrev pub noEntry : ℕ → Entry
 noEntry kind = record { kind = kind; known = false; tests = λ s. []; holds = λ s. M.SettingsSave }
 
 abbrev pub table : List Entry
-table = map entryOf messages ++ (obsEntry ∷ logEntry ∷ [])
+table = map entryOf messages ++ (logEntry ∷ [])
 
 unfoldable pub entryFor : List Entry → ℕ → Entry
 entryFor [] kind = noEntry kind
