@@ -9,7 +9,7 @@ use native.Mathlib.Omega.{arith}
 use lib.ListN.{length, getD, replicate}
 use Rattle.wire.specs.Number.{numberAt}
 use Rattle.crc.specs.Crc.{bitStep, bitSteps, byteStep, crcFrom}
-use Rattle.frames.specs.Reading.{Placed, readFrom, closedSteps, Tiled, holding, countsOf, sumOf}
+use Rattle.frames.specs.Reading.{Positioned, readFrom, closedSteps, Tiled, holding, countsOf, sumOf}
 use Rattle.frames.specs.Cursors.{begun, nextOf}
 use Rattle.frames.specs.declared.cursor.Counts.{Counts}
 use Rattle.frames.specs.declared.cursor.Cursor.{Cursor}
@@ -104,7 +104,7 @@ once-honest-covers = refl
 pub once-honest : Tiled (blank ++ blank) 0 16 (onceHonest (blank ++ blank)) → ⊥
 unfolding numberAt bitStep bitSteps byteStep crcFrom readFrom upToFrame countsOf
 once-honest tiles =
-    let framed : _≡_ {A = ℕ} 8 16 = ap (λ (xs : List Placed). countsOf xs .framed) (only-closed (blank ++ blank) tiles) in
+    let framed : _≡_ {A = ℕ} 8 16 = ap (λ (xs : List Positioned). countsOf xs .framed) (only-closed (blank ++ blank) tiles) in
     omega arith
 
 -- ---- "Invented totals: by counts tied to steps."

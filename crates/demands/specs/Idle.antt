@@ -7,7 +7,7 @@ use mathlib.Core.List.{List, [], _∷_}
 use mathlib.Core.Logic.{_↔_}
 use lib.ListN.{length, drop}
 use Rattle.frames.specs.Step.{passed}
-use Rattle.frames.specs.Reading.{Placed, closedSteps, countsOf}
+use Rattle.frames.specs.Reading.{Positioned, closedSteps, countsOf}
 use Rattle.frames.specs.Cursors.{nextOf}
 use Rattle.frames.specs.declared.step.Frame.{Frame}
 use Rattle.frames.specs.declared.step.Step.{Step}
@@ -64,7 +64,7 @@ NeverMoves {C} m = (c : C) (x : Content) → m .feed c x .0 ≡ c
 
 -- ---- honest for its first frame, calling the rest junk
 
-unfoldable pub junkFrom : ℕ → List ℕ → List Placed
+unfoldable pub junkFrom : ℕ → List ℕ → List Positioned
 junkFrom p [] = []
 junkFrom p (b ∷ t) = record { at = p; step = Junk } ∷ junkFrom (suc p) t
 
@@ -76,16 +76,16 @@ isFrame Bad = false
 isFrame (Found f) = true
 
 -- where a step ends
-abbrev pub endOf : Placed → ℕ
+abbrev pub endOf : Positioned → ℕ
 endOf x = x .at + passed (x .step)
 
 -- steps up to the first frame, and junk from its end on
-unfoldable pub upToFrame : List ℕ → List Placed → List Placed
+unfoldable pub upToFrame : List ℕ → List Positioned → List Positioned
 unfolding junkFrom
 upToFrame s [] = []
 upToFrame s (x ∷ xs) = x ∷ cond (isFrame (x .step)) (junkFrom (endOf x) (drop (endOf x) s)) (upToFrame s xs)
 
-abbrev pub onceHonest : List ℕ → List Placed
+abbrev pub onceHonest : List ℕ → List Positioned
 onceHonest s = upToFrame s (closedSteps s)
 
 -- ---- invented totals

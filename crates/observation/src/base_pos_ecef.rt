@@ -1,8 +1,8 @@
 // BASE_POS_ECEF, 0x0048: the base station, Earth centred, in m.
 ghost use mathlib.Core.Path.{_≡_};
 ghost use lib.ListN.{length};
-ghost use Rattle.wire.specs.Field.{decode, rowStored};
-ghost use Rattle.wire.specs.Description.{readAs};
+ghost use Rattle.wire.specs.Layout.{bodyStored};
+ghost use Rattle.wire.specs.Description.{inside, readAs};
 ghost use Rattle.frames.specs.Writer.{senderOf, writtenAnswer};
 ghost use Rattle.frames.specs.Faithful.{writeAnswer, writtenAs};
 ghost use Rattle.observation.specs.BasePosEcef.{basePosEcef, answerOf};
@@ -21,8 +21,8 @@ pub enum BasePosEcefRead {
     Refused(u8),
 }
 
-fn take(s: &[u8]) -> BasePosEcef
-    ensures { λ r. ⌜ r ≡ basePosEcef .make (decode (basePosEcef .fields) (now (s .entry)) 0) ⌝ }
+pub fn take_base_pos_ecef(s: &[u8]) -> BasePosEcef
+    ensures { λ r. ⌜ r ≡ inside basePosEcef (now (s .entry)) ⌝ }
 {
     BasePosEcef {
         x: wire::read_double(s, 0),
@@ -32,7 +32,7 @@ fn take(s: &[u8]) -> BasePosEcef
 }
 
 fn put(buf: &mut [u8], r: BasePosEcef)
-    ensures { λ _. ⌜ now (buf .exit) ≡ rowStored (basePosEcef .fields) (basePosEcef .row r) (now (buf .entry)) 6 ⌝ }
+    ensures { λ _. ⌜ now (buf .exit) ≡ bodyStored (basePosEcef .layout) (basePosEcef .row r) (now (buf .entry)) 6 ⌝ }
 {
     wire::store_double(buf, 6, r.x);
     wire::store_double(buf, 14, r.y);
@@ -45,7 +45,7 @@ pub fn read_base_pos_ecef(s: &[u8]) -> BasePosEcefRead
     if s.len() != 24 {
         return BasePosEcefRead::Refused(22);
     }
-    BasePosEcefRead::Record(take(s))
+    BasePosEcefRead::Record(take_base_pos_ecef(s))
 }
 
 pub fn write_base_pos_ecef(buf: &mut [u8], sender: Sender, r: BasePosEcef) -> Written
