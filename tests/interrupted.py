@@ -43,9 +43,14 @@ def unread(fd):
     return struct.unpack("i", fcntl.ioctl(fd, termios.FIONREAD, b"\0" * 4))[0]
 
 
+def begun(pid):
+    """tools/run has become the program: until then it sleeps too, while the shell waits for a command."""
+    return "sh" not in os.path.basename(os.readlink("/proc/%d/exe" % pid))
+
+
 def waits(program, fd):
     """The program has read all there is and waits for more, or has ended."""
-    until(lambda: program.poll() is not None or unread(fd) == 0 and state(program.pid) == "S")
+    until(lambda: program.poll() is not None or unread(fd) == 0 and begun(program.pid) and state(program.pid) == "S")
 
 
 def started(stdin):
