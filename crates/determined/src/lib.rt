@@ -1,0 +1,1 @@
+// That every public function's contract determines what it leaves.
