@@ -47,4 +47,3 @@ module _ {M : Type 1} (𝓤 : URA M) (H : Heap 𝓤) (A : Atoms 𝓤) (mem : Mem
 
   pub exports : public.Exports 𝓤 H A mem run
   exports = search determinations
-

@@ -1,8 +1,8 @@
 -- Demand 1: "Take in arbitrary input and always come to an end. No entry point trusts its caller: a roster, payload, index or buffer that
 -- doesn't fit is refused by number, and a refusal writes nothing and moves no state." Each public function's proved contract says that it ends
 -- on all inputs, and none has a `requires`; that calls of `next` stop is in demand 2 (`handed-out`). Here is what calls answer and what a refusal
--- leaves: the statement first, then its proof, all of it citations. Assumes nothing.
-use mathlib.Core.Path.{_≡_, refl, ap}
+-- leaves. Assumes nothing.
+use mathlib.Core.Path.{_≡_}
 use mathlib.Core.List.{List, []}
 use mathlib.Core.Logic.{_↔_, _⊎_}
 use Prim.Native.Nat.{ℕ, _+_, _<_}
@@ -11,11 +11,9 @@ use lib.ListN.{length}
 use denote.Ref.{now}
 use Rattle.wire.specs.Field.{size, decode}
 use Rattle.wire.specs.Description.{Description, readAs}
-use Rattle.wire.specs.Refusals.{refused, given, Answer, Tests, ordered, FirstFails, AllPass}
-use Rattle.wire.proofs.Ordered.{exactly-first, exactly-all}
+use Rattle.wire.specs.Refusals.{refused, given, Tests, ordered, FirstFails, AllPass}
 use Rattle.frames.specs.Writer.{planned, withFrame}
 use Rattle.frames.specs.Faithful.{writeAnswer, writtenAs}
-use Rattle.frames.proofs.Written.{framed-unfit}
 use Rattle.observation.specs.Layout.{first, startOf}
 use Rattle.observation.specs.Obs.{entryAt, readEntry, obsIn, readObs}
 use Rattle.observation.specs.ObsWriter.{obsWriteAnswer, obsWritten}
@@ -25,7 +23,6 @@ use Rattle.observation.specs.declared.obs.Obs.{Obs}
 use Rattle.system.specs.Log.{logIn, readLog}
 use Rattle.obs_reader.specs.Reader.{asked}
 use Rattle.obs_reader.specs.declared.ObsReader.{ObsReader}
-use Rattle.obs_reader.proofs.Places.{stays}
 use Rattle.payloads.specs.Table.{table, readFor}
 use Rattle.epochs.specs.Collator.{acted, rosterOf, fed, fresh, made}
 use Rattle.epochs.specs.Epoch.{fedFrame, after}
@@ -33,14 +30,9 @@ use Rattle.frames.specs.Frame.{Content}
 use Rattle.epochs.specs.Capture.{begun, collated}
 use Rattle.epochs.specs.declared.collating.Collator.{Collator}
 use Rattle.epochs.specs.declared.collating.Happened.the-variants as H
-use Rattle.epochs.proofs.Feeding.{refused-keeps}
-use Rattle.epochs.proofs.Captures.{collated-refused}
 use Rattle.text.specs.Line.{laid}
-use Rattle.text.proofs.Pending.{laid-unfit}
-use Rattle.listing.specs.Listing.{textOf, listAnswer, listedAs, listed}
+use Rattle.listing.specs.Listing.{textOf, listAnswer, listed}
 use Rattle.demands.specs.Order.{lineFor, readingAny, reading, readingObs, readingLog, oneObservation, writingBytes, writing, writingObs, listing, phaseRange, rostering, asMade, feeding, forPlace, asJudged}
-use Rattle.demands.proofs.Order.{looks-up-ordered, reads-ordered, reads-obs-ordered, reads-log-ordered, reads-entry-ordered, plans-ordered, writes-ordered, writes-obs-ordered, lists-ordered, phase-ordered, made-ordered, judged-ordered}
-use Rattle.demands.proofs.Refused.{record-unwritten, obs-unwritten, nobody-listed}
 
 -- "a roster, payload, index or buffer that doesn't fit is refused by number"
 pub record RefusedByNumber : Type 1 where
@@ -100,44 +92,3 @@ pub record Demand1 : Type 1 where
   pub refused-by-number : RefusedByNumber
   pub writes-nothing : WritesNothing
   pub moves-no-state : MovesNoState
-
--- ---- the proof
-
-refused-by-number : RefusedByNumber
-unfolding fed
-refused-by-number = record {
-  in-order = λ A x ts. (exactly-first x ts, exactly-all x ts);
-  payload = looks-up-ordered table;
-  record-payload = λ R m. reads-ordered m;
-  obs-payload = reads-obs-ordered;
-  log-payload = reads-log-ordered;
-  index = reads-entry-ordered;
-  reader-place = λ r. reads-entry-ordered (now (r .payload)) (r .place);
-  record-buffer = λ R m. writes-ordered m;
-  obs-buffer = writes-obs-ordered;
-  bytes-buffer = plans-ordered;
-  capture = lists-ordered;
-  phase = phase-ordered;
-  roster = made-ordered;
-  frame = λ c kind sender payload. ap (acted c sender) (judged-ordered (rosterOf c) kind sender payload);
-}
-
-writes-nothing : WritesNothing
-writes-nothing = record {
-  refused-record = λ R m sender r buf n e. record-unwritten m sender r buf e;
-  refused-obs = λ sender o entries buf n fifteen e. obs-unwritten sender o entries buf fifteen e;
-  refused-bytes = λ kind sender payload buf n e. framed-unfit kind sender payload buf e;
-  refused-listing = λ s buf n e. ap (λ (a : Answer ℕ). listedAs a s buf) e;
-  unfit-line = laid-unfit;
-}
-
-moves-no-state : MovesNoState
-moves-no-state = record {
-  refused-frame = λ c kind sender payload n e. refused-keeps c kind sender payload e;
-  refused-reader = λ r n e. ap {B = ObsReader} (λ (i : ℕ). record { payload = r .payload; place = i }) (stays (now (r .payload)) (r .place) e);
-  refused-roster = nobody-listed;
-  refused-capture = λ s roster refuses. collated-refused s roster refl refuses;
-}
-
-pub demand-1 : Demand1
-demand-1 = record { refused-by-number = refused-by-number; writes-nothing = writes-nothing; moves-no-state = moves-no-state }

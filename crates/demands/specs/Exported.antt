@@ -1,14 +1,12 @@
 -- The demands of the functions that C and Rust link, which live on lent bytes: a refusal writes nothing and moves no state, the frames are those
--- of the reading, an epoch is reported exactly where document 01 says, and senders don't mix. The statement first, then its proof, all of it
--- citations. Assumes nothing.
-use mathlib.Core.Path.{_≡_, sym, ap, _∙_, subst}
+-- of the reading, an epoch is reported exactly where document 01 says, and senders don't mix. Assumes nothing.
+use mathlib.Core.Path.{_≡_}
 use mathlib.Core.Bool.{Bool}
 use mathlib.Core.List.{List}
 use mathlib.Core.Logic.{_↔_}
 use Prim.Native.Nat.{ℕ, _^_, _≤_, _<_}
 use lib.ListN.{length, getD}
 use Rattle.wire.specs.Number.{Bytes, numberAt}
-use Rattle.wire.specs.Field.{Row}
 use Rattle.wire.specs.Refusals.{refused}
 use Rattle.frames.specs.Reading.{steps, framesOf}
 use Rattle.frames.specs.Cursors.{nextOf, Told}
@@ -17,17 +15,13 @@ use Rattle.epochs.specs.Collator.{made}
 use Rattle.epochs.specs.Epoch.{SameFrames, EndsEpoch}
 use Rattle.frames.specs.Frame.{Content}
 use Rattle.epochs.specs.declared.collating.Report.{Report}
-use Rattle.epochs.proofs.Rosters.{seat-listed, seat-named}
-use Rattle.epochs.proofs.Collations.{same-state}
 use Rattle.listing.specs.Listing.{listAnswer, listed}
 use Rattle.exports.specs.Found.{startAt, nextAnswer, nextStored}
 use Rattle.exports.specs.Totals.{totalsAnswer, totalsStored}
 use Rattle.exports.specs.Text.{sizeAfter}
 use Rattle.exports.specs.State.{stateIn}
-use Rattle.exports.specs.Feed.{reportFields, madeAnswer, madeStored, fedIn, afterIn}
-use Rattle.exports.proofs.Answered.{next-left}
-use Rattle.exports.proofs.Lives.{AllBytes, stands, one-epoch, epoch-row}
-use Rattle.exports.proofs.Refusals.{next-keeps, totals-keeps, list-keeps, collator-keeps, feed-keeps}
+use Rattle.exports.specs.Feed.{madeAnswer, madeStored, fedIn, afterIn}
+use Rattle.exports.proofs.Lives.{AllBytes}
 
 -- demand 1: "and a refusal writes nothing and moves no state"
 pub record Kept : Type 0 where
@@ -70,27 +64,3 @@ pub record Exported : Type 0 where
   -- demand 3: the same frames of every listed sender leave bytes that stand for the same state
   pub unmixed : (roster s t report other : List ℕ) (xs ys : List Content) → Filled roster s report xs → Filled roster t other ys → SameFrames roster xs ys
       → stateIn (afterIn (madeStored roster s) report xs) ≡ stateIn (afterIn (madeStored roster t) other ys)
-
--- ---- the proof
-
-pub exported : Exported
-exported = record {
-  kept = record { next = next-keeps; totals = totals-keeps; list = list-keeps; collator = collator-keeps; feed = feed-keeps };
-  frames-left = next-left;
-  epochs-told = λ roster s report xs f x byte lent enough. one-epoch roster (f .taken) (f .senders) s report (f .long) (f .room) xs (f .bytes) x byte lent enough;
-  epochs-stored = λ roster s report xs f x byte lent enough e w.
-      let seat = seat-listed roster (x .sender) 0 (w .listed) in
-      let small = subst (λ (n : ℕ). n < 65536) (seat-named roster (x .sender) (seat .1)) (f .senders (seat .0)) in
-      let row = epoch-row roster (f .taken) (f .senders) s report (f .long) (f .room) xs (f .bytes) x byte lent enough small w in
-      record {
-        sender = ap (λ (v : Row reportFields). v .0) row;
-        week = ap (λ (v : Row reportFields). v .1 .0) row;
-        time = ap (λ (v : Row reportFields). v .1 .1 .0) row;
-        packets = ap (λ (v : Row reportFields). v .1 .1 .1 .0) row;
-        observations = ap (λ (v : Row reportFields). v .1 .1 .1 .1 .0) row;
-      };
-  unmixed = λ roster s t report other xs ys f g same.
-      stands roster (f .taken) (f .senders) s report (f .long) (f .room) xs (f .bytes)
-      ∙ same-state roster (f .taken) xs ys same
-      ∙ sym (stands roster (g .taken) (g .senders) t other (g .long) (g .room) ys (g .bytes));
-}

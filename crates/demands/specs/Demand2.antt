@@ -1,9 +1,8 @@
 -- Demand 2: "Equal to the published protocol, reading and writing. The frames found are exactly those that specification 1.1 and our written
 -- resume rule give; every byte of a complete capture is in one frame or counted as passed over under one reason; a record written reads back
 -- bit for bit; an accepted payload written again gives the same bytes; an epoch is reported exactly when its packets stand as document 01 says,
--- once each." The statement first, sentence by sentence, and document 01's section on `sbplist`; then its proof, all of it citations.
--- Assumes nothing.
-use mathlib.Core.Path.{_≡_, sym, ap, _∙_, subst}
+-- once each." Sentence by sentence, and then document 01's section on `sbplist`. Assumes nothing.
+use mathlib.Core.Path.{_≡_}
 use mathlib.Core.Bool.{Bool, true}
 use mathlib.Core.List.{List, [], _++_, map, flatMap}
 use mathlib.Core.Logic.{_↔_, _⊎_}
@@ -24,11 +23,7 @@ use Rattle.frames.specs.Faithful.{Faithful}
 use Rattle.frames.specs.declared.step.Frame.{Frame}
 use Rattle.frames.specs.declared.step.Step.{Step}
 use Rattle.frames.specs.declared.step.Step.the-variants.{Found}
-use Rattle.frames.proofs.Steps.{Line, decides, line}
-use Rattle.frames.proofs.Frames.{found-bytes}
-use Rattle.frames.proofs.Tiling.{closed-tiled, only-closed, open-closed, each-once, adds-up}
-use Rattle.frames.proofs.WrittenRead.{reads-back-at}
-use Rattle.frames.proofs.WrittenStream.{closed-stream, stream-payloads}
+use Rattle.frames.proofs.Steps.{Line}
 use Rattle.navigation.specs.Dops.{dops}
 use Rattle.navigation.specs.Ecef.{baselineEcef, velEcef}
 use Rattle.navigation.specs.GpsTime.{gpsTime}
@@ -36,7 +31,6 @@ use Rattle.navigation.specs.Heading.{baselineHeading}
 use Rattle.navigation.specs.Ned.{baselineNed, velNed}
 use Rattle.navigation.specs.PosEcef.{posEcef}
 use Rattle.navigation.specs.PosLlh.{posLlh}
-use Rattle.navigation.proofs.Promises as navigation
 use Rattle.observation.specs.BasePosEcef.{basePosEcef}
 use Rattle.observation.specs.BasePosLlh.{basePosLlh}
 use Rattle.observation.specs.Layout.{first}
@@ -46,47 +40,29 @@ use Rattle.observation.specs.Phase.{phaseOf, partsOf}
 use Rattle.observation.specs.declared.entry.Observation.{Observation}
 use Rattle.observation.specs.declared.obs.Obs.{Obs}
 use Rattle.observation.specs.declared.phase.Phase.{Phase}
-use Rattle.observation.proofs.Promises as observations
-use Rattle.observation.proofs.ObsThrough.{obs-found, obs-back, entry-back}
-use Rattle.observation.proofs.Phases.{phase-parts, parts-phase}
 use Rattle.system.specs.Empty.{settingsSave, readByIndexDone}
 use Rattle.system.specs.Heartbeat.{heartbeat}
 use Rattle.system.specs.Log.{logKind, readLog, logPayload, textIn, logFrame}
 use Rattle.system.specs.ReadByIndexReq.{readByIndexReq}
 use Rattle.system.specs.Startup.{startup}
 use Rattle.system.specs.declared.log.Log.{Log}
-use Rattle.system.proofs.Promises as system
-use Rattle.system.proofs.Logs.{log-found, log-back, text-back}
 use Rattle.obs_reader.specs.Walk.{Walk, standing, askedTimes, observationsIn, pastThem}
 use Rattle.obs_reader.specs.declared.ObsReader.{ObsReader}
-use Rattle.obs_reader.proofs.Walks.{whole-walk}
-use Rattle.obs_reader.proofs.Readers.{asked-times}
 use Rattle.payloads.specs.declared.Message.{Message}
 use Rattle.payloads.specs.declared.Message.the-variants as M
 use Rattle.payloads.proofs.Lines.{Typed}
-use Rattle.payloads.proofs.Answers as answers
 use Rattle.epochs.specs.Collator.{names, made}
 use Rattle.epochs.specs.Epoch.{EpochEnds, InWords, fedFrame, after, reports, reportsOf, EndsEpoch, contentsOf}
 use Rattle.epochs.specs.Capture.{collated}
 use Rattle.epochs.specs.declared.judging.Packet.{Packet}
 use Rattle.epochs.specs.declared.collating.Report.{Report}
 use Rattle.epochs.specs.declared.collating.Happened.the-variants as H
-use Rattle.epochs.proofs.Runs as runs
-use Rattle.epochs.proofs.Collations.{epoch-told, epoch-small}
-use Rattle.epochs.proofs.Captures.{collated-counts}
 use Rattle.text.specs.Decimal.{decimal, valueFrom}
-use Rattle.text.proofs.Decimals.{decimal-value}
 use Rattle.listing.specs.Roster.{rosterIn}
 use Rattle.listing.specs.Listing.{frameLine, totalsLine, textOf, listAnswer, listed}
 use Rattle.listing.specs.Words.{obsSendersIn, different, Lines}
-use Rattle.listing.proofs.Accepted.{roster-first, roster-sent, roster-all, roster-accepted}
-use Rattle.listing.proofs.EpochLines.{text-lines, text-alone}
 use Rattle.demands.specs.Handed.{Handed}
 use Rattle.demands.specs.Reported.{Epochs}
-use Rattle.demands.proofs.Again as again
-use Rattle.demands.proofs.Handed as handed
-use Rattle.demands.proofs.Reported.{reported, only-reported, one-epoch}
-use Rattle.demands.proofs.Room.{room-enough}
 
 -- a message keeps its promise, and under the number by which it is written its own reader reads it
 abbrev pub Promised : {R : Type 0} → wire.Description R → (R → Message) → Type 0
@@ -208,80 +184,3 @@ pub record Demand2 : Type 0 where
   pub read-and-written : ReadAndWritten
   pub epochs-reported : EpochsReported
   pub listing : Listed
-
--- ---- the proof
-
-frames-found : FramesFound
-frames-found = record {
-  five-lines = λ s p x. (λ e. subst (Line s p) e (line s p), λ l. sym (decides s p l));
-  closed-reading = λ s xs. (only-closed s, λ e. subst (Tiled s 0 (length s)) (sym e) (closed-tiled s));
-  open-reading = open-closed;
-  handed-out = handed.handed-out;
-  found-formed = λ s p f bytes e. found-bytes s p e bytes;
-  formed-found = λ m before rest h. reads-back-at (m .kind) (m .sender) (m .payload) rest (h .0) (h .1) (h .2) before;
-  written-found = λ ms h. (closed-stream ms h, stream-payloads ms h);
-}
-
-every-byte-counted : EveryByteCounted
-every-byte-counted = record { every-byte-once = each-once; counts-add-up = adds-up }
-
-read-and-written : ReadAndWritten
-read-and-written = record {
-  messages = (
-    (navigation.gps-time, answers.gps-time),
-    (navigation.dilutions, answers.dilutions),
-    (navigation.pos-ecef, answers.pos-ecef),
-    (navigation.pos-llh, answers.pos-llh),
-    (navigation.baseline-ecef, answers.baseline-ecef),
-    (navigation.vel-ecef, answers.vel-ecef),
-    (navigation.baseline-ned, answers.baseline-ned),
-    (navigation.vel-ned, answers.vel-ned),
-    (navigation.baseline-heading, answers.baseline-heading),
-    (observations.base-pos-llh, answers.base-pos-llh),
-    (observations.base-pos-ecef, answers.base-pos-ecef),
-    (system.settings-save, answers.settings-save),
-    (system.read-by-index-done, answers.read-by-index-done),
-    (system.read-by-index-req, answers.read-by-index-req),
-    (system.start-up, answers.start-up),
-    (system.heart-beat, answers.heart-beat),
-  );
-  obs-read = answers.obs;
-  obs-reads-back = λ sender o entries buf n s enough held g. (
-    obs-found sender o entries buf enough g s,
-    obs-back sender o entries buf enough g s held,
-    entry-back sender o entries buf enough g s,
-  );
-  obs-again = again.obs-again;
-  obs-asked = asked-times;
-  obs-walk = whole-walk;
-  log-read = answers.log;
-  log-reads-back = λ sender level text buf n s g. (log-found sender level text buf s g, log-back sender level text buf s g, text-back sender level text buf s g);
-  log-again = again.log-again;
-  phase = (phase-parts, parts-phase);
-}
-
-epochs-reported : EpochsReported
-unfolding after
-epochs-reported = record {
-  reported-exactly = epoch-told;
-  in-words = runs.in-words;
-  one-at-most = λ roster ok xs x d e v w. one-epoch roster ok v w;
-  at-most-225 = epoch-small;
-  capture-reported = λ roster ok s es. (λ w. only-reported roster ok w, λ e. subst (Epochs roster [] (contentsOf s)) (sym e) (reported roster ok [] (contentsOf s)));
-  capture-counted = λ roster ok s es small w i below.
-      collated-counts s roster ok small i below ∙ ap (λ (rs : List Report). length (reportsOf (getD roster i 0) rs)) (sym (only-reported roster ok w));
-}
-
-listing : Listed
-listing = record {
-  roster = roster-first;
-  roster-names = λ s sender. (roster-sent s sender, roster-all s sender);
-  roster-taken = roster-accepted;
-  lines = text-lines;
-  lines-alone = text-alone;
-  decimals = decimal-value;
-  room = room-enough;
-}
-
-pub demand-2 : Demand2
-demand-2 = record { frames-found = frames-found; every-byte-counted = every-byte-counted; read-and-written = read-and-written; epochs-reported = epochs-reported; listing = listing }

@@ -1,0 +1,34 @@
+-- The demands hold of the functions that C and Rust link, all of it by citations. Assumes nothing.
+use mathlib.Core.Path.{sym, ap, _∙_, subst}
+use Prim.Native.Nat.{ℕ, _<_}
+use Rattle.wire.specs.Field.{Row}
+use Rattle.epochs.proofs.Rosters.{seat-listed, seat-named}
+use Rattle.epochs.proofs.Collations.{same-state}
+use Rattle.listing.specs.Listing.{listed}
+use Rattle.exports.specs.Feed.{reportFields}
+use Rattle.exports.proofs.Answered.{next-left}
+use Rattle.exports.proofs.Lives.{stands, one-epoch, epoch-row}
+use Rattle.exports.proofs.Refusals.{next-keeps, totals-keeps, list-keeps, collator-keeps, feed-keeps}
+use Rattle.demands.specs.Exported.{Exported}
+
+pub exported : Exported
+exported = record {
+  kept = record { next = next-keeps; totals = totals-keeps; list = list-keeps; collator = collator-keeps; feed = feed-keeps };
+  frames-left = next-left;
+  epochs-told = λ roster s report xs f x byte lent enough. one-epoch roster (f .taken) (f .senders) s report (f .long) (f .room) xs (f .bytes) x byte lent enough;
+  epochs-stored = λ roster s report xs f x byte lent enough e w.
+      let seat = seat-listed roster (x .sender) 0 (w .listed) in
+      let small = subst (λ (n : ℕ). n < 65536) (seat-named roster (x .sender) (seat .1)) (f .senders (seat .0)) in
+      let row = epoch-row roster (f .taken) (f .senders) s report (f .long) (f .room) xs (f .bytes) x byte lent enough small w in
+      record {
+        sender = ap (λ (v : Row reportFields). v .0) row;
+        week = ap (λ (v : Row reportFields). v .1 .0) row;
+        time = ap (λ (v : Row reportFields). v .1 .1 .0) row;
+        packets = ap (λ (v : Row reportFields). v .1 .1 .1 .0) row;
+        observations = ap (λ (v : Row reportFields). v .1 .1 .1 .1 .0) row;
+      };
+  unmixed = λ roster s t report other xs ys f g same.
+      stands roster (f .taken) (f .senders) s report (f .long) (f .room) xs (f .bytes)
+      ∙ same-state roster (f .taken) xs ys same
+      ∙ sym (stands roster (g .taken) (g .senders) t other (g .long) (g .room) ys (g .bytes));
+}
