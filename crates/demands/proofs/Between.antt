@@ -8,7 +8,7 @@ use lib.ListN.{length, drop, length-append}
 use borrow.Author.Tests.{ne-eqb}
 use Rattle.frames.specs.Frame.{frameOf, Content}
 use Rattle.frames.specs.Step.{stepOf, passed}
-use Rattle.frames.specs.Reading.{Placed, stops, readFrom, framesOf}
+use Rattle.frames.specs.Reading.{Positioned, stops, readFrom, framesOf}
 use Rattle.frames.specs.declared.step.Step.{Step}
 use Rattle.frames.specs.declared.step.Step.the-variants.{Junk}
 use Rattle.frames.proofs.Readings.{go-at}
@@ -43,13 +43,13 @@ unfolding captureOf sentIn readFrom framesOf
 sent-from before [] fit = refl
 sent-from before (noise b ∷ xs) fit =
     let t = captureOf xs in
-    ap (λ (ys : List Placed). map (contentIn (before ++ (b ∷ t))) (framesOf ys)) (past-noise (length before) b t (fit .0))
+    ap (λ (ys : List Positioned). map (contentIn (before ++ (b ∷ t))) (framesOf ys)) (past-noise (length before) b t (fit .0))
     ∙ on before (b ∷ []) t (sym (length-append before (b ∷ [])))
     ∙ sent-from (before ++ b ∷ []) xs (fit .1)
 sent-from before (frame m ∷ xs) fit =
     let t = captureOf xs in
     let ends : length before + (length (m .payload) + 8) ≡ length (before ++ frameOf m) = omega (arith, length-append before (frameOf m), length-frame (m .kind) (m .sender) (m .payload)) in
-    ap (λ (ys : List Placed). map (contentIn (before ++ (frameOf m ++ t))) (framesOf ys)) (past-written (length before) m t (fit .0))
+    ap (λ (ys : List Positioned). map (contentIn (before ++ (frameOf m ++ t))) (framesOf ys)) (past-written (length before) m t (fit .0))
     ∙ ap₂ (λ (payload : List ℕ) (ys : List Content). record { kind = m .kind; sender = m .sender; payload = payload } ∷ ys)
     (payload-back-at (m .kind) (m .sender) (m .payload) t before)
     (on before (frameOf m) t ends ∙ sent-from (before ++ frameOf m) xs (fit .1))

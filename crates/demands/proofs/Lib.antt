@@ -6,7 +6,7 @@ pub mod AllHold
 pub mod ShutOut
 pub mod Order
 pub mod Refused
-pub mod HandedOut
+pub mod AllHanded
 pub mod Again
 pub mod EpochsReported
 pub mod Room

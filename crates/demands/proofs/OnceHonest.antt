@@ -7,7 +7,7 @@ use Prim.Native.Nat.{ℕ, suc, _+_, _-_}
 use native.Mathlib.Omega.{arith}
 use lib.ListN.{length, drop, length-drop}
 use Rattle.frames.specs.Step.{stepAt, ends}
-use Rattle.frames.specs.Reading.{Placed, placed, Tiled, done, then, counted, countsOf, sumOf}
+use Rattle.frames.specs.Reading.{Positioned, positioned, Tiled, done, then, counted, countsOf, sumOf}
 use Rattle.frames.proofs.Tiling.{counted-sum, added-sum, closed-tiled}
 use Rattle.demands.specs.Idle.{junkFrom, upToFrame, isFrame, onceHonest}
 
@@ -16,15 +16,15 @@ unfolding junkFrom countsOf
 junk-sum p [] = refl
 junk-sum p (b ∷ t) = omega (arith, junk-sum (suc p) t)
 
-sum-from : (s : List ℕ) {p e : ℕ} {xs : List Placed} → Tiled s p e xs → e ≡ length s → sumOf (countsOf (upToFrame s xs)) + p ≡ length s
+sum-from : (s : List ℕ) {p e : ℕ} {xs : List Positioned} → Tiled s p e xs → e ≡ length s → sumOf (countsOf (upToFrame s xs)) + p ≡ length s
 unfolding upToFrame countsOf
 sum-from s done q = omega arith
 sum-from s (then {p = p} {xs = xs} l t) q = by (isFrame (stepAt s p)) (sum-from s t q)
   where
-    junk : List Placed
+    junk : List Positioned
     junk = junkFrom (ends s p) (drop (ends s p) s)
 
-    by : (f : Bool) → sumOf (countsOf (upToFrame s xs)) + ends s p ≡ length s → sumOf (countsOf (placed s p ∷ cond f junk (upToFrame s xs))) + p ≡ length s
+    by : (f : Bool) → sumOf (countsOf (upToFrame s xs)) + ends s p ≡ length s → sumOf (countsOf (positioned s p ∷ cond f junk (upToFrame s xs))) + p ≡ length s
     by true rest =
         let left : sumOf (countsOf junk) ≡ length s - ends s p = junk-sum (ends s p) (drop (ends s p) s) ∙ length-drop (ends s p) s in
         omega (arith, added-sum (counted (stepAt s p)) (countsOf junk), counted-sum (stepAt s p))

@@ -3,7 +3,8 @@ use mathlib.Core.Path.{sym, ap, _∙_, subst}
 use mathlib.Core.List.{List, []}
 use lib.ListN.{length, getD}
 use Rattle.frames.specs.Reading.{Tiled}
-use Rattle.frames.proofs.Steps.{Line, decides, line}
+use Rattle.frames.specs.Decides.{Decides}
+use Rattle.frames.proofs.Steps.{only, decided}
 use Rattle.frames.proofs.Frames.{found-bytes}
 use Rattle.frames.proofs.Tiling.{closed-tiled, only-closed, open-closed, each-once, adds-up}
 use Rattle.frames.proofs.WrittenRead.{reads-back-at}
@@ -27,14 +28,14 @@ use Rattle.listing.proofs.Accepted.{roster-first, roster-sent, roster-all, rost
 use Rattle.listing.proofs.EpochLines.{text-lines, text-alone}
 use Rattle.demands.specs.Reported.{Epochs}
 use Rattle.demands.proofs.Again as again
-use Rattle.demands.proofs.HandedOut as handed
+use Rattle.demands.proofs.AllHanded as handed
 use Rattle.demands.proofs.EpochsReported.{reported, only-reported, one-epoch}
 use Rattle.demands.proofs.Room.{room-enough}
 use Rattle.demands.specs.Demand2.{FramesFound, EveryByteCounted, ReadAndWritten, EpochsReported, Listed, Demand2}
 
 frames-found : FramesFound
 frames-found = record {
-  five-lines = λ s p x. (λ e. subst (Line s p) e (line s p), λ l. sym (decides s p l));
+  five-lines = λ s p x. (λ e. subst (Decides s p) e (decided s p), λ l. sym (only s p l));
   closed-reading = λ s xs. (only-closed s, λ e. subst (Tiled s 0 (length s)) (sym e) (closed-tiled s));
   open-reading = open-closed;
   handed-out = handed.handed-out;

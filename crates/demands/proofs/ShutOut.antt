@@ -8,7 +8,7 @@ use native.Mathlib.Omega.{arith}
 use lib.ListN.{getD}
 use Rattle.wire.specs.Number.{numberAt}
 use Rattle.crc.specs.Crc.{bitStep, bitSteps, byteStep, crcFrom}
-use Rattle.frames.specs.Reading.{Placed, readFrom, holding, countsOf}
+use Rattle.frames.specs.Reading.{Positioned, readFrom, holding, countsOf}
 use Rattle.frames.specs.Cursors.{begun, nextOf}
 use Rattle.frames.specs.declared.cursor.Counts.{Counts}
 use Rattle.frames.specs.declared.cursor.Cursor.{Cursor}
@@ -87,7 +87,7 @@ shut-out = record {
   honest-first = refl;
   once-honest-sum = adds-up;
   once-honest-covers = refl;
-  once-honest = λ tiles. let framed : _≡_ {A = ℕ} 8 16 = ap (λ (xs : List Placed). countsOf xs .framed) (only-closed (blank ++ blank) tiles) in omega arith;
+  once-honest = λ tiles. let framed : _≡_ {A = ℕ} 8 16 = ap (λ (xs : List Positioned). countsOf xs .framed) (only-closed (blank ++ blank) tiles) in omega arith;
   invented-sum = λ s. omega arith;
   inventing = λ tied. let framed : _≡_ {A = ℕ} 1 0 = ap (λ (c : Counts). c .framed) (tied (0 ∷ [])) in omega arith;
 }

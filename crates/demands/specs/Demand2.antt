@@ -17,13 +17,13 @@ use Rattle.wire.specs.Refusals.{given}
 use Rattle.wire.specs.Description as wire
 use Rattle.frames.specs.Frame.{frameBytes, Content, Sendable, AllSendable, frameOf, stream}
 use Rattle.frames.specs.Step.{stepAt, payloadIn}
-use Rattle.frames.specs.Reading.{Placed, closedSteps, openSteps, Tiled, holding, beforeShort, framesOf, countsOf, sumOf}
+use Rattle.frames.specs.Reading.{Positioned, closedSteps, openSteps, Tiled, holding, beforeShort, framesOf, countsOf, sumOf}
 use Rattle.frames.specs.Writer.{planned, withFrame, asRead, foundFrom}
 use Rattle.frames.specs.Faithful.{Faithful}
 use Rattle.frames.specs.declared.step.Frame.{Frame}
 use Rattle.frames.specs.declared.step.Step.{Step}
 use Rattle.frames.specs.declared.step.Step.the-variants.{Found}
-use Rattle.frames.proofs.Steps.{Line}
+use Rattle.frames.specs.Decides.{Decides}
 use Rattle.navigation.specs.Dops.{dops}
 use Rattle.navigation.specs.Ecef.{baselineEcef, velEcef}
 use Rattle.navigation.specs.GpsTime.{gpsTime}
@@ -71,9 +71,9 @@ Promised m name = Faithful m × Typed (m .kind) name (readAs m)
 -- "The frames found are exactly those that specification 1.1 and our written resume rule give"
 pub record FramesFound : Type 0 where
   -- at every position the first of the five lines that holds decides
-  pub five-lines : (s : List ℕ) (p : ℕ) (x : Step) → (stepAt s p ≡ x) ↔ Line s p x
+  pub five-lines : (s : List ℕ) (p : ℕ) (x : Step) → (stepAt s p ≡ x) ↔ Decides s p x
   -- closed reading goes from 0 to the end by the capture's own steps, each from where the one before ended, and no other steps do
-  pub closed-reading : (s : List ℕ) (xs : List Placed) → Tiled s 0 (length s) xs ↔ (xs ≡ closedSteps s)
+  pub closed-reading : (s : List ℕ) (xs : List Positioned) → Tiled s 0 (length s) xs ↔ (xs ≡ closedSteps s)
   -- open reading is the same up to the first short
   pub open-reading : (s : List ℕ) → openSteps s ≡ beforeShort (closedSteps s)
   -- calls of `next` hand out the frames of those steps in order, and stop with the counts of these steps

@@ -9,7 +9,7 @@ use lib.ListN.{length, getD}
 use Rattle.wire.specs.Number.{Bytes, numberAt}
 use Rattle.wire.specs.Refusals.{refused}
 use Rattle.frames.specs.Reading.{steps, framesOf}
-use Rattle.frames.specs.Cursors.{nextOf, Told}
+use Rattle.frames.specs.Cursors.{nextOf, Says}
 use Rattle.payloads.specs.Table.{numberOf}
 use Rattle.epochs.specs.Collator.{made}
 use Rattle.epochs.specs.Epoch.{SameFrames, EndsEpoch}
@@ -54,7 +54,7 @@ pub record Exported : Type 0 where
   pub kept : Kept
   -- demand 2: from a position on `sbp_next` tells the first frame left of the reading there, and where the others are left, or that there is none
   pub frames-left : (s : List ℕ) → length s < 2 ^ 64 → (at : ℕ) (opened : Bool) → at ≤ length s
-      → Told opened s (framesOf (steps opened s at)) (nextOf s (startAt at opened))
+      → Says opened s (framesOf (steps opened s at)) (nextOf s (startAt at opened))
   -- `sbp_feed` answers 1 exactly where the frame ends an epoch
   pub epochs-told : (roster s report : List ℕ) (xs : List Content) → Filled roster s report xs → (x : Content) → Bytes (x .payload) → (lent : List ℕ) → 11 ≤ length lent
       → (fedIn (afterIn (madeStored roster s) report xs) (x .kind) (x .sender) (x .payload) lent .answer ≡ 1) ↔ ((e : Report) × EndsEpoch roster xs x e)

@@ -7,7 +7,7 @@ use mathlib.Core.List.{List, [], _∷_, _++_, map}
 use mathlib.Core.Logic.{_↔_}
 use lib.ListN.{length, drop, replicate}
 use Rattle.frames.specs.Step.{passed}
-use Rattle.frames.specs.Reading.{Placed, closedSteps, Tiled, holding, countsOf, sumOf}
+use Rattle.frames.specs.Reading.{Positioned, closedSteps, Tiled, holding, countsOf, sumOf}
 use Rattle.frames.specs.Cursors.{nextOf}
 use Rattle.frames.specs.declared.step.Frame.{Frame}
 use Rattle.frames.specs.declared.step.Step.{Step}
@@ -71,7 +71,7 @@ collator roster = record { start = made roster .collator; feed = λ c x. (fedFra
 
 -- ---- honest for its first frame, calling the rest junk
 
-unfoldable pub junkFrom : ℕ → List ℕ → List Placed
+unfoldable pub junkFrom : ℕ → List ℕ → List Positioned
 junkFrom p [] = []
 junkFrom p (b ∷ t) = record { at = p; step = Junk } ∷ junkFrom (suc p) t
 
@@ -83,16 +83,16 @@ isFrame Bad = false
 isFrame (Found f) = true
 
 -- where a step ends
-abbrev pub endOf : Placed → ℕ
+abbrev pub endOf : Positioned → ℕ
 endOf x = x .at + passed (x .step)
 
 -- steps up to the first frame, and junk from its end on
-unfoldable pub upToFrame : List ℕ → List Placed → List Placed
+unfoldable pub upToFrame : List ℕ → List Positioned → List Positioned
 unfolding junkFrom
 upToFrame s [] = []
 upToFrame s (x ∷ xs) = x ∷ cond (isFrame (x .step)) (junkFrom (endOf x) (drop (endOf x) s)) (upToFrame s xs)
 
-abbrev pub onceHonest : List ℕ → List Placed
+abbrev pub onceHonest : List ℕ → List Positioned
 onceHonest s = upToFrame s (closedSteps s)
 
 -- ---- invented totals

@@ -10,7 +10,7 @@ use lib.ListN.{length, getD, replicate, length-set, length-map, getD-replicate}
 use lib.Seq.{getD-set-same, getD-set-other}
 use borrow.Author.Tests.{eqb-true, eqb-false, eq-eqb, ne-eqb}
 use Rattle.frames.specs.Step.{stepOf, passed, payloadIn}
-use Rattle.frames.specs.Reading.{Placed, stops, readFrom, framesIn, framesOf}
+use Rattle.frames.specs.Reading.{Positioned, stops, readFrom, framesIn, framesOf}
 use Rattle.frames.specs.Cursors.{nextOf}
 use Rattle.frames.specs.Cursors as cursors
 use Rattle.frames.specs.declared.step.Frame.{Frame}
@@ -18,7 +18,7 @@ use Rattle.frames.specs.declared.step.Step.{Step}
 use Rattle.frames.specs.declared.step.Step.the-variants.{Finished, Junk, Short, Bad, Found}
 use Rattle.frames.specs.declared.cursor.Cursor.{Cursor}
 use Rattle.frames.specs.declared.cursor.Next as Next
-use Rattle.frames.proofs.Walks.{Walking, left, walking-begun, walking-on, walking-end}
+use Rattle.frames.proofs.CursorLoops.{Walking, left, walking-begun, walking-on, walking-end}
 use Rattle.epochs.specs.Packet.{seatOf}
 use Rattle.epochs.specs.Collator.{rosterOf, made, repeats}
 use Rattle.epochs.specs.Epoch.{fedFrame, after, reportIn, reports, reportsOf, contentIn, contentsOf}
@@ -166,7 +166,7 @@ frames-few opened zero p (b ∷ t) = by (stops opened (stepOf p (b ∷ t))) (ste
     one Bad fs = omega arith
     one (Found f) fs = omega arith
 
-    by : (stop : Bool) (x : Step) (rest : List Placed) → length (framesOf rest) ≤ length t → length (framesOf (cond stop [] (record { at = p; step = x } ∷ rest))) ≤ suc (length t)
+    by : (stop : Bool) (x : Step) (rest : List Positioned) → length (framesOf rest) ≤ length t → length (framesOf (cond stop [] (record { at = p; step = x } ∷ rest))) ≤ suc (length t)
     by true x rest h = omega arith
     by false x rest h = omega (arith, one x (framesOf rest))
 frames-few opened (suc k) p (b ∷ t) = omega (arith, frames-few opened k (suc p) t)

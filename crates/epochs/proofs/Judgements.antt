@@ -14,7 +14,7 @@ use Rattle.wire.proofs.Numbers.{number-lt}
 use Rattle.observation.specs.Layout.{first, fitting}
 use Rattle.observation.specs.Obs.{obsIn, readObs}
 use Rattle.observation.specs.declared.obs.Obs.{Obs}
-use Rattle.wire.proofs.Answers.{same-given, never-both}
+use Rattle.wire.proofs.Distinct.{same-given, never-both}
 use Rattle.observation.proofs.Layouts.{whole}
 use Rattle.observation.proofs.Payloads.{obs-22, obs-given}
 use Rattle.epochs.specs.Packet.{obsKind, packetOf, seatOf, seated, listed, judged, Found, Verdict, otherKind, wrongLength, unlisted, noPackets, pastTheLast, wellFormed}

@@ -8,8 +8,8 @@ use lib.ListN.{length}
 use borrow.Author.Tests.{le-leb, lt-leb}
 use Rattle.wire.specs.Field.{Field, Row, size, rowStored}
 use Rattle.frames.specs.Reading.{steps, framesOf}
-use Rattle.frames.specs.Cursors.{nextOf, Told}
-use Rattle.frames.proofs.Answers.{told}
+use Rattle.frames.specs.Cursors.{nextOf, Says}
+use Rattle.frames.proofs.NextAnswers.{says}
 use Rattle.exports.specs.Rows.{atFront, rowAnswer, rowLaid}
 use Rattle.exports.specs.Found.{startAt}
 use Rattle.exports.proofs.Parts.{stored-front}
@@ -37,5 +37,5 @@ module _ (fs : List Field) (n : ℕ) (v : Row fs) (buf : List ℕ) where
       by false e = refl
 
 -- from a position on it tells the first frame that is left of the reading there, and where the others are left; or that there is none
-pub next-left : (s : List ℕ) → length s < 2 ^ 64 → (at : ℕ) (opened : Bool) → at ≤ length s → Told opened s (framesOf (steps opened s at)) (nextOf s (startAt at opened))
-next-left s small at opened h = told s small opened (startAt at opened) refl h
+pub next-left : (s : List ℕ) → length s < 2 ^ 64 → (at : ℕ) (opened : Bool) → at ≤ length s → Says opened s (framesOf (steps opened s at)) (nextOf s (startAt at opened))
+next-left s small at opened h = says s small opened (startAt at opened) refl h

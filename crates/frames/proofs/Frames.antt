@@ -17,7 +17,8 @@ use Rattle.frames.specs.Frame.{covered, frameBytes}
 use Rattle.frames.specs.Step.{stepAt, payloadIn}
 use Rattle.frames.specs.declared.step.Frame.{Frame}
 use Rattle.frames.specs.declared.step.Step.the-variants.{Found}
-use Rattle.frames.proofs.Steps.{left, size, sum, sent, frame, Line, found, line}
+use Rattle.frames.proofs.Steps.{decided}
+use Rattle.frames.specs.Decides.{found, frame, sent, sum, size, left, Decides}
 
 take-cut : (n : ℕ) (t : List ℕ) → take (min n (length t)) t ≡ take n t
 take-cut zero t = rw zero-min
@@ -87,9 +88,9 @@ module _ (s : List ℕ) (p : ℕ) (h : Bytes s) (l : size s p + 8 ≤ left s p) 
 
 module _ (s : List ℕ) (p : ℕ) {f : Frame} (e : stepAt s p ≡ Found f) where
   as-found : (f ≡ frame s p) × (getD s p 0 ≡ 0x55) × (size s p + 8 ≤ left s p) × (sum s p ≡ sent s p)
-  as-found = by (subst (Line s p) e (line s p))
+  as-found = by (subst (Decides s p) e (decided s p))
     where
-      by : {g : Frame} → Line s p (Found g) → (g ≡ frame s p) × (getD s p 0 ≡ 0x55) × (size s p + 8 ≤ left s p) × (sum s p ≡ sent s p)
+      by : {g : Frame} → Decides s p (Found g) → (g ≡ frame s p) × (getD s p 0 ≡ 0x55) × (size s p + 8 ≤ left s p) × (sum s p ≡ sent s p)
       by (found b l q) = (refl, b, l, q)
 
   pub found-at : f .at ≡ p

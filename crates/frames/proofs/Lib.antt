@@ -2,10 +2,10 @@ pub mod Steps
 pub mod Frames
 pub mod Readings
 pub mod Tiling
-pub mod Cursors
-pub mod Runs
-pub mod Answers
-pub mod Walks
+pub mod GoingOn
+pub mod JunkRuns
+pub mod NextAnswers
+pub mod CursorLoops
 pub mod WrittenPlan
 pub mod Written
 pub mod WrittenRead

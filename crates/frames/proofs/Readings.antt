@@ -9,7 +9,7 @@ use native.Mathlib.Omega.{arith}
 use lib.ListN.{length, drop}
 use lib.Seq.{drop-drop}
 use Rattle.frames.specs.Step.{stepOf, stepAt, passed, ends}
-use Rattle.frames.specs.Reading.{Placed, stops, readFrom, steps, placed}
+use Rattle.frames.specs.Reading.{Positioned, stops, readFrom, steps, positioned}
 use Rattle.frames.specs.declared.step.Step.{Step}
 use Rattle.frames.specs.declared.step.Step.the-variants.{Finished, Junk, Short, Bad, Found}
 use Rattle.frames.proofs.Steps.{within}
@@ -50,13 +50,13 @@ module _ (opened : Bool) where
   unfolding stepOf
   go-at p [] e = absurd (true≢false e)
   go-at p (b ∷ t) e =
-      first p b t ∙ rw e (ap (λ (xs : List Placed). record { at = p; step = stepOf p (b ∷ t) } ∷ xs) (past-first (passed (stepOf p (b ∷ t))) p b t (passes-some (stepOf p (b ∷ t)) e)))
+      first p b t ∙ rw e (ap (λ (xs : List Positioned). record { at = p; step = stepOf p (b ∷ t) } ∷ xs) (past-first (passed (stepOf p (b ∷ t))) p b t (passes-some (stepOf p (b ∷ t)) e)))
 
 module _ (opened : Bool) (s : List ℕ) where
   pub steps-stop : (p : ℕ) → stops opened (stepAt s p) ≡ true → steps opened s p ≡ []
   steps-stop p e = stop-at opened p (drop p s) e
 
-  pub steps-go : (p : ℕ) → stops opened (stepAt s p) ≡ false → steps opened s p ≡ placed s p ∷ steps opened s (ends s p)
+  pub steps-go : (p : ℕ) → stops opened (stepAt s p) ≡ false → steps opened s p ≡ positioned s p ∷ steps opened s (ends s p)
   steps-go p e = go-at opened p (drop p s) e ∙ rw drop-drop
 
   -- a step that a reading goes on by ends further on, and within the capture

@@ -1,5 +1,4 @@
--- The step at a position, by document 01's five lines in the capture's own positions: one line holds, and it decides. What a step says of
--- the bytes that it passes. Assumes nothing.
+-- The step at a position is the one that document 01's five lines decide. What a step says of the bytes that it passes. Assumes nothing.
 use mathlib.Core.Path.{_≡_, refl, sym, ap, _∙_, subst}
 use mathlib.Core.Bool.{Bool, true, false, true≢false, false≢true, cond, not}
 use mathlib.Core.List.{List}
@@ -16,8 +15,8 @@ use Rattle.crc.specs.Crc.{crcFrom}
 use Rattle.crc.specs.Table.{Rule, crcBy}
 use Rattle.crc.proofs.Table.{crc-by-table}
 use Rattle.frames.specs.Step.{stepOf, stepAt, passed}
+use Rattle.frames.specs.Decides.{left, size, sum, sent, frame, Decides, finished, junk, headless, cut, bad, found}
 use Rattle.frames.specs.Reading.{stops}
-use Rattle.frames.specs.declared.step.Frame.{Frame}
 use Rattle.frames.specs.declared.step.Step.{Step}
 use Rattle.frames.specs.declared.step.Step.the-variants.{Finished, Junk, Short, Bad, Found}
 
@@ -35,107 +34,81 @@ number-one s at = go (leb (length s) at) refl
     go false e = sym (number-byte s at (leb-false (length s) at e))
 
 module _ (s : List ℕ) (p : ℕ) where
-  -- at p: the bytes that are left, the payload length that is stated, the CRC over type through payload, the CRC that was sent, the frame
-  abbrev pub left : ℕ
-  left = length s - p
-
-  abbrev pub size : ℕ
-  size = getD s (p + 5) 0
-
-  abbrev pub sum : ℕ
-  sum = crcFrom 0 (take (size + 5) (drop (p + 1) s))
-
-  abbrev pub sent : ℕ
-  sent = numberAt 2 s (p + size + 6)
-
-  abbrev pub frame : Frame
-  frame = record { at = p; kind = numberAt 2 s (p + 1); sender = numberAt 2 s (p + 3); length = size }
-
-  -- ---- the five lines, each with what the lines before it left
-
-  pub data Line : Step → Type 0 where
-    finished : length s ≤ p → Line Finished
-    junk : p < length s → (getD s p 0 ≡ 0x55 → ⊥) → Line Junk
-    headless : p < length s → getD s p 0 ≡ 0x55 → left < 6 → Line (Short 6)
-    cut : getD s p 0 ≡ 0x55 → 6 ≤ left → left < size + 8 → Line (Short (size + 8))
-    bad : getD s p 0 ≡ 0x55 → size + 8 ≤ left → (sum ≡ sent → ⊥) → Line Bad
-    found : getD s p 0 ≡ 0x55 → size + 8 ≤ left → sum ≡ sent → Line (Found frame)
-
   -- the step where the first lines do not hold
   abbrev tested : Step
-  tested = cond (not (eqb sum sent)) Bad (Found frame)
+  tested = cond (not (eqb (sum s p) (sent s p))) Bad (Found (frame s p))
 
   abbrev sized : Step
-  sized = cond (ltb left (size + 8)) (Short (size + 8)) tested
+  sized = cond (ltb (left s p) (size s p + 8)) (Short (size s p + 8)) tested
 
   abbrev marked : Step
-  marked = cond (not (eqb (getD s p 0) 0x55)) Junk (cond (ltb left 6) (Short 6) sized)
+  marked = cond (not (eqb (getD s p 0) 0x55)) Junk (cond (ltb (left s p) 6) (Short 6) sized)
 
-  in-place : stepAt s p ≡ cond (eqb left 0) Finished marked
+  in-place : stepAt s p ≡ cond (eqb (left s p) 0) Finished marked
   unfolding stepOf
   in-place = simp (length-drop, number-from, number-one, getD-drop, drop-drop, add-zero, ← add-assoc)
 
   -- the bytes that the CRC covers, as `step_by` lends them: from first to end
   abbrev part : List ℕ
-  part = take (p + size + 6 - (p + 1)) (drop (p + 1) s)
+  part = take (p + size s p + 6 - (p + 1)) (drop (p + 1) s)
 
-  pub summed : {a : ℕ} (t : List ℕ) → Rule t → Bytes s → a ≡ crcBy t 0 part → a ≡ sum
+  pub summed : {a : ℕ} (t : List ℕ) → Rule t → Bytes s → a ≡ crcBy t 0 part → a ≡ sum s p
   summed t rule bytes e =
-      let n : p + size + 6 - (p + 1) ≡ size + 5 = omega arith in
+      let n : p + size s p + 6 - (p + 1) ≡ size s p + 5 = omega arith in
       e
-      ∙ crc-by-table t rule 0 part (lit< tt) (bytes-take (p + size + 6 - (p + 1)) (drop (p + 1) s) (bytes-drop (p + 1) s bytes))
+      ∙ crc-by-table t rule 0 part (lit< tt) (bytes-take (p + size s p + 6 - (p + 1)) (drop (p + 1) s) (bytes-drop (p + 1) s bytes))
       ∙ ap (λ (n : ℕ). crcFrom 0 (take n (drop (p + 1) s))) n
 
   left-over : p < length s → stepAt s p ≡ marked
-  left-over h = in-place ∙ rw (ne-eqb left 0 (omega arith))
+  left-over h = in-place ∙ rw (ne-eqb (left s p) 0 (omega arith))
 
-  headed : getD s p 0 ≡ 0x55 → 6 ≤ left → stepAt s p ≡ sized
-  headed b h = left-over (omega arith) ∙ rw (eq-eqb (getD s p 0) 0x55 b, le-ltb left 6 h)
+  headed : getD s p 0 ≡ 0x55 → 6 ≤ left s p → stepAt s p ≡ sized
+  headed b h = left-over (omega arith) ∙ rw (eq-eqb (getD s p 0) 0x55 b, le-ltb (left s p) 6 h)
 
-  whole : getD s p 0 ≡ 0x55 → size + 8 ≤ left → stepAt s p ≡ tested
-  whole b l = headed b (omega arith) ∙ rw (le-ltb left (size + 8) l)
+  whole : getD s p 0 ≡ 0x55 → size s p + 8 ≤ left s p → stepAt s p ≡ tested
+  whole b l = headed b (omega arith) ∙ rw (le-ltb (left s p) (size s p + 8) l)
 
-  -- a line that holds decides
-  pub decides : {x : Step} → Line x → x ≡ stepAt s p
-  decides (finished e) = sym (in-place ∙ rw (eq-eqb left 0 (omega arith)))
-  decides (junk h b) = sym (left-over h ∙ rw (ne-eqb (getD s p 0) 0x55 b))
-  decides (headless h b l) = sym (left-over h ∙ rw (eq-eqb (getD s p 0) 0x55 b, lt-ltb left 6 l))
-  decides (cut b h l) = sym (headed b h ∙ rw (lt-ltb left (size + 8) l))
-  decides (bad b l n) = sym (whole b l ∙ rw (ne-eqb sum sent n))
-  decides (found b l e) = sym (whole b l ∙ rw (eq-eqb sum sent e))
+  -- what a line decides is the step
+  pub only : {x : Step} → Decides s p x → x ≡ stepAt s p
+  only (finished e) = sym (in-place ∙ rw (eq-eqb (left s p) 0 (omega arith)))
+  only (junk h b) = sym (left-over h ∙ rw (ne-eqb (getD s p 0) 0x55 b))
+  only (headless h b l) = sym (left-over h ∙ rw (eq-eqb (getD s p 0) 0x55 b, lt-ltb (left s p) 6 l))
+  only (cut b h l) = sym (headed b h ∙ rw (lt-ltb (left s p) (size s p + 8) l))
+  only (bad b l n) = sym (whole b l ∙ rw (ne-eqb (sum s p) (sent s p) n))
+  only (found b l e) = sym (whole b l ∙ rw (eq-eqb (sum s p) (sent s p) e))
 
-  -- one of them holds
-  pub line : Line (stepAt s p)
-  line = by-end (leb (length s) p) refl
+  -- and a line decides it
+  pub decided : Decides s p (stepAt s p)
+  decided = by-end (leb (length s) p) refl
     where
-      of : {x : Step} → Line x → Line (stepAt s p)
-      of l = subst Line (decides l) l
+      of : {x : Step} → Decides s p x → Decides s p (stepAt s p)
+      of l = subst (Decides s p) (only l) l
 
-      by-sum : getD s p 0 ≡ 0x55 → size + 8 ≤ left → (t : Bool) → eqb sum sent ≡ t → Line (stepAt s p)
-      by-sum b l true e = of (found b l (eqb-true sum sent e))
-      by-sum b l false e = of (bad b l (eqb-false sum sent e))
+      by-sum : getD s p 0 ≡ 0x55 → size s p + 8 ≤ left s p → (t : Bool) → eqb (sum s p) (sent s p) ≡ t → Decides s p (stepAt s p)
+      by-sum b l true e = of (found b l (eqb-true (sum s p) (sent s p) e))
+      by-sum b l false e = of (bad b l (eqb-false (sum s p) (sent s p) e))
 
-      by-size : getD s p 0 ≡ 0x55 → 6 ≤ left → (t : Bool) → ltb left (size + 8) ≡ t → Line (stepAt s p)
-      by-size b h true e = of (cut b h (ltb-true left (size + 8) e))
-      by-size b h false e = by-sum b (ltb-false left (size + 8) e) (eqb sum sent) refl
+      by-size : getD s p 0 ≡ 0x55 → 6 ≤ left s p → (t : Bool) → ltb (left s p) (size s p + 8) ≡ t → Decides s p (stepAt s p)
+      by-size b h true e = of (cut b h (ltb-true (left s p) (size s p + 8) e))
+      by-size b h false e = by-sum b (ltb-false (left s p) (size s p + 8) e) (eqb (sum s p) (sent s p)) refl
 
-      by-head : p < length s → getD s p 0 ≡ 0x55 → (t : Bool) → ltb left 6 ≡ t → Line (stepAt s p)
-      by-head h b true e = of (headless h b (ltb-true left 6 e))
-      by-head h b false e = by-size b (ltb-false left 6 e) (ltb left (size + 8)) refl
+      by-head : p < length s → getD s p 0 ≡ 0x55 → (t : Bool) → ltb (left s p) 6 ≡ t → Decides s p (stepAt s p)
+      by-head h b true e = of (headless h b (ltb-true (left s p) 6 e))
+      by-head h b false e = by-size b (ltb-false (left s p) 6 e) (ltb (left s p) (size s p + 8)) refl
 
-      by-byte : p < length s → (t : Bool) → eqb (getD s p 0) 0x55 ≡ t → Line (stepAt s p)
-      by-byte h true e = by-head h (eqb-true (getD s p 0) 0x55 e) (ltb left 6) refl
+      by-byte : p < length s → (t : Bool) → eqb (getD s p 0) 0x55 ≡ t → Decides s p (stepAt s p)
+      by-byte h true e = by-head h (eqb-true (getD s p 0) 0x55 e) (ltb (left s p) 6) refl
       by-byte h false e = of (junk h (eqb-false (getD s p 0) 0x55 e))
 
-      by-end : (t : Bool) → leb (length s) p ≡ t → Line (stepAt s p)
+      by-end : (t : Bool) → leb (length s) p ≡ t → Decides s p (stepAt s p)
       by-end true e = of (finished (leb-true (length s) p e))
       by-end false e = by-byte (leb-false (length s) p e) (eqb (getD s p 0) 0x55) refl
 
   -- a step that a reading goes on by passes no more bytes than there are
   pub within : (opened : Bool) → stops opened (stepAt s p) ≡ false → p + passed (stepAt s p) ≤ length s
-  within opened = go line
+  within opened = go decided
     where
-      go : {x : Step} → Line x → stops opened x ≡ false → p + passed x ≤ length s
+      go : {x : Step} → Decides s p x → stops opened x ≡ false → p + passed x ≤ length s
       go (finished h) e = absurd (true≢false e)
       go (junk h b) e = omega arith
       go (headless h b l) e = omega arith
@@ -145,9 +118,9 @@ module _ (s : List ℕ) (p : ℕ) where
 
   -- closed reading stops at the end alone
   pub at-end : stops false (stepAt s p) ≡ true → length s ≤ p
-  at-end = go line
+  at-end = go decided
     where
-      go : {x : Step} → Line x → stops false x ≡ true → length s ≤ p
+      go : {x : Step} → Decides s p x → stops false x ≡ true → length s ≤ p
       go (finished h) e = h
       go (junk h b) e = absurd (false≢true e)
       go (headless h b l) e = absurd (false≢true e)
@@ -157,4 +130,4 @@ module _ (s : List ℕ) (p : ℕ) where
 
   -- every reading stops there
   pub past-end : (opened : Bool) → length s ≤ p → stops opened (stepAt s p) ≡ true
-  past-end opened h = ap (stops opened) (sym (decides (finished h)))
+  past-end opened h = ap (stops opened) (sym (only (finished h)))

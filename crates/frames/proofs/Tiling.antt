@@ -10,7 +10,7 @@ use lib.Dec.{ltb}
 use lib.ListN.{length}
 use borrow.Author.Tests.{le-leb, lt-leb, ltb-true, ltb-false}
 use Rattle.frames.specs.Step.{stepAt, passed, ends}
-use Rattle.frames.specs.Reading.{Placed, stops, steps, closedSteps, openSteps, Tiled, holding, done, then, placed, isShort, beforeShort, counted, added, countsOf, sumOf}
+use Rattle.frames.specs.Reading.{Positioned, stops, steps, closedSteps, openSteps, Tiled, holding, done, then, positioned, isShort, beforeShort, counted, added, countsOf, sumOf}
 use Rattle.frames.specs.declared.step.Step.{Step}
 use Rattle.frames.specs.declared.step.Step.the-variants.{Finished, Junk, Short, Bad, Found}
 use Rattle.frames.specs.declared.cursor.Counts.{Counts}
@@ -32,22 +32,22 @@ module _ (s : List ℕ) where
   -- ---- what tiles a part
 
   -- no position before the part lies in a step, and each within it lies in one
-  held-before : (i : ℕ) {p e : ℕ} {xs : List Placed} → Tiled s p e xs → i < p → holding i xs ≡ 0
+  held-before : (i : ℕ) {p e : ℕ} {xs : List Positioned} → Tiled s p e xs → i < p → holding i xs ≡ 0
   unfolding holding
   held-before i done h = refl
   held-before i (then {p = p} l t) h = rw (lt-leb p i h) (omega (arith, held-before i t (omega arith)))
 
-  held-once : (i : ℕ) {p e : ℕ} {xs : List Placed} → Tiled s p e xs → p ≤ i → i < e → holding i xs ≡ 1
+  held-once : (i : ℕ) {p e : ℕ} {xs : List Positioned} → Tiled s p e xs → p ≤ i → i < e → holding i xs ≡ 1
   unfolding holding
   held-once i done h l = absurd (omega arith)
   held-once i (then {p = p} {xs = xs} l t) h r = by (ltb i (ends s p)) refl (λ q. held-once i t q r)
     where
-      by : (t : Bool) → ltb i (ends s p) ≡ t → (ends s p ≤ i → holding i xs ≡ 1) → holding i (placed s p ∷ xs) ≡ 1
+      by : (t : Bool) → ltb i (ends s p) ≡ t → (ends s p ≤ i → holding i xs ≡ 1) → holding i (positioned s p ∷ xs) ≡ 1
       by true e rest = rw (le-leb p i h, e) (omega (arith, held-before i t (ltb-true i (ends s p) e)))
       by false e rest = rw (le-leb p i h, e) (omega (arith, rest (ltb-false i (ends s p) e)))
 
   -- the counts of its steps are its length
-  counted-length : {p e : ℕ} {xs : List Placed} → Tiled s p e xs → sumOf (countsOf xs) + p ≡ e
+  counted-length : {p e : ℕ} {xs : List Positioned} → Tiled s p e xs → sumOf (countsOf xs) + p ≡ e
   unfolding countsOf
   counted-length done = omega arith
   counted-length (then {p = p} {xs = xs} l t) = omega (arith, added-sum (counted (stepAt s p)) (countsOf xs), counted-sum (stepAt s p), counted-length t)
@@ -83,12 +83,12 @@ module _ (s : List ℕ) where
       by true e = absurd (omega (arith, at-end s p e))
       by false e = e
 
-  only-to : {p e : ℕ} {xs : List Placed} → Tiled s p e xs → e ≡ length s → xs ≡ steps false s p
+  only-to : {p e : ℕ} {xs : List Positioned} → Tiled s p e xs → e ≡ length s → xs ≡ steps false s p
   only-to (done {p = p}) q = sym (steps-stop false s p (past-end s p false (omega arith)))
   only-to (then {p = p} l t) q =
-      ap (λ (ys : List Placed). placed s p ∷ ys) (only-to t q) ∙ sym (steps-go false s p (goes-before-end p (omega arith)))
+      ap (λ (ys : List Positioned). positioned s p ∷ ys) (only-to t q) ∙ sym (steps-go false s p (goes-before-end p (omega arith)))
 
-  pub only-closed : {xs : List Placed} → Tiled s 0 (length s) xs → xs ≡ closedSteps s
+  pub only-closed : {xs : List Positioned} → Tiled s 0 (length s) xs → xs ≡ closedSteps s
   only-closed t = only-to t refl
 
   -- ---- of closed reading
@@ -109,12 +109,12 @@ module _ (s : List ℕ) where
   opens Bad = refl
   opens (Found f) = refl
 
-  open-to : {p e : ℕ} {xs : List Placed} → Tiled s p e xs → e ≡ length s → steps true s p ≡ beforeShort xs
+  open-to : {p e : ℕ} {xs : List Positioned} → Tiled s p e xs → e ≡ length s → steps true s p ≡ beforeShort xs
   unfolding beforeShort
   open-to (done {p = p}) q = steps-stop true s p (past-end s p true (omega arith))
   open-to (then {p = p} {xs = xs} l t) q = by (isShort (stepAt s p)) refl (goes-before-end p (omega arith)) (open-to t q)
     where
-      by : (t : Bool) → isShort (stepAt s p) ≡ t → stops false (stepAt s p) ≡ false → steps true s (ends s p) ≡ beforeShort xs → steps true s p ≡ beforeShort (placed s p ∷ xs)
+      by : (t : Bool) → isShort (stepAt s p) ≡ t → stops false (stepAt s p) ≡ false → steps true s (ends s p) ≡ beforeShort xs → steps true s p ≡ beforeShort (positioned s p ∷ xs)
       by true h e rest = steps-stop true s p (opens (stepAt s p) ∙ rw (e, h)) ∙ rw h
       by false h e rest = steps-go true s p (opens (stepAt s p) ∙ rw (e, h)) ∙ rw (h, rest)
 

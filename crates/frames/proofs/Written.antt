@@ -1,20 +1,21 @@
 -- The stores of a frame writer make the frame: the head, the payload at 6 and the CRC after it. Assumes nothing.
 use mathlib.Core.Path.{_≡_, refl, sym, ap, ap₂, _∙_}
 use mathlib.Core.List.{List, [], _∷_, _++_, append-assoc}
-use Prim.Native.Nat.{ℕ, suc, _+_, _-_, _≤_, _<_, zero-le}
-use native.Mathlib.Numerals.{add-one}
+use Prim.Native.Nat.{ℕ, _+_, _-_, _≤_}
 use native.Mathlib.Omega.{arith}
-use lib.ListN.{length, getD, take, drop, length-append, length-drop, take-append-drop, drop-of-length-le}
-use lib.Seq.{sets, drop-drop, drop-cons, take-append-seam, drop-append-add, take-at, drop-at, length-take-le, length-sets, sets-eq}
+use lib.ListN.{length, take, drop, length-append, length-drop, take-append-drop}
+use lib.Seq.{sets, drop-drop, take-append-seam, drop-append-add, take-at, drop-at, length-take-le, length-sets, sets-eq}
 use Rattle.wire.specs.Number.{bytesOf, storedAt}
-use Rattle.wire.specs.Field.{Field, Row, size, encode, rowStored}
+use Rattle.wire.specs.Field.{encode}
+use Rattle.wire.specs.Layout.{Layout, Body, bodySize, encodeBody, bodyStored}
 use Rattle.wire.specs.Refusals.{refused, given}
-use Rattle.wire.proofs.Numbers.{length-bytesOf, stored-sets, set-byte}
-use Rattle.wire.proofs.Fields.{length-encode, row-sets}
+use Rattle.wire.proofs.Numbers.{length-bytesOf, stored-sets}
+use Rattle.wire.proofs.Fields.{row-sets}
+use Rattle.wire.proofs.Layouts.{length-encode-body, body-sets}
 use Rattle.crc.specs.Crc.{crcFrom}
 use Rattle.frames.specs.Frame.{covered, frameBytes}
 use Rattle.frames.specs.Writer.{planned, head, headRow, headed, sealed, withFrame}
-use Rattle.frames.proofs.WrittenPlan.{fits, fitting-true, unfit}
+use Rattle.frames.proofs.WrittenPlan.{planned-given, fits}
 
 -- ---- lengths
 
@@ -83,11 +84,11 @@ module _ (kind sender n : ℕ) (buf : List ℕ) where
   -- what the writer leaves, where the frame fits and where not
   sealed-fits : n ≤ 255 → n + 8 ≤ length buf → sealed kind sender n buf ≡ frameBytes kind sender (take n (drop 6 buf)) ++ drop (n + 8) buf
   unfolding sealed
-  sealed-fits h room = rw (fitting-true n (length buf) h room)
+  sealed-fits h room = rw (planned-given n (length buf) h room)
 
   pub sealed-unfit : {k : ℕ} → planned n (length buf) ≡ refused k → sealed kind sender n buf ≡ buf
   unfolding sealed
-  sealed-unfit r = rw (unfit n (length buf) r)
+  sealed-unfit r = rw r
 
   -- the stores of `seal`, one after the other
   pub seals : {m from sum : ℕ} {first last : List ℕ} → planned n (length buf) ≡ given m → from ≡ sender → first ≡ headed kind from n buf
@@ -104,11 +105,11 @@ module _ (kind sender n : ℕ) (buf : List ℕ) where
 module _ (kind sender : ℕ) (payload buf : List ℕ) where
   pub framed-fits : length payload ≤ 255 → length payload + 8 ≤ length buf → withFrame kind sender payload buf ≡ frameBytes kind sender payload ++ drop (length payload + 8) buf
   unfolding withFrame
-  framed-fits h room = rw (fitting-true (length payload) (length buf) h room)
+  framed-fits h room = rw (planned-given (length payload) (length buf) h room)
 
   pub framed-unfit : {k : ℕ} → planned (length payload) (length buf) ≡ refused k → withFrame kind sender payload buf ≡ buf
   unfolding withFrame
-  framed-unfit r = rw (unfit (length payload) (length buf) r)
+  framed-unfit r = rw r
 
   -- a payload stored at 6 and sealed is the frame
   sealed-framed : length payload ≤ 255 → length payload + 8 ≤ length buf → sealed kind sender (length payload) (sets buf 6 payload) ≡ withFrame kind sender payload buf
@@ -134,30 +135,10 @@ module _ (kind sender : ℕ) (payload buf : List ℕ) where
       let room = fits (length payload) (length buf) g in
       q ∙ ap (sealed kind sender (length payload)) p ∙ sealed-framed (room .0) (room .1)
 
--- the same of a row that is stored field after field, as the typed writers do
-pub writes-row : (kind sender : ℕ) (fs : List Field) (v : Row fs) (buf : List ℕ) {m : ℕ} {first last : List ℕ} → planned (size fs) (length buf) ≡ given m
-    → first ≡ rowStored fs v buf 6 → last ≡ sealed kind sender (size fs) first → last ≡ withFrame kind sender (encode fs v) buf
-writes-row kind sender fs v buf {first = first} g p q =
-    let room = fits (size fs) (length buf) g in
-    writes kind sender (encode fs v) buf (ap (λ (n : ℕ). planned n (length buf)) (length-encode fs v) ∙ g) (p ∙ row-sets fs v buf 6 (omega arith)) (q ∙ ap (λ (n : ℕ). sealed kind sender n first) (sym (length-encode fs v)))
-
--- ---- the loop that copies a payload
-
--- buf is what start has become once i bytes are copied
-abbrev pub Copied : List ℕ → List ℕ → List ℕ → ℕ → Type 0
-Copied start payload buf i = (i ≤ length payload) × (sets buf (6 + i) (drop i payload) ≡ sets start 6 payload)
-
-pub copied-none : (start payload : List ℕ) → Copied start payload start 0
-copied-none start payload = (zero-le, refl)
-
-module _ (start payload buf : List ℕ) (i : ℕ) (inv : Copied start payload buf i) where
-  pub copied-more : {next : List ℕ} → i < length payload → getD payload i 0 < 256 → next ≡ storedAt 1 (getD payload i 0) buf (6 + i) → Copied start payload next (i + 1)
-  copied-more h b e =
-      let place : 6 + (i + 1) ≡ suc (6 + i) = omega arith in
-      (omega arith, rw (e ∙ set-byte (getD payload i 0) buf (6 + i) b, place, add-one) (sym (ap (sets buf (6 + i)) (drop-cons payload i 0 h)) ∙ inv .1))
-
-  pub copied-all : length payload ≤ i → buf ≡ sets start 6 payload
-  copied-all h = sym (ap (sets buf (6 + i)) (drop-of-length-le payload h)) ∙ inv .1
-
-  pub copied-length : length buf ≡ length start
-  copied-length = sym (length-sets buf (6 + i) (drop i payload)) ∙ ap length (inv .1) ∙ length-sets start 6 payload
+-- the same of a body that is stored part after part, as writers do
+pub writes-body : (kind sender : ℕ) (l : Layout) (v : Body l) (buf : List ℕ) {m : ℕ} {first last : List ℕ} → planned (bodySize l v) (length buf) ≡ given m
+    → first ≡ bodyStored l v buf 6 → last ≡ sealed kind sender (bodySize l v) first → last ≡ withFrame kind sender (encodeBody l v) buf
+writes-body kind sender l v buf {first = first} g p q =
+    let room = fits (bodySize l v) (length buf) g in
+    let long = length-encode-body l v in
+    writes kind sender (encodeBody l v) buf (ap (λ (n : ℕ). planned n (length buf)) long ∙ g) (p ∙ body-sets l v buf 6 (omega arith)) (q ∙ ap (λ (n : ℕ). sealed kind sender n first) (sym long))

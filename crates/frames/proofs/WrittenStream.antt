@@ -8,7 +8,7 @@ use lib.ListN.{length, drop, length-append}
 use lib.Seq.{drop-at}
 use Rattle.frames.specs.Frame.{Content, Sendable, AllSendable, frameOf, stream}
 use Rattle.frames.specs.Step.{payloadIn, passed}
-use Rattle.frames.specs.Reading.{Placed, stops, readFrom, closedSteps, framesOf, counted, added, countsOf}
+use Rattle.frames.specs.Reading.{Positioned, stops, readFrom, closedSteps, framesOf, counted, added, countsOf}
 use Rattle.frames.specs.Writer.{asRead, foundFrom}
 use Rattle.frames.specs.declared.step.Step.{Step}
 use Rattle.frames.specs.declared.step.Step.the-variants.{Found}
@@ -32,7 +32,7 @@ unfolding stream foundFrom readFrom
 stream-from p [] h = refl
 stream-from p (m ∷ ms) h =
     past-written p m (stream ms) (h .0)
-    ∙ ap (λ (xs : List Placed). record { at = p; step = Found (asRead p m) } ∷ xs) (stream-from (p + (length (m .payload) + 8)) ms (h .1))
+    ∙ ap (λ (xs : List Positioned). record { at = p; step = Found (asRead p m) } ∷ xs) (stream-from (p + (length (m .payload) + 8)) ms (h .1))
 
 pub closed-stream : (ms : List Content) → AllSendable ms → closedSteps (stream ms) ≡ foundFrom 0 ms
 closed-stream = stream-from 0
@@ -59,4 +59,4 @@ payloads-from before (m ∷ ms) =
     (ap₂ (λ (s : List ℕ) (q : ℕ). map (payloadIn s) (framesOf (foundFrom q ms))) (sym (append-assoc before (frameOf m) (stream ms))) place ∙ payloads-from (before ++ frameOf m) ms)
 
 pub stream-payloads : (ms : List Content) → AllSendable ms → map (payloadIn (stream ms)) (framesOf (closedSteps (stream ms))) ≡ map (λ (m : Content). m .payload) ms
-stream-payloads ms h = ap (λ (xs : List Placed). map (payloadIn (stream ms)) (framesOf xs)) (closed-stream ms h) ∙ payloads-from [] ms
+stream-payloads ms h = ap (λ (xs : List Positioned). map (payloadIn (stream ms)) (framesOf xs)) (closed-stream ms h) ∙ payloads-from [] ms

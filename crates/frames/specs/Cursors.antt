@@ -5,7 +5,7 @@ use mathlib.Core.Bool.{Bool, true, false, not, cond}
 use mathlib.Core.List.{List, [], _∷_, _++_}
 use lib.ListN.{length}
 use Rattle.frames.specs.Step.{stepAt, passed}
-use Rattle.frames.specs.Reading.{Placed, readFrom, steps, framesOf, counted}
+use Rattle.frames.specs.Reading.{Positioned, readFrom, steps, framesOf, counted}
 use Rattle.frames.specs.declared.step.Frame.{Frame}
 use Rattle.frames.specs.declared.step.Step.{Step}
 use Rattle.frames.specs.declared.step.Step.the-variants.{Finished, Junk, Short, Bad, Found}
@@ -49,7 +49,7 @@ ended c Bad = Next.the-variants.End c
 ended c (Found f) = Next.the-variants.Frame f (over c (Found f))
 
 -- over the steps that are left to the first frame, or to where the reading stops
-unfoldable pub answer : List ℕ → Cursor → List Placed → Next.Next
+unfoldable pub answer : List ℕ → Cursor → List Positioned → Next.Next
 answer s c [] = ended c (stepAt s (c .at))
 answer s c (x ∷ xs) = cond (passes (c .opened) (x .step)) (answer s (over c (x .step)) xs) (ended c (x .step))
 
@@ -70,10 +70,10 @@ abbrev pub remaining : Bool → List ℕ → Cursor → List Frame
 remaining opened s c = framesOf (steps opened s (c .at))
 
 -- what an answer tells, where fs are the frames that were left: the first of them and a cursor from which the others are left, or that there are none
-abbrev pub Told : Bool → List ℕ → List Frame → Next.Next → Type 0
-Told opened s fs (Next.the-variants.Frame f c) = fs ≡ f ∷ remaining opened s c
-Told opened s fs (Next.the-variants.End c) = (fs ≡ []) × (c .at ≡ length s)
-Told opened s fs (Next.the-variants.Needs n c) = (fs ≡ []) × (stepAt s (c .at) ≡ Short n) × (opened ≡ true)
+abbrev pub Says : Bool → List ℕ → List Frame → Next.Next → Type 0
+Says opened s fs (Next.the-variants.Frame f c) = fs ≡ f ∷ remaining opened s c
+Says opened s fs (Next.the-variants.End c) = (fs ≡ []) × (c .at ≡ length s)
+Says opened s fs (Next.the-variants.Needs n c) = (fs ≡ []) × (stepAt s (c .at) ≡ Short n) × (opened ≡ true)
 
 -- calls of next from the start on have handed out the frames fs, and led to the cursor c
 pub data Led (opened : Bool) (s : List ℕ) : List Frame → Cursor → Type 0 where

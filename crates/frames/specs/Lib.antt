@@ -1,5 +1,6 @@
 pub mod Frame
 pub mod Step
+pub mod Decides
 pub mod Reading
 pub mod Cursors
 pub mod Junk

@@ -13,7 +13,7 @@ use Rattle.frames.specs.declared.cursor.Counts.{Counts}
 
 -- ---- the steps
 
-pub record Placed : Type 0 where
+pub record Positioned : Type 0 where
   pub at : ℕ
   pub step : Step
 
@@ -26,7 +26,7 @@ stops opened Bad = false
 stops opened (Found f) = false
 
 -- the steps from position p on, when k bytes of the frame before are still to be skipped
-unfoldable pub readFrom : Bool → ℕ → ℕ → List ℕ → List Placed
+unfoldable pub readFrom : Bool → ℕ → ℕ → List ℕ → List Positioned
 unfolding stepOf
 readFrom opened k p [] = []
 readFrom opened zero p (b ∷ t) =
@@ -35,29 +35,29 @@ readFrom opened zero p (b ∷ t) =
 readFrom opened (suc k) p (b ∷ t) = readFrom opened k (suc p) t
 
 -- the steps from a position of a capture on
-abbrev pub steps : Bool → List ℕ → ℕ → List Placed
+abbrev pub steps : Bool → List ℕ → ℕ → List Positioned
 steps opened s p = readFrom opened 0 p (drop p s)
 
-abbrev pub closedSteps : List ℕ → List Placed
+abbrev pub closedSteps : List ℕ → List Positioned
 closedSteps s = steps false s 0
 
-abbrev pub openSteps : List ℕ → List Placed
+abbrev pub openSteps : List ℕ → List Positioned
 openSteps s = steps true s 0
 
 -- the step at p, with its position
-abbrev pub placed : List ℕ → ℕ → Placed
-placed s p = record { at = p; step = stepAt s p }
+abbrev pub positioned : List ℕ → ℕ → Positioned
+positioned s p = record { at = p; step = stepAt s p }
 
 -- steps that follow one another from p to e: each is the capture's own at its place, and the next begins where it ends
-pub data Tiled (s : List ℕ) : ℕ → ℕ → List Placed → Type 0 where
+pub data Tiled (s : List ℕ) : ℕ → ℕ → List Positioned → Type 0 where
   done : {p : ℕ} → Tiled s p p []
-  then : {p e : ℕ} {xs : List Placed} → p < e → Tiled s (ends s p) e xs → Tiled s p e (placed s p ∷ xs)
+  then : {p e : ℕ} {xs : List Positioned} → p < e → Tiled s (ends s p) e xs → Tiled s p e (positioned s p ∷ xs)
 
 -- whether position i lies in a step, and in how many of them
-abbrev pub holds : ℕ → Placed → Bool
+abbrev pub holds : ℕ → Positioned → Bool
 holds i x = leb (x .at) i && ltb i (x .at + passed (x .step))
 
-unfoldable pub holding : ℕ → List Placed → ℕ
+unfoldable pub holding : ℕ → List Positioned → ℕ
 holding i [] = 0
 holding i (x ∷ xs) = cond (holds i x) 1 0 + holding i xs
 
@@ -69,7 +69,7 @@ isShort Bad = false
 isShort (Found f) = false
 
 -- the steps before the first short
-unfoldable pub beforeShort : List Placed → List Placed
+unfoldable pub beforeShort : List Positioned → List Positioned
 beforeShort [] = []
 beforeShort (x ∷ xs) = cond (isShort (x .step)) [] (x ∷ beforeShort xs)
 
@@ -81,7 +81,7 @@ framesIn (Short n) fs = fs
 framesIn Bad fs = fs
 framesIn (Found f) fs = f ∷ fs
 
-unfoldable pub framesOf : List Placed → List Frame
+unfoldable pub framesOf : List Positioned → List Frame
 framesOf [] = []
 framesOf (x ∷ xs) = framesIn (x .step) (framesOf xs)
 
@@ -99,7 +99,7 @@ abbrev pub added : Counts → Counts → Counts
 added a b = record { framed = a .framed + b .framed; junk = a .junk + b .junk; bad = a .bad + b .bad; short = a .short + b .short }
 
 -- each count is that of the steps of its kind
-unfoldable pub countsOf : List Placed → Counts
+unfoldable pub countsOf : List Positioned → Counts
 countsOf [] = record { framed = 0; junk = 0; bad = 0; short = 0 }
 countsOf (x ∷ xs) = added (counted (x .step)) (countsOf xs)
 

@@ -1,13 +1,12 @@
 -- What a frame writer answers, and what it leaves in the buffer. Assumes nothing.
 use Prim.Native.Nat.{ℕ, _+_}
-use mathlib.Core.Bool.{Bool, _&&_, cond}
 use mathlib.Core.List.{List, [], _∷_, _++_}
 use lib.Dec.{leb}
 use lib.ListN.{length, take, drop}
 use Rattle.wire.specs.Field.{Field, any, u8, u16, Row, rowStored}
-use Rattle.wire.specs.Refusals.{refused, given, Answer}
+use Rattle.wire.specs.Refusals.{refused, given, Answer, Tests, ordered, leaves}
 use Rattle.frames.specs.Frame.{frameBytes, Content}
-use Rattle.frames.specs.Reading.{Placed}
+use Rattle.frames.specs.Reading.{Positioned}
 use Rattle.frames.specs.declared.step.Frame.{Frame}
 use Rattle.frames.specs.declared.step.Step.the-variants.{Found}
 use Rattle.frames.specs.declared.write.Sender.{Sender}
@@ -26,21 +25,20 @@ senderOf (Named n) = n
 senderOf Unnamed = 0x42
 
 -- a payload of n bytes into a buffer of some length: 31 over 255, then 32 for a buffer shorter than N + 8
+abbrev pub writingFrame : ℕ → ℕ → Tests
+writingFrame n room = (leb n 255, 31) ∷ (leb (n + 8) room, 32) ∷ []
+
 unfoldable pub planned : ℕ → ℕ → Answer ℕ
-planned n room = cond (leb n 255) (cond (leb (n + 8) room) (given (n + 8)) (refused 32)) (refused 31)
+planned n room = ordered (writingFrame n room) (n + 8)
 
-abbrev pub fitting : ℕ → ℕ → Bool
-fitting n room = leb n 255 && leb (n + 8) room
-
--- the buffer with a frame at its start, the bytes after untouched; as it was where the frame does not fit
+-- the buffer with a frame at its start, the bytes after untouched; as it was where the frame is refused
 unfoldable pub withFrame : ℕ → ℕ → List ℕ → List ℕ → List ℕ
 withFrame kind sender payload buf =
-    cond (fitting (length payload) (length buf)) (frameBytes kind sender payload ++ drop (length payload + 8) buf) buf
+    leaves (planned (length payload) (length buf)) (frameBytes kind sender payload ++ drop (length payload + 8) buf) buf
 
 -- the same, of the n payload bytes that stand in the buffer at 6
 unfoldable pub sealed : ℕ → ℕ → ℕ → List ℕ → List ℕ
-sealed kind sender n buf =
-    cond (fitting n (length buf)) (frameBytes kind sender (take n (drop 6 buf)) ++ drop (n + 8) buf) buf
+sealed kind sender n buf = leaves (planned n (length buf)) (frameBytes kind sender (take n (drop 6 buf)) ++ drop (n + 8) buf) buf
 
 -- what stands before the payload: preamble, type, sender, payload length
 abbrev pub head : List Field
@@ -58,6 +56,6 @@ abbrev pub asRead : ℕ → Content → Frame
 asRead p m = record { at = p; kind = m .kind; sender = m .sender; length = length (m .payload) }
 
 -- the steps over frames that stand one after the other
-unfoldable pub foundFrom : ℕ → List Content → List Placed
+unfoldable pub foundFrom : ℕ → List Content → List Positioned
 foundFrom p [] = []
 foundFrom p (m ∷ ms) = record { at = p; step = Found (asRead p m) } ∷ foundFrom (p + (length (m .payload) + 8)) ms

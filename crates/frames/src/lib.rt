@@ -16,7 +16,6 @@ pub use step::payload;
 pub use step::step_at;
 pub use write::Sender;
 pub use write::Written;
-pub use write::place;
 pub use write::plan;
 pub use write::seal;
 pub use write::sender_number;

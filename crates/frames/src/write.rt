@@ -1,7 +1,6 @@
 // Frames written into a lent buffer.
 ghost use mathlib.Core.Path.{_≡_};
 ghost use lib.ListN.{length};
-ghost use lib.Seq.{sets};
 ghost use Rattle.frames.specs.Writer.{writtenAnswer, senderOf, planned, headed, sealed, withFrame};
 
 // Who sends: a number, or nobody in particular, which is written as 0x42.
@@ -60,17 +59,6 @@ pub fn seal(buf: &mut [u8], kind: u16, sender: Sender, n: usize)
     }
 }
 
-// Copies a payload to buf[6..], as far as it goes.
-pub fn place(buf: &mut [u8], payload: &[u8])
-    ensures { λ _. ⌜ now (buf .exit) ≡ sets (now (buf .entry)) 6 (now (payload .entry)) ⌝ }
-{
-    let mut i = 0;
-    while i < payload.len() {
-        wire::store_u8(buf, 6 + i, payload[i]);
-        i += 1;
-    }
-}
-
 // A frame of any type with any payload.
 pub fn write_frame(buf: &mut [u8], kind: u16, sender: Sender, payload: &[u8]) -> Written
     ensures { λ r. ⌜ writtenAnswer r ≡ planned (length (now (payload .entry))) (length (now (buf .entry))) ⌝ }
@@ -79,7 +67,7 @@ pub fn write_frame(buf: &mut [u8], kind: u16, sender: Sender, payload: &[u8]) ->
     let n = payload.len();
     let answer = plan(n, buf.len());
     if let Written::Bytes(_) = answer {
-        place(buf, payload);
+        wire::store_bytes(buf, 6, payload);
         seal(buf, kind, sender, n);
     }
     answer

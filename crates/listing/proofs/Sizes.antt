@@ -9,7 +9,7 @@ use lib.ListN.{length, length-append}
 use Rattle.wire.specs.Number.{Bytes}
 use Rattle.wire.specs.Refusals.{refused, given}
 use Rattle.frames.specs.Step.{stepAt, passed, ends, payloadIn}
-use Rattle.frames.specs.Reading.{Placed, Tiled, done, then, framesIn, framesOf, countsOf, closedSteps}
+use Rattle.frames.specs.Reading.{Positioned, Tiled, done, then, framesIn, framesOf, countsOf, closedSteps}
 use Rattle.frames.specs.declared.step.Frame.{Frame}
 use Rattle.frames.specs.declared.step.Step.{Step}
 use Rattle.frames.specs.declared.step.Step.the-variants.{Finished, Junk, Short, Bad, Found}
@@ -86,7 +86,7 @@ module _ (s : List ℕ) (bytes : Bytes s) (short : length s ≤ 65536) where
     frame-told c = told-size (fedFrame c (contentIn s f) .happened) (report-small c (f .kind) (f .sender) (payloadIn s f) (payload-bytes s p e bytes) (found-numbers s p e bytes .1))
 
   -- 61 bytes of text for a frame of at least 8
-  frames-size : {p e : ℕ} {xs : List Placed} → Tiled s p e xs → e ≤ length s → (c : Collator) → length (framesText s c (framesOf xs)) + 8 * p ≤ 8 * e
+  frames-size : {p e : ℕ} {xs : List Positioned} → Tiled s p e xs → e ≤ length s → (c : Collator) → length (framesText s c (framesOf xs)) + 8 * p ≤ 8 * e
   unfolding framesOf framesText
   frames-size done h c = omega arith
   frames-size (then {p} {e} {xs} l rest) h c = by (stepAt s p) refl (λ c. frames-size rest h c)

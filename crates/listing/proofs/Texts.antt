@@ -17,7 +17,7 @@ use Rattle.frames.specs.declared.step.Frame.{Frame}
 use Rattle.frames.specs.declared.cursor.Counts.{Counts}
 use Rattle.frames.specs.declared.cursor.Cursor.{Cursor}
 use Rattle.frames.specs.declared.cursor.Next as Next
-use Rattle.frames.proofs.Walks.{Walking, left, walking-begun, walking-on, walking-end, end-counts}
+use Rattle.frames.proofs.CursorLoops.{Walking, left, walking-begun, walking-on, walking-end, end-counts}
 use Rattle.payloads.specs.Table.{answerFor}
 use Rattle.epochs.specs.Collator.{fresh}
 use Rattle.epochs.specs.Epoch.{fedFrame, contentIn}

@@ -1,4 +1,4 @@
--- What is promised of each message: the law of frames/proofs/Messages.antt, cited. Assumes nothing.
+-- What is promised of each message: the law of frames/proofs/Promised.antt, cited. Assumes nothing.
 use lib.Dec.{lit<}
 use Rattle.frames.specs.Faithful.{Faithful}
 use Rattle.frames.proofs.Promised.{faithful}
@@ -11,28 +11,28 @@ use Rattle.navigation.specs.Ned.{baselineNed, velNed}
 use Rattle.navigation.specs.Heading.{baselineHeading}
 
 pub gps-time : Faithful gpsTime
-gps-time = faithful gpsTime (lit< tt)
+gps-time = faithful gpsTime (lit< tt) tt
 
 pub dilutions : Faithful dops
-dilutions = faithful dops (lit< tt)
+dilutions = faithful dops (lit< tt) tt
 
 pub pos-ecef : Faithful posEcef
-pos-ecef = faithful posEcef (lit< tt)
+pos-ecef = faithful posEcef (lit< tt) tt
 
 pub pos-llh : Faithful posLlh
-pos-llh = faithful posLlh (lit< tt)
+pos-llh = faithful posLlh (lit< tt) tt
 
 pub baseline-ecef : Faithful baselineEcef
-baseline-ecef = faithful baselineEcef (lit< tt)
+baseline-ecef = faithful baselineEcef (lit< tt) tt
 
 pub vel-ecef : Faithful velEcef
-vel-ecef = faithful velEcef (lit< tt)
+vel-ecef = faithful velEcef (lit< tt) tt
 
 pub baseline-ned : Faithful baselineNed
-baseline-ned = faithful baselineNed (lit< tt)
+baseline-ned = faithful baselineNed (lit< tt) tt
 
 pub vel-ned : Faithful velNed
-vel-ned = faithful velNed (lit< tt)
+vel-ned = faithful velNed (lit< tt) tt
 
 pub baseline-heading : Faithful baselineHeading
-baseline-heading = faithful baselineHeading (lit< tt)
+baseline-heading = faithful baselineHeading (lit< tt) tt

@@ -2,6 +2,7 @@
 use mathlib.Core.Path.{refl}
 use mathlib.Core.List.{[], _∷_}
 use Rattle.wire.specs.Field.{any, u16, u32}
+use Rattle.wire.specs.Layout.{run}
 use Rattle.wire.specs.Description.{Description}
 use Rattle.wire.specs.Refusals.{refused, given, Answer}
 use Rattle.navigation.specs.declared.dops.Dops.{Dops}
@@ -11,7 +12,7 @@ use Rattle.navigation.specs.declared.dops.DopsRead.the-variants.{Record,
 abbrev pub dops : Description Dops
 dops = record {
   kind = 0x0206;
-  fields = any u32 ∷ any u16 ∷ any u16 ∷ any u16 ∷ any u16 ∷ any u16 ∷ [];
+  layout = run (any u32 ∷ any u16 ∷ any u16 ∷ any u16 ∷ any u16 ∷ any u16 ∷ []);
   row = λ r. (r .tow, (r .gdop, (r .pdop, (r .tdop, (r .hdop, (r .vdop, tt))))));
   make = λ v. record { tow = v .0; gdop = v .1 .0; pdop = v .1 .1 .0; tdop = v .1 .1 .1 .0; hdop = v .1 .1 .1 .1 .0; vdop = v .1 .1 .1 .1 .1 .0 };
   row-make = λ v. refl;

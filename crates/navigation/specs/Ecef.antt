@@ -3,6 +3,7 @@ use mathlib.Core.Path.{refl}
 use mathlib.Core.List.{[], _∷_}
 use mir.Syntax.{w8}
 use Rattle.wire.specs.Field.{any, ranged, u8, u16, u32, s32}
+use Rattle.wire.specs.Layout.{run}
 use Rattle.wire.specs.Description.{Description}
 use Rattle.wire.specs.Refusals.{refused, given, Answer}
 use Rattle.navigation.specs.Range.{fixUpTo}
@@ -13,7 +14,7 @@ use Rattle.navigation.specs.declared.ecef.EcefVectorRead.the-variants.{R
 abbrev pub baselineEcef : Description EcefVector
 baselineEcef = record {
   kind = 0x0202;
-  fields = any u32 ∷ any s32 ∷ any s32 ∷ any s32 ∷ any u16 ∷ any u8 ∷ ranged w8 (fixUpTo 1) ∷ [];
+  layout = run (any u32 ∷ any s32 ∷ any s32 ∷ any s32 ∷ any u16 ∷ any u8 ∷ ranged w8 (fixUpTo 1) ∷ []);
   row = λ r. (r .tow, (r .x, (r .y, (r .z, (r .accuracy, (r .«n_sats», (r .flags, tt)))))));
   make = λ v. record { tow = v .0; x = v .1 .0; y = v .1 .1 .0; z = v .1 .1 .1 .0; accuracy = v .1 .1 .1 .1 .0; «n_sats» = v .1 .1 .1 .1 .1 .0; flags = v .1 .1 .1 .1 .1 .1 .0 };
   row-make = λ v. refl;
@@ -24,7 +25,7 @@ baselineEcef = record {
 abbrev pub velEcef : Description EcefVector
 velEcef = record {
   kind = 0x0204;
-  fields = any u32 ∷ any s32 ∷ any s32 ∷ any s32 ∷ any u16 ∷ any u8 ∷ any u8 ∷ [];
+  layout = run (any u32 ∷ any s32 ∷ any s32 ∷ any s32 ∷ any u16 ∷ any u8 ∷ any u8 ∷ []);
   row = baselineEcef .row;
   make = baselineEcef .make;
   row-make = baselineEcef .row-make;

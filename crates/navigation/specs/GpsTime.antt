@@ -3,6 +3,7 @@ use mathlib.Core.Path.{refl}
 use mathlib.Core.List.{[], _∷_}
 use mir.Syntax.{w32}
 use Rattle.wire.specs.Field.{any, rangedSigned, u8, u16, u32}
+use Rattle.wire.specs.Layout.{run}
 use Rattle.wire.specs.Description.{Description}
 use Rattle.wire.specs.Refusals.{refused, given, Answer}
 use Rattle.navigation.specs.Range.{inNs}
@@ -13,7 +14,7 @@ use Rattle.navigation.specs.declared.gps_time.GpsTimeRead.the-variants.{
 abbrev pub gpsTime : Description GpsTime
 gpsTime = record {
   kind = 0x0100;
-  fields = any u16 ∷ any u32 ∷ rangedSigned w32 inNs ∷ any u8 ∷ [];
+  layout = run (any u16 ∷ any u32 ∷ rangedSigned w32 inNs ∷ any u8 ∷ []);
   row = λ r. (r .wn, (r .tow, (r .ns, (r .flags, tt))));
   make = λ v. record { wn = v .0; tow = v .1 .0; ns = v .1 .1 .0; flags = v .1 .1 .1 .0 };
   row-make = λ v. refl;

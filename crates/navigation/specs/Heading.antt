@@ -3,6 +3,7 @@ use mathlib.Core.Path.{refl}
 use mathlib.Core.List.{[], _∷_}
 use mir.Syntax.{w8}
 use Rattle.wire.specs.Field.{any, ranged, u8, u32}
+use Rattle.wire.specs.Layout.{run}
 use Rattle.wire.specs.Description.{Description}
 use Rattle.wire.specs.Refusals.{refused, given, Answer}
 use Rattle.navigation.specs.Range.{fixUpTo}
@@ -13,7 +14,7 @@ use Rattle.navigation.specs.declared.heading.BaselineHeadingRead.the-var
 abbrev pub baselineHeading : Description BaselineHeading
 baselineHeading = record {
   kind = 0x0207;
-  fields = any u32 ∷ any u32 ∷ any u8 ∷ ranged w8 (fixUpTo 1) ∷ [];
+  layout = run (any u32 ∷ any u32 ∷ any u8 ∷ ranged w8 (fixUpTo 1) ∷ []);
   row = λ r. (r .tow, (r .heading, (r .«n_sats», (r .flags, tt))));
   make = λ v. record { tow = v .0; heading = v .1 .0; «n_sats» = v .1 .1 .0; flags = v .1 .1 .1 .0 };
   row-make = λ v. refl;

@@ -3,6 +3,7 @@ use mathlib.Core.Path.{refl}
 use mathlib.Core.List.{[], _∷_}
 use mir.Syntax.{w8}
 use Rattle.wire.specs.Field.{any, ranged, u8, u16, u32, s32}
+use Rattle.wire.specs.Layout.{run}
 use Rattle.wire.specs.Description.{Description}
 use Rattle.wire.specs.Refusals.{refused, given, Answer}
 use Rattle.navigation.specs.Range.{fixUpTo}
@@ -13,7 +14,7 @@ use Rattle.navigation.specs.declared.ned.NedVectorRead.the-variants.{Rec
 abbrev pub baselineNed : Description NedVector
 baselineNed = record {
   kind = 0x0203;
-  fields = any u32 ∷ any s32 ∷ any s32 ∷ any s32 ∷ any u16 ∷ any u16 ∷ any u8 ∷ ranged w8 (fixUpTo 1) ∷ [];
+  layout = run (any u32 ∷ any s32 ∷ any s32 ∷ any s32 ∷ any u16 ∷ any u16 ∷ any u8 ∷ ranged w8 (fixUpTo 1) ∷ []);
   row = λ r. (r .tow, (r .n, (r .e, (r .d, (r .«h_accuracy», (r .«v_accuracy», (r .«n_sats», (r .flags, tt))))))));
   make = λ v. record { tow = v .0; n = v .1 .0; e = v .1 .1 .0; d = v .1 .1 .1 .0; «h_accuracy» = v .1 .1 .1 .1 .0; «v_accuracy» = v .1 .1 .1 .1 .1 .0; «n_sats» = v .1 .1 .1 .1 .1 .1 .0; flags = v .1 .1 .1 .1 .1 .1 .1 .0 };
   row-make = λ v. refl;
@@ -24,7 +25,7 @@ baselineNed = record {
 abbrev pub velNed : Description NedVector
 velNed = record {
   kind = 0x0205;
-  fields = any u32 ∷ any s32 ∷ any s32 ∷ any s32 ∷ any u16 ∷ any u16 ∷ any u8 ∷ any u8 ∷ [];
+  layout = run (any u32 ∷ any s32 ∷ any s32 ∷ any s32 ∷ any u16 ∷ any u16 ∷ any u8 ∷ any u8 ∷ []);
   row = baselineNed .row;
   make = baselineNed .make;
   row-make = baselineNed .row-make;

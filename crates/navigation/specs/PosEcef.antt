@@ -3,6 +3,7 @@ use mathlib.Core.Path.{refl}
 use mathlib.Core.List.{[], _∷_}
 use mir.Syntax.{w8}
 use Rattle.wire.specs.Field.{any, ranged, u8, u16, u32, double}
+use Rattle.wire.specs.Layout.{run}
 use Rattle.wire.specs.Description.{Description}
 use Rattle.wire.specs.Refusals.{refused, given, Answer}
 use Rattle.navigation.specs.Range.{fixUpTo}
@@ -13,7 +14,7 @@ use Rattle.navigation.specs.declared.pos_ecef.PosEcefRead.the-variants.{
 abbrev pub posEcef : Description PosEcef
 posEcef = record {
   kind = 0x0200;
-  fields = any u32 ∷ any double ∷ any double ∷ any double ∷ any u16 ∷ any u8 ∷ ranged w8 (fixUpTo 2) ∷ [];
+  layout = run (any u32 ∷ any double ∷ any double ∷ any double ∷ any u16 ∷ any u8 ∷ ranged w8 (fixUpTo 2) ∷ []);
   row = λ r. (r .tow, (r .x, (r .y, (r .z, (r .accuracy, (r .«n_sats», (r .flags, tt)))))));
   make = λ v. record { tow = v .0; x = v .1 .0; y = v .1 .1 .0; z = v .1 .1 .1 .0; accuracy = v .1 .1 .1 .1 .0; «n_sats» = v .1 .1 .1 .1 .1 .0; flags = v .1 .1 .1 .1 .1 .1 .0 };
   row-make = λ v. refl;

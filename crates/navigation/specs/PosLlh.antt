@@ -3,6 +3,7 @@ use mathlib.Core.Path.{refl}
 use mathlib.Core.List.{[], _∷_}
 use mir.Syntax.{w8}
 use Rattle.wire.specs.Field.{any, ranged, u8, u16, u32, double}
+use Rattle.wire.specs.Layout.{run}
 use Rattle.wire.specs.Description.{Description}
 use Rattle.wire.specs.Refusals.{refused, given, Answer}
 use Rattle.navigation.specs.Range.{fixUpTo}
@@ -13,7 +14,7 @@ use Rattle.navigation.specs.declared.pos_llh.PosLlhRead.the-variants.{Re
 abbrev pub posLlh : Description PosLlh
 posLlh = record {
   kind = 0x0201;
-  fields = any u32 ∷ any double ∷ any double ∷ any double ∷ any u16 ∷ any u16 ∷ any u8 ∷ ranged w8 (fixUpTo 2) ∷ [];
+  layout = run (any u32 ∷ any double ∷ any double ∷ any double ∷ any u16 ∷ any u16 ∷ any u8 ∷ ranged w8 (fixUpTo 2) ∷ []);
   row = λ r. (r .tow, (r .lat, (r .lon, (r .height, (r .«h_accuracy», (r .«v_accuracy», (r .«n_sats», (r .flags, tt))))))));
   make = λ v. record { tow = v .0; lat = v .1 .0; lon = v .1 .1 .0; height = v .1 .1 .1 .0; «h_accuracy» = v .1 .1 .1 .1 .0; «v_accuracy» = v .1 .1 .1 .1 .1 .0; «n_sats» = v .1 .1 .1 .1 .1 .1 .0; flags = v .1 .1 .1 .1 .1 .1 .1 .0 };
   row-make = λ v. refl;

@@ -1,8 +1,8 @@
 // DOPS, 0x0206: dilutions of precision, in 1/100.
 ghost use mathlib.Core.Path.{_≡_};
 ghost use lib.ListN.{length};
-ghost use Rattle.wire.specs.Field.{decode, rowStored};
-ghost use Rattle.wire.specs.Description.{readAs};
+ghost use Rattle.wire.specs.Layout.{bodyStored};
+ghost use Rattle.wire.specs.Description.{inside, readAs};
 ghost use Rattle.frames.specs.Writer.{senderOf, writtenAnswer};
 ghost use Rattle.frames.specs.Faithful.{writeAnswer, writtenAs};
 ghost use Rattle.navigation.specs.Dops.{dops, answerOf};
@@ -24,7 +24,7 @@ pub enum DopsRead {
 }
 
 fn take(s: &[u8]) -> Dops
-    ensures { λ r. ⌜ r ≡ dops .make (decode (dops .fields) (now (s .entry)) 0) ⌝ }
+    ensures { λ r. ⌜ r ≡ inside dops (now (s .entry)) ⌝ }
 {
     Dops {
         tow: wire::read_u32(s, 0),
@@ -37,7 +37,7 @@ fn take(s: &[u8]) -> Dops
 }
 
 fn put(buf: &mut [u8], r: Dops)
-    ensures { λ _. ⌜ now (buf .exit) ≡ rowStored (dops .fields) (dops .row r) (now (buf .entry)) 6 ⌝ }
+    ensures { λ _. ⌜ now (buf .exit) ≡ bodyStored (dops .layout) (dops .row r) (now (buf .entry)) 6 ⌝ }
 {
     wire::store_u32(buf, 6, r.tow);
     wire::store_u16(buf, 10, r.gdop);

@@ -1,8 +1,8 @@
 // BASELINE_ECEF, 0x0202, in mm, and VEL_ECEF, 0x0204, in mm/s: one layout, two meanings.
 ghost use mathlib.Core.Path.{_≡_};
 ghost use lib.ListN.{length};
-ghost use Rattle.wire.specs.Field.{allowedRow, decode, rowStored};
-ghost use Rattle.wire.specs.Description.{readAs};
+ghost use Rattle.wire.specs.Layout.{allowedBody, bodyStored};
+ghost use Rattle.wire.specs.Description.{inside, readAs};
 ghost use Rattle.frames.specs.Writer.{senderOf, writtenAnswer};
 ghost use Rattle.frames.specs.Faithful.{writeAnswer, writtenAs};
 ghost use Rattle.navigation.specs.Ecef.{baselineEcef, velEcef, answerOf};
@@ -26,7 +26,7 @@ pub enum EcefVectorRead {
 }
 
 fn take(s: &[u8]) -> EcefVector
-    ensures { λ r. ⌜ r ≡ velEcef .make (decode (velEcef .fields) (now (s .entry)) 0) ⌝ }
+    ensures { λ r. ⌜ r ≡ inside velEcef (now (s .entry)) ⌝ }
 {
     EcefVector {
         tow: wire::read_u32(s, 0),
@@ -40,7 +40,7 @@ fn take(s: &[u8]) -> EcefVector
 }
 
 fn put(buf: &mut [u8], r: EcefVector)
-    ensures { λ _. ⌜ now (buf .exit) ≡ rowStored (velEcef .fields) (velEcef .row r) (now (buf .entry)) 6 ⌝ }
+    ensures { λ _. ⌜ now (buf .exit) ≡ bodyStored (velEcef .layout) (velEcef .row r) (now (buf .entry)) 6 ⌝ }
 {
     wire::store_u32(buf, 6, r.tow);
     wire::store_s32(buf, 10, r.x);
@@ -52,7 +52,7 @@ fn put(buf: &mut [u8], r: EcefVector)
 }
 
 fn allowed(r: EcefVector) -> bool
-    ensures { λ b. ⌜ b ≡ allowedRow (baselineEcef .fields) (baselineEcef .row r) ⌝ }
+    ensures { λ b. ⌜ b ≡ allowedBody (baselineEcef .layout) (baselineEcef .row r) ⌝ }
 {
     fix_allowed(r.flags, 1)
 }

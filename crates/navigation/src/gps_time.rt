@@ -1,8 +1,8 @@
 // GPS_TIME, 0x0100: the GPS time.
 ghost use mathlib.Core.Path.{_≡_};
 ghost use lib.ListN.{length};
-ghost use Rattle.wire.specs.Field.{allowedRow, decode, rowStored};
-ghost use Rattle.wire.specs.Description.{readAs};
+ghost use Rattle.wire.specs.Layout.{allowedBody, bodyStored};
+ghost use Rattle.wire.specs.Description.{inside, readAs};
 ghost use Rattle.frames.specs.Writer.{senderOf, writtenAnswer};
 ghost use Rattle.frames.specs.Faithful.{writeAnswer, writtenAs};
 ghost use Rattle.navigation.specs.GpsTime.{gpsTime, answerOf};
@@ -23,7 +23,7 @@ pub enum GpsTimeRead {
 }
 
 fn take(s: &[u8]) -> GpsTime
-    ensures { λ r. ⌜ r ≡ gpsTime .make (decode (gpsTime .fields) (now (s .entry)) 0) ⌝ }
+    ensures { λ r. ⌜ r ≡ inside gpsTime (now (s .entry)) ⌝ }
 {
     GpsTime {
         wn: wire::read_u16(s, 0),
@@ -34,7 +34,7 @@ fn take(s: &[u8]) -> GpsTime
 }
 
 fn put(buf: &mut [u8], r: GpsTime)
-    ensures { λ _. ⌜ now (buf .exit) ≡ rowStored (gpsTime .fields) (gpsTime .row r) (now (buf .entry)) 6 ⌝ }
+    ensures { λ _. ⌜ now (buf .exit) ≡ bodyStored (gpsTime .layout) (gpsTime .row r) (now (buf .entry)) 6 ⌝ }
 {
     wire::store_u16(buf, 6, r.wn);
     wire::store_u32(buf, 8, r.tow);
@@ -43,7 +43,7 @@ fn put(buf: &mut [u8], r: GpsTime)
 }
 
 fn allowed(r: GpsTime) -> bool
-    ensures { λ b. ⌜ b ≡ allowedRow (gpsTime .fields) (gpsTime .row r) ⌝ }
+    ensures { λ b. ⌜ b ≡ allowedBody (gpsTime .layout) (gpsTime .row r) ⌝ }
 {
     ns_allowed(r.ns)
 }

@@ -1,8 +1,8 @@
 // BASELINE_HEADING, 0x0207: the heading from base to rover, in 1/1000 degree.
 ghost use mathlib.Core.Path.{_≡_};
 ghost use lib.ListN.{length};
-ghost use Rattle.wire.specs.Field.{allowedRow, decode, rowStored};
-ghost use Rattle.wire.specs.Description.{readAs};
+ghost use Rattle.wire.specs.Layout.{allowedBody, bodyStored};
+ghost use Rattle.wire.specs.Description.{inside, readAs};
 ghost use Rattle.frames.specs.Writer.{senderOf, writtenAnswer};
 ghost use Rattle.frames.specs.Faithful.{writeAnswer, writtenAs};
 ghost use Rattle.navigation.specs.Heading.{baselineHeading, answerOf};
@@ -23,7 +23,7 @@ pub enum BaselineHeadingRead {
 }
 
 fn take(s: &[u8]) -> BaselineHeading
-    ensures { λ r. ⌜ r ≡ baselineHeading .make (decode (baselineHeading .fields) (now (s .entry)) 0) ⌝ }
+    ensures { λ r. ⌜ r ≡ inside baselineHeading (now (s .entry)) ⌝ }
 {
     BaselineHeading {
         tow: wire::read_u32(s, 0),
@@ -34,7 +34,7 @@ fn take(s: &[u8]) -> BaselineHeading
 }
 
 fn put(buf: &mut [u8], r: BaselineHeading)
-    ensures { λ _. ⌜ now (buf .exit) ≡ rowStored (baselineHeading .fields) (baselineHeading .row r) (now (buf .entry)) 6 ⌝ }
+    ensures { λ _. ⌜ now (buf .exit) ≡ bodyStored (baselineHeading .layout) (baselineHeading .row r) (now (buf .entry)) 6 ⌝ }
 {
     wire::store_u32(buf, 6, r.tow);
     wire::store_u32(buf, 10, r.heading);
@@ -43,7 +43,7 @@ fn put(buf: &mut [u8], r: BaselineHeading)
 }
 
 fn allowed(r: BaselineHeading) -> bool
-    ensures { λ b. ⌜ b ≡ allowedRow (baselineHeading .fields) (baselineHeading .row r) ⌝ }
+    ensures { λ b. ⌜ b ≡ allowedBody (baselineHeading .layout) (baselineHeading .row r) ⌝ }
 {
     fix_allowed(r.flags, 1)
 }

@@ -1,8 +1,8 @@
 // BASELINE_NED, 0x0203, in mm, and VEL_NED, 0x0205, in mm/s: one layout, two meanings.
 ghost use mathlib.Core.Path.{_≡_};
 ghost use lib.ListN.{length};
-ghost use Rattle.wire.specs.Field.{allowedRow, decode, rowStored};
-ghost use Rattle.wire.specs.Description.{readAs};
+ghost use Rattle.wire.specs.Layout.{allowedBody, bodyStored};
+ghost use Rattle.wire.specs.Description.{inside, readAs};
 ghost use Rattle.frames.specs.Writer.{senderOf, writtenAnswer};
 ghost use Rattle.frames.specs.Faithful.{writeAnswer, writtenAs};
 ghost use Rattle.navigation.specs.Ned.{baselineNed, velNed, answerOf};
@@ -27,7 +27,7 @@ pub enum NedVectorRead {
 }
 
 fn take(s: &[u8]) -> NedVector
-    ensures { λ r. ⌜ r ≡ velNed .make (decode (velNed .fields) (now (s .entry)) 0) ⌝ }
+    ensures { λ r. ⌜ r ≡ inside velNed (now (s .entry)) ⌝ }
 {
     NedVector {
         tow: wire::read_u32(s, 0),
@@ -42,7 +42,7 @@ fn take(s: &[u8]) -> NedVector
 }
 
 fn put(buf: &mut [u8], r: NedVector)
-    ensures { λ _. ⌜ now (buf .exit) ≡ rowStored (velNed .fields) (velNed .row r) (now (buf .entry)) 6 ⌝ }
+    ensures { λ _. ⌜ now (buf .exit) ≡ bodyStored (velNed .layout) (velNed .row r) (now (buf .entry)) 6 ⌝ }
 {
     wire::store_u32(buf, 6, r.tow);
     wire::store_s32(buf, 10, r.n);
@@ -55,7 +55,7 @@ fn put(buf: &mut [u8], r: NedVector)
 }
 
 fn allowed(r: NedVector) -> bool
-    ensures { λ b. ⌜ b ≡ allowedRow (baselineNed .fields) (baselineNed .row r) ⌝ }
+    ensures { λ b. ⌜ b ≡ allowedBody (baselineNed .layout) (baselineNed .row r) ⌝ }
 {
     fix_allowed(r.flags, 1)
 }

@@ -1,8 +1,8 @@
 // POS_ECEF, 0x0200: the position, Earth centred, in m.
 ghost use mathlib.Core.Path.{_≡_};
 ghost use lib.ListN.{length};
-ghost use Rattle.wire.specs.Field.{allowedRow, decode, rowStored};
-ghost use Rattle.wire.specs.Description.{readAs};
+ghost use Rattle.wire.specs.Layout.{allowedBody, bodyStored};
+ghost use Rattle.wire.specs.Description.{inside, readAs};
 ghost use Rattle.frames.specs.Writer.{senderOf, writtenAnswer};
 ghost use Rattle.frames.specs.Faithful.{writeAnswer, writtenAs};
 ghost use Rattle.navigation.specs.PosEcef.{posEcef, answerOf};
@@ -27,7 +27,7 @@ pub enum PosEcefRead {
 }
 
 fn take(s: &[u8]) -> PosEcef
-    ensures { λ r. ⌜ r ≡ posEcef .make (decode (posEcef .fields) (now (s .entry)) 0) ⌝ }
+    ensures { λ r. ⌜ r ≡ inside posEcef (now (s .entry)) ⌝ }
 {
     PosEcef {
         tow: wire::read_u32(s, 0),
@@ -41,7 +41,7 @@ fn take(s: &[u8]) -> PosEcef
 }
 
 fn put(buf: &mut [u8], r: PosEcef)
-    ensures { λ _. ⌜ now (buf .exit) ≡ rowStored (posEcef .fields) (posEcef .row r) (now (buf .entry)) 6 ⌝ }
+    ensures { λ _. ⌜ now (buf .exit) ≡ bodyStored (posEcef .layout) (posEcef .row r) (now (buf .entry)) 6 ⌝ }
 {
     wire::store_u32(buf, 6, r.tow);
     wire::store_double(buf, 10, r.x);
@@ -53,7 +53,7 @@ fn put(buf: &mut [u8], r: PosEcef)
 }
 
 fn allowed(r: PosEcef) -> bool
-    ensures { λ b. ⌜ b ≡ allowedRow (posEcef .fields) (posEcef .row r) ⌝ }
+    ensures { λ b. ⌜ b ≡ allowedBody (posEcef .layout) (posEcef .row r) ⌝ }
 {
     fix_allowed(r.flags, 2)
 }

@@ -1,8 +1,8 @@
 // POS_LLH, 0x0201: the geodetic position, in degrees and m.
 ghost use mathlib.Core.Path.{_≡_};
 ghost use lib.ListN.{length};
-ghost use Rattle.wire.specs.Field.{allowedRow, decode, rowStored};
-ghost use Rattle.wire.specs.Description.{readAs};
+ghost use Rattle.wire.specs.Layout.{allowedBody, bodyStored};
+ghost use Rattle.wire.specs.Description.{inside, readAs};
 ghost use Rattle.frames.specs.Writer.{senderOf, writtenAnswer};
 ghost use Rattle.frames.specs.Faithful.{writeAnswer, writtenAs};
 ghost use Rattle.navigation.specs.PosLlh.{posLlh, answerOf};
@@ -28,7 +28,7 @@ pub enum PosLlhRead {
 }
 
 fn take(s: &[u8]) -> PosLlh
-    ensures { λ r. ⌜ r ≡ posLlh .make (decode (posLlh .fields) (now (s .entry)) 0) ⌝ }
+    ensures { λ r. ⌜ r ≡ inside posLlh (now (s .entry)) ⌝ }
 {
     PosLlh {
         tow: wire::read_u32(s, 0),
@@ -43,7 +43,7 @@ fn take(s: &[u8]) -> PosLlh
 }
 
 fn put(buf: &mut [u8], r: PosLlh)
-    ensures { λ _. ⌜ now (buf .exit) ≡ rowStored (posLlh .fields) (posLlh .row r) (now (buf .entry)) 6 ⌝ }
+    ensures { λ _. ⌜ now (buf .exit) ≡ bodyStored (posLlh .layout) (posLlh .row r) (now (buf .entry)) 6 ⌝ }
 {
     wire::store_u32(buf, 6, r.tow);
     wire::store_double(buf, 10, r.lat);
@@ -56,7 +56,7 @@ fn put(buf: &mut [u8], r: PosLlh)
 }
 
 fn allowed(r: PosLlh) -> bool
-    ensures { λ b. ⌜ b ≡ allowedRow (posLlh .fields) (posLlh .row r) ⌝ }
+    ensures { λ b. ⌜ b ≡ allowedBody (posLlh .layout) (posLlh .row r) ⌝ }
 {
     fix_allowed(r.flags, 2)
 }

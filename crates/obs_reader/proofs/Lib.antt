@@ -1,5 +1,5 @@
-pub mod Places
-pub mod Walks
+pub mod OneQuestion
+pub mod HandedOut
 pub mod WrittenWalks
 pub mod Readers
 pub mod Loans

@@ -1,40 +1,41 @@
 -- A reader that is asked again and again: what it answers and where it then stands, and what document 01 wants of that. Assumes nothing.
 use Prim.Native.Nat.{ℕ, zero, suc}
 use mathlib.Core.Path.{_≡_}
-use mathlib.Core.Bool.{cond}
+use mathlib.Core.Bool.{_&&_, cond}
 use mathlib.Core.List.{List, [], _∷_}
 use lib.ListN.{length}
 use Rattle.wire.specs.Refusals.{refused, Answer}
 use Rattle.observation.specs.Layout.{first, fitting, countIn}
-use Rattle.observation.specs.Obs.{readEntry, entriesFrom}
+use Rattle.observation.specs.Edition.{isObs}
+use Rattle.observation.specs.Obs.{readEntryOf, entriesFrom}
 use Rattle.observation.specs.declared.entry.Observation.{Observation}
-use Rattle.obs_reader.specs.Reader.{placeAfter, asked}
+use Rattle.obs_reader.specs.Reader.{atAfter, asked}
 use Rattle.obs_reader.specs.declared.ObsReader.{ObsReader}
 
--- what n questions are answered, from place i on
-unfoldable pub answers : ℕ → List ℕ → ℕ → List (Answer Observation)
-answers zero s i = []
-answers (suc n) s i = readEntry s i ∷ answers n s (placeAfter s i)
+-- what n questions are answered, from i on
+unfoldable pub answers : ℕ → ℕ → List ℕ → ℕ → List (Answer Observation)
+answers zero kind s i = []
+answers (suc n) kind s i = readEntryOf kind s i ∷ answers n kind s (atAfter kind s i)
 
 -- where the reader stands after n questions
-unfoldable pub standing : ℕ → List ℕ → ℕ → ℕ
-standing zero s i = i
-standing (suc n) s i = standing n s (placeAfter s i)
+unfoldable pub standing : ℕ → ℕ → List ℕ → ℕ → ℕ
+standing zero kind s i = i
+standing (suc n) kind s i = standing n kind s (atAfter kind s i)
 
 -- the reader itself after n questions
 unfoldable pub askedTimes : ℕ → ObsReader → ObsReader
 askedTimes zero r = r
 askedTimes (suc n) r = askedTimes n (asked r)
 
--- n questions from place i are answered so, and leave the reader at place j
-pub record Walk (n : ℕ) (s : List ℕ) (i : ℕ) (handed : List (Answer Observation)) (j : ℕ) : Type 0 where
-  pub told : answers n s i ≡ handed
-  pub stands : standing n s i ≡ j
+-- n questions from i are answered so, and leave the reader at j
+pub record Walk (n : ℕ) (kind : ℕ) (s : List ℕ) (i : ℕ) (handed : List (Answer Observation)) (j : ℕ) : Type 0 where
+  pub answered : answers n kind s i ≡ handed
+  pub stands : standing n kind s i ≡ j
 
--- a payload's observations: none where its length is wrong
-unfoldable pub observationsIn : List ℕ → List Observation
-observationsIn s = cond (fitting first (length s)) (entriesFrom (countIn first (length s)) 0 s) []
+-- a payload's observations: none where its type is no observation's or its length is wrong
+unfoldable pub observationsIn : ℕ → List ℕ → List Observation
+observationsIn kind s = cond (isObs kind && fitting first (length s)) (entriesFrom (countIn first (length s)) 0 s) []
 
--- what a reader answers when it has handed them out: 25, and over a payload of a wrong length 22
-unfoldable pub pastThem : List ℕ → Answer Observation
-pastThem s = cond (fitting first (length s)) (refused 25) (refused 22)
+-- what a reader answers when it has handed them out: 25; over a payload of a wrong length 22, of another type 21
+unfoldable pub pastThem : ℕ → List ℕ → Answer Observation
+pastThem kind s = cond (isObs kind) (cond (fitting first (length s)) (refused 25) (refused 22)) (refused 21)

@@ -1,18 +1,19 @@
-// The observations of a payload, one after the other: a reader keeps the lent payload and its place.
-// Read specs/Reader.antt (where the reader stands after a question; what it answers is observation's `readEntry`), then specs/Walk.antt.
-// The borrow checker covers no function over a struct that holds a reference. Those are walked by hand, so they decide nothing: `place_after`
-// decides, and `step_from`, with plain parameters, is for callers that would not walk.
+// The observations of a frame's payload, one after the other: a reader keeps the frame's type, the lent payload and where it stands in it.
+// Read specs/Reader.antt (where the reader stands after a question; what it answers is observation's `readEntryOf`), then specs/Walk.antt.
+// The borrow checker covers no function over a struct that holds a reference. Those are walked by hand, so they decide nothing, the edition
+// neither: `read_observation_of` and `at_after` decide, and `step_from`, with plain parameters, is for callers that would not walk.
 ghost use mathlib.Core.Path.{_≡_};
-ghost use Rattle.observation.specs.Obs.{readEntry, entryAnswer};
-ghost use Rattle.obs_reader.specs.Reader.{movedBy, placeAfter, asked};
+ghost use Rattle.observation.specs.Obs.{readEntryOf, entryAnswer};
+ghost use Rattle.obs_reader.specs.Reader.{movedBy, atAfter, asked};
 use observation::ObservationRead;
 
 pub struct ObsReader<'a> {
+    pub kind: u16,
     pub payload: &'a [u8],
-    pub place: usize,
+    pub at: usize,
 }
 
-// By how many places an answer moves the reader: one with an observation, none with a refusal.
+// By how much an answer moves the reader: by one with an observation, not with a refusal.
 fn moved_by(answer: ObservationRead) -> usize
     ensures { λ r. ⌜ r ≡ movedBy (entryAnswer answer) ⌝ }
 {
@@ -22,58 +23,50 @@ fn moved_by(answer: ObservationRead) -> usize
     }
 }
 
-// Where a reader at a place stands once it is asked.
-pub fn place_after(payload: &[u8], place: usize) -> usize
-    ensures { λ r. ⌜ r ≡ placeAfter (now (payload .entry)) place ⌝ }
+// Where a reader stands once it is asked.
+pub fn at_after(kind: u16, payload: &[u8], at: usize) -> usize
+    ensures { λ r. ⌜ r ≡ atAfter kind (now (payload .entry)) at ⌝ }
 {
-    place + moved_by(observation::read_observation(payload, place))
-}
-
-// A reader at any place.
-pub fn made_at<'a>(payload: &'a [u8], place: usize) -> ObsReader<'a>
-    ensures { λ r. ⌜ (r .payload ≡ payload .entry) × (r .place ≡ place) ⌝ }
-{
-    ObsReader { payload, place }
+    at + moved_by(observation::read_observation_of(kind, payload, at))
 }
 
 // A reader at the first observation.
-pub fn made<'a>(payload: &'a [u8]) -> ObsReader<'a>
-    ensures { λ r. ⌜ (r .payload ≡ payload .entry) × (r .place ≡ 0) ⌝ }
+pub fn made<'a>(kind: u16, payload: &'a [u8]) -> ObsReader<'a>
+    ensures { λ r. ⌜ (r .kind ≡ kind) × (r .payload ≡ payload .entry) × (r .at ≡ 0) ⌝ }
 {
-    made_at(payload, 0)
+    ObsReader {
+        kind,
+        payload,
+        at: 0,
+    }
 }
 
-// The observation at the reader's place, and the reader moves on. It stays on a refusal: 22 where the payload is no OBS, then 25 past the last.
+// The observation that the reader stands at, and the reader moves on. It stays on a refusal: 21 where the type is no observation's, 22 where the
+// payload is no OBS, then 25 past the last.
 pub fn next<'s, 'a>(reader: &'s mut ObsReader<'a>) -> ObservationRead
-    ensures { λ r. ⌜ (entryAnswer r ≡ readEntry (now (now (reader .entry) .payload)) (now (reader .entry) .place)) × (now (reader .exit) ≡ asked (now (reader .entry))) ⌝ }
+    ensures { λ r. ⌜ (entryAnswer r ≡ readEntryOf (now (reader .entry) .kind) (now (now (reader .entry) .payload)) (now (reader .entry) .at)) × (now (reader .exit) ≡ asked (now (reader .entry))) ⌝ }
 {
+    let kind = reader.kind;
     let payload = reader.payload;
-    let place = reader.place;
-    let answer = observation::read_observation(payload, place);
-    reader.place = place_after(payload, place);
+    let at = reader.at;
+    let answer = observation::read_observation_of(kind, payload, at);
+    reader.at = at_after(kind, payload, at);
     answer
-}
-
-// The place that the reader is asked about next.
-pub fn place<'a>(reader: ObsReader<'a>) -> usize
-    ensures { λ r. ⌜ r ≡ reader .entry .place ⌝ }
-{
-    reader.place
 }
 
 pub struct Stepped {
     pub answer: ObservationRead,
-    pub place: usize,
+    pub at: usize,
 }
 
-// What a reader at a place answers, and where it then stands.
-pub fn step_from(payload: &[u8], place: usize) -> Stepped
-    ensures { λ r. ⌜ (entryAnswer (r .answer) ≡ readEntry (now (payload .entry)) place) × (r .place ≡ placeAfter (now (payload .entry)) place) ⌝ }
+// What a reader answers at any place of a payload, and where it then stands.
+pub fn step_from(kind: u16, payload: &[u8], at: usize) -> Stepped
+    ensures { λ r. ⌜ (entryAnswer (r .answer) ≡ readEntryOf kind (now (payload .entry)) at) × (r .at ≡ atAfter kind (now (payload .entry)) at) ⌝ }
 {
-    let mut reader = made_at(payload, place);
+    let mut reader = ObsReader { kind, payload, at };
     let answer = next(&mut reader);
     Stepped {
         answer,
-        place: crate::place(reader),
+        at: reader.at,
     }
 }

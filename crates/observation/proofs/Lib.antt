@@ -1,9 +1,7 @@
-pub mod Layouts
-pub mod Rows
-pub mod RowsStored
-pub mod Payloads
+pub mod Editions
+pub mod ObsReading
+pub mod EntriesStored
 pub mod ObsWritten
 pub mod Phases
 pub mod PhaseBits
-pub mod ObsThrough
 pub mod Promises

@@ -13,7 +13,7 @@ use mir.Syntax.{w8, w32, w64}
 use mir.Val.{Fits, SFits, toZ, ofZ}
 use mir.ValLaws.{toZ-ofZ, toZ-pos, sfits-le}
 use Rattle.wire.specs.Refusals.{refused, given}
-use Rattle.wire.proofs.Answers.{passed, failed}
+use Rattle.wire.proofs.Distinct.{passed, failed}
 use Rattle.wire.proofs.Signed.{came-back, widened}
 use Rattle.observation.specs.Phase.{phaseOf, inPhase, partsOf, readPhase}
 use Rattle.observation.specs.declared.phase.Phase.{Phase}

@@ -1,4 +1,4 @@
--- What is promised of both base positions: the law of frames/proofs/Messages.antt, cited. Assumes nothing.
+-- What is promised of both base positions: the law of frames/proofs/Promised.antt, cited. Assumes nothing.
 use lib.Dec.{lit<}
 use Rattle.frames.specs.Faithful.{Faithful}
 use Rattle.frames.proofs.Promised.{faithful}
@@ -6,7 +6,7 @@ use Rattle.observation.specs.BasePosLlh.{basePosLlh}
 use Rattle.observation.specs.BasePosEcef.{basePosEcef}
 
 pub base-pos-llh : Faithful basePosLlh
-base-pos-llh = faithful basePosLlh (lit< tt)
+base-pos-llh = faithful basePosLlh (lit< tt) tt
 
 pub base-pos-ecef : Faithful basePosEcef
-base-pos-ecef = faithful basePosEcef (lit< tt)
+base-pos-ecef = faithful basePosEcef (lit< tt) tt

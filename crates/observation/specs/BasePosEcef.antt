@@ -2,6 +2,7 @@
 use mathlib.Core.Path.{refl}
 use mathlib.Core.List.{[], _∷_}
 use Rattle.wire.specs.Field.{any, double}
+use Rattle.wire.specs.Layout.{run}
 use Rattle.wire.specs.Description.{Description}
 use Rattle.wire.specs.Refusals.{refused, given, Answer}
 use Rattle.observation.specs.declared.base_pos_ecef.BasePosEcef.{BasePosEcef}
@@ -11,7 +12,7 @@ use Rattle.observation.specs.declared.base_pos_ecef.BasePosEcefRead.the-
 abbrev pub basePosEcef : Description BasePosEcef
 basePosEcef = record {
   kind = 0x0048;
-  fields = any double ∷ any double ∷ any double ∷ [];
+  layout = run (any double ∷ any double ∷ any double ∷ []);
   row = λ r. (r .x, (r .y, (r .z, tt)));
   make = λ v. record { x = v .0; y = v .1 .0; z = v .1 .1 .0 };
   row-make = λ v. refl;

@@ -2,6 +2,7 @@
 use mathlib.Core.Path.{refl}
 use mathlib.Core.List.{[], _∷_}
 use Rattle.wire.specs.Field.{any, double}
+use Rattle.wire.specs.Layout.{run}
 use Rattle.wire.specs.Description.{Description}
 use Rattle.wire.specs.Refusals.{refused, given, Answer}
 use Rattle.observation.specs.declared.base_pos_llh.BasePosLlh.{BasePosLlh}
@@ -11,7 +12,7 @@ use Rattle.observation.specs.declared.base_pos_llh.BasePosLlhRead.the-va
 abbrev pub basePosLlh : Description BasePosLlh
 basePosLlh = record {
   kind = 0x0044;
-  fields = any double ∷ any double ∷ any double ∷ [];
+  layout = run (any double ∷ any double ∷ any double ∷ []);
   row = λ r. (r .lat, (r .lon, (r .height, tt)));
   make = λ v. record { lat = v .0; lon = v .1 .0; height = v .1 .1 .0 };
   row-make = λ v. refl;

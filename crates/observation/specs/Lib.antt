@@ -1,4 +1,4 @@
-pub mod Layout
+pub mod Edition
 pub mod Obs
 pub mod ObsWriter
 pub mod Phase

@@ -1,31 +1,32 @@
--- OBS written: a header and up to 15 observations. Assumes nothing.
-use Prim.Native.Nat.{ℕ}
-use mathlib.Core.Bool.{cond}
-use mathlib.Core.List.{List}
+-- OBS written: a header and the first k of some observations, over the edition. Assumes nothing.
+use Prim.Native.Nat.{ℕ, _+_}
+use mathlib.Core.List.{List, _∷_, _++_}
 use lib.Dec.{leb}
-use lib.ListN.{length, take}
-use Rattle.wire.specs.Refusals.{refused, Answer}
-use Rattle.frames.specs.Writer.{planned, withFrame}
-use Rattle.frames.specs.declared.step.Frame.{Frame}
-use Rattle.observation.specs.Layout.{first, startOf}
-use Rattle.observation.specs.Obs.{Head, obsPayload}
-use Rattle.observation.specs.declared.entry.Observation.{Observation}
+use lib.ListN.{length, take, drop}
+use Rattle.wire.specs.Layout.{encodeBody}
+use Rattle.wire.specs.Refusals.{Answer, Tests, ordered, leaves}
+use Rattle.frames.specs.Frame.{frameBytes}
+use Rattle.frames.specs.Writer.{writingFrame}
+use Rattle.observation.specs.Edition.{Edition, Observed, obs, startOf, Head}
 use Rattle.observation.specs.declared.obs.Obs.{Obs}
 
+module _ {H O : Type 0} (e : Edition H O) where
+  -- 31 for more observations than the edition has, then 31 and 32 as every frame
+  abbrev pub writingObs : ℕ → ℕ → Tests
+  writingObs k room = (leb k (e .most), 31) ∷ writingFrame (startOf e k) room
+
+  unfoldable pub obsWriteAnswer : ℕ → ℕ → Answer ℕ
+  obsWriteAnswer k room = ordered (writingObs k room) (startOf e k + 8)
+
+  -- what is written: the header, and the first k of the observations
+  abbrev pub observed : H → ℕ → List O → Observed H O
+  observed h k os = record { header = h; observations = take k os }
+
+  -- the buffer after it: the frame and the bytes after it as they were, or all as it was
+  unfoldable pub obsWritten : ℕ → H → ℕ → List O → List ℕ → List ℕ
+  obsWritten sender h k os buf =
+      leaves (obsWriteAnswer k (length buf)) (frameBytes (e .kind) sender (encodeBody (obs e .layout) (obs e .row (observed h k os))) ++ drop (startOf e k + 8) buf) buf
+
+-- the header that the code's summary has
 abbrev pub headOf : Obs → Head
 headOf o = record { tow = o .tow; wn = o .wn; nObs = o .«n_obs» }
-
--- the payload: the header, and the first count of the observations
-abbrev pub payloadFor : Obs → List Observation → List ℕ
-payloadFor o entries = obsPayload (headOf o) (take (o .count) entries)
-
--- its frame, at the buffer's start
-abbrev pub obsFrame : ℕ → Obs → List Observation → Frame
-obsFrame sender o entries = record { at = 0; kind = first .kind; sender = sender; length = length (payloadFor o entries) }
-
--- 31 for over 15 observations, then 32: a payload of k observations ends where observation k would begin
-unfoldable pub obsWriteAnswer : Obs → ℕ → Answer ℕ
-obsWriteAnswer o room = cond (leb (o .count) (first .most)) (planned (startOf first (o .count)) room) (refused 31)
-
-unfoldable pub obsWritten : ℕ → Obs → List Observation → List ℕ → List ℕ
-obsWritten sender o entries buf = cond (leb (o .count) (first .most)) (withFrame (first .kind) sender (payloadFor o entries) buf) buf

@@ -1,9 +1,10 @@
 -- The carrier phase in 1/256 cycle: 256 × L.i + L.f, signed. Assumes nothing.
 use Prim.Native.Nat.{_-_, _/_, _%_}
-use mathlib.Core.Bool.{Bool, _&&_, cond}
+use mathlib.Core.Bool.{Bool, _&&_}
+use mathlib.Core.List.{[], _∷_}
 use lib.IntN.{ℤ, pos, negsuc, negℤ, _+ℤ_, _*ℤ_}
 use lib.Signed.{leZ}
-use Rattle.wire.specs.Refusals.{refused, given, Answer}
+use Rattle.wire.specs.Refusals.{refused, given, Answer, Tests, ordered}
 use Rattle.observation.specs.declared.phase.Phase.{Phase}
 use Rattle.observation.specs.declared.phase.PhaseParts.{PhaseParts}
 use Rattle.observation.specs.declared.phase.PhaseParts.the-variants.{Parts, Refused}
@@ -21,8 +22,11 @@ partsOf (pos n) = record { «l_i» = pos (n / 256); «l_f» = n % 256 }
 partsOf (negsuc n) = record { «l_i» = negsuc (n / 256); «l_f» = 255 - n % 256 }
 
 -- 33 outside the range
+abbrev pub phaseRange : ℤ → Tests
+phaseRange z = (inPhase z, 33) ∷ []
+
 unfoldable pub readPhase : ℤ → Answer Phase
-readPhase z = cond (inPhase z) (given (partsOf z)) (refused 33)
+readPhase z = ordered (phaseRange z) (partsOf z)
 
 abbrev pub partsAnswer : PhaseParts → Answer Phase
 partsAnswer (Parts p) = given p

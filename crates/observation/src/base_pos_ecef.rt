@@ -1,8 +1,8 @@
 // BASE_POS_ECEF, 0x0048: the base station, Earth centred, in m.
 ghost use mathlib.Core.Path.{_≡_};
 ghost use lib.ListN.{length};
-ghost use Rattle.wire.specs.Field.{decode, rowStored};
-ghost use Rattle.wire.specs.Description.{readAs};
+ghost use Rattle.wire.specs.Layout.{bodyStored};
+ghost use Rattle.wire.specs.Description.{inside, readAs};
 ghost use Rattle.frames.specs.Writer.{senderOf, writtenAnswer};
 ghost use Rattle.frames.specs.Faithful.{writeAnswer, writtenAs};
 ghost use Rattle.observation.specs.BasePosEcef.{basePosEcef, answerOf};
@@ -22,7 +22,7 @@ pub enum BasePosEcefRead {
 }
 
 fn take(s: &[u8]) -> BasePosEcef
-    ensures { λ r. ⌜ r ≡ basePosEcef .make (decode (basePosEcef .fields) (now (s .entry)) 0) ⌝ }
+    ensures { λ r. ⌜ r ≡ inside basePosEcef (now (s .entry)) ⌝ }
 {
     BasePosEcef {
         x: wire::read_double(s, 0),
@@ -32,7 +32,7 @@ fn take(s: &[u8]) -> BasePosEcef
 }
 
 fn put(buf: &mut [u8], r: BasePosEcef)
-    ensures { λ _. ⌜ now (buf .exit) ≡ rowStored (basePosEcef .fields) (basePosEcef .row r) (now (buf .entry)) 6 ⌝ }
+    ensures { λ _. ⌜ now (buf .exit) ≡ bodyStored (basePosEcef .layout) (basePosEcef .row r) (now (buf .entry)) 6 ⌝ }
 {
     wire::store_double(buf, 6, r.x);
     wire::store_double(buf, 14, r.y);

@@ -1,8 +1,8 @@
 // BASE_POS_LLH, 0x0044: the base station, in degrees and m.
 ghost use mathlib.Core.Path.{_≡_};
 ghost use lib.ListN.{length};
-ghost use Rattle.wire.specs.Field.{decode, rowStored};
-ghost use Rattle.wire.specs.Description.{readAs};
+ghost use Rattle.wire.specs.Layout.{bodyStored};
+ghost use Rattle.wire.specs.Description.{inside, readAs};
 ghost use Rattle.frames.specs.Writer.{senderOf, writtenAnswer};
 ghost use Rattle.frames.specs.Faithful.{writeAnswer, writtenAs};
 ghost use Rattle.observation.specs.BasePosLlh.{basePosLlh, answerOf};
@@ -22,7 +22,7 @@ pub enum BasePosLlhRead {
 }
 
 fn take(s: &[u8]) -> BasePosLlh
-    ensures { λ r. ⌜ r ≡ basePosLlh .make (decode (basePosLlh .fields) (now (s .entry)) 0) ⌝ }
+    ensures { λ r. ⌜ r ≡ inside basePosLlh (now (s .entry)) ⌝ }
 {
     BasePosLlh {
         lat: wire::read_double(s, 0),
@@ -32,7 +32,7 @@ fn take(s: &[u8]) -> BasePosLlh
 }
 
 fn put(buf: &mut [u8], r: BasePosLlh)
-    ensures { λ _. ⌜ now (buf .exit) ≡ rowStored (basePosLlh .fields) (basePosLlh .row r) (now (buf .entry)) 6 ⌝ }
+    ensures { λ _. ⌜ now (buf .exit) ≡ bodyStored (basePosLlh .layout) (basePosLlh .row r) (now (buf .entry)) 6 ⌝ }
 {
     wire::store_double(buf, 6, r.lat);
     wire::store_double(buf, 14, r.lon);

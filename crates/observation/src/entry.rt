@@ -1,7 +1,9 @@
 // One observation of an OBS payload.
 ghost use mathlib.Core.Path.{_≡_};
 ghost use Rattle.wire.specs.Field.{decode, rowStored};
-ghost use Rattle.observation.specs.Obs.{observation, readEntry, entryAnswer};
+ghost use Rattle.observation.specs.Edition.{observation, first};
+ghost use Rattle.observation.specs.Obs.{readEntry, readEntryOf, entryAnswer};
+use crate::obs::is_obs;
 use crate::obs::is_obs_length;
 
 // 003's P, L.i, L.f, cn0, lock, sid.sat, sid.code and sid.reserved.
@@ -52,7 +54,7 @@ pub fn put(buf: &mut [u8], r: Observation)
 
 // Observation i of a payload: 22 where the payload is no OBS, then 25 where it has no such observation.
 pub fn read_observation(s: &[u8], i: usize) -> ObservationRead
-    ensures { λ r. ⌜ entryAnswer r ≡ readEntry (now (s .entry)) i ⌝ }
+    ensures { λ r. ⌜ entryAnswer r ≡ readEntry first (now (s .entry)) i ⌝ }
 {
     if is_obs_length(s.len()) {
         if i < (s.len() - 7) / 16 {
@@ -63,4 +65,14 @@ pub fn read_observation(s: &[u8], i: usize) -> ObservationRead
         return ObservationRead::Refused(25);
     }
     ObservationRead::Refused(22)
+}
+
+// The same of a frame's payload by the frame's type: 21 where that is no observation type, then 22, 25.
+pub fn read_observation_of(kind: u16, s: &[u8], i: usize) -> ObservationRead
+    ensures { λ r. ⌜ entryAnswer r ≡ readEntryOf kind (now (s .entry)) i ⌝ }
+{
+    if is_obs(kind) {
+        return read_observation(s, i);
+    }
+    ObservationRead::Refused(21)
 }

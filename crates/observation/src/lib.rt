@@ -1,6 +1,6 @@
 // The observation messages of 003, section 6.3: OBS with its header and observations, the carrier phase, both base positions.
-// Read specs/Layout.antt (an edition's lengths and rows), specs/Obs.antt (header, observations, a whole payload) and specs/Phase.antt first,
-// then specs/ObsWriter.antt; the base positions are described as navigation's messages are.
+// Read specs/Edition.antt (an edition, its message, the first edition's fields), specs/Obs.antt (reading), specs/ObsWriter.antt and specs/Phase.antt; the
+// base positions are described as navigation's messages are.
 mod base_pos_ecef;
 mod base_pos_llh;
 mod entry;
@@ -19,8 +19,10 @@ pub use base_pos_llh::write_base_pos_llh;
 pub use entry::Observation;
 pub use entry::ObservationRead;
 pub use entry::read_observation;
+pub use entry::read_observation_of;
 pub use obs::Obs;
 pub use obs::ObsRead;
+pub use obs::is_obs;
 pub use obs::read_obs;
 pub use obs_write::write_obs;
 pub use phase::Phase;

@@ -1,6 +1,6 @@
 // OBS, 0x0049: the header and the number of observations that follow.
 ghost use mathlib.Core.Path.{_≡_};
-ghost use Rattle.observation.specs.Layout.{first, fitting};
+ghost use Rattle.observation.specs.Edition.{fitting, first, isObs};
 ghost use Rattle.observation.specs.Obs.{readObs, obsAnswer};
 
 // The observations themselves stay in the payload: `read_observation` gives one by its index, below count.
@@ -14,6 +14,13 @@ pub struct Obs {
 pub enum ObsRead {
     Record(Obs),
     Refused(u8),
+}
+
+// Whether a frame of this type is an observation frame.
+pub fn is_obs(kind: u16) -> bool
+    ensures { λ r. ⌜ r ≡ isObs kind ⌝ }
+{
+    kind == 0x0049
 }
 
 // Whether a payload of n bytes is an OBS: 16k + 7 with k from 0 to 15.

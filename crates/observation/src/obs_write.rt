@@ -2,11 +2,11 @@
 ghost use Prim.Native.Nat.{_+_, _*_, _≤_};
 ghost use mathlib.Core.Path.{_≡_};
 ghost use lib.ListN.{length, take};
-ghost use lib.Seq.{sets};
 ghost use Rattle.wire.specs.Field.{rowStored};
+ghost use Rattle.wire.specs.Layout.{rowsStored};
+ghost use Rattle.wire.specs.Description.{rowsOf};
 ghost use Rattle.frames.specs.Writer.{senderOf, writtenAnswer};
-ghost use Rattle.observation.specs.Layout.{rowsBytes};
-ghost use Rattle.observation.specs.Obs.{head, observation};
+ghost use Rattle.observation.specs.Edition.{head, observation, first};
 ghost use Rattle.observation.specs.ObsWriter.{headOf, obsWriteAnswer, obsWritten};
 use crate::entry::Observation;
 use crate::entry::put;
@@ -27,7 +27,7 @@ fn put_head(buf: &mut [u8], obs: Obs)
 fn put_entries(buf: &mut [u8], entries: [Observation; 15], k: usize)
     requires { ⌜ k ≤ 15 ⌝ }
     requires { ⌜ 13 + k * 16 ≤ length (now buf) ⌝ }
-    ensures { λ _. ⌜ now (buf .exit) ≡ sets (now (buf .entry)) 13 (rowsBytes observation (take k entries)) ⌝ }
+    ensures { λ _. ⌜ now (buf .exit) ≡ rowsStored (observation .fields) (rowsOf observation (take k entries)) (now (buf .entry)) 13 ⌝ }
 {
     let mut i = 0;
     while i < k {
@@ -40,8 +40,8 @@ fn put_entries(buf: &mut [u8], entries: [Observation; 15], k: usize)
 
 // A header and the first count of the observations: 31 for over 15, then 32.
 pub fn write_obs(buf: &mut [u8], sender: Sender, obs: Obs, entries: [Observation; 15]) -> Written
-    ensures { λ w. ⌜ writtenAnswer w ≡ obsWriteAnswer obs (length (now (buf .entry))) ⌝ }
-    ensures { λ _. ⌜ now (buf .exit) ≡ obsWritten (senderOf sender) obs entries (now (buf .entry)) ⌝ }
+    ensures { λ w. ⌜ writtenAnswer w ≡ obsWriteAnswer first (obs .count) (length (now (buf .entry))) ⌝ }
+    ensures { λ _. ⌜ now (buf .exit) ≡ obsWritten first (senderOf sender) (headOf obs) (obs .count) entries (now (buf .entry)) ⌝ }
 {
     let k = obs.count as usize;
     if 15 < k {

@@ -10,7 +10,7 @@ use lib.Seq.{sets, sets-eq, length-sets, take-append-seam}
 use borrow.Author.Tests.{le-leb, lt-leb, leb-true, leb-false}
 use Rattle.wire.specs.Number.{Bytes}
 use Rattle.wire.specs.Refusals.{refused, given, Answer}
-use Rattle.wire.proofs.Answers.{same-given, never-both}
+use Rattle.wire.proofs.Distinct.{same-given, never-both}
 use Rattle.text.specs.Decimal.{digitsOf}
 use Rattle.text.specs.Line.{line}
 use Rattle.listing.specs.Listing.{textOf, listAnswer, listedAs, listed, output}

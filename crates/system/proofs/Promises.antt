@@ -1,4 +1,4 @@
--- What is promised of each message: the law of frames/proofs/Messages.antt, cited. Assumes nothing.
+-- What is promised of each message: the law of frames/proofs/Promised.antt, cited. Assumes nothing.
 use lib.Dec.{lit<}
 use Rattle.frames.specs.Faithful.{Faithful}
 use Rattle.frames.proofs.Promised.{faithful}
@@ -8,16 +8,16 @@ use Rattle.system.specs.Startup.{startup}
 use Rattle.system.specs.Heartbeat.{heartbeat}
 
 pub settings-save : Faithful settingsSave
-settings-save = faithful settingsSave (lit< tt)
+settings-save = faithful settingsSave (lit< tt) tt
 
 pub read-by-index-done : Faithful readByIndexDone
-read-by-index-done = faithful readByIndexDone (lit< tt)
+read-by-index-done = faithful readByIndexDone (lit< tt) tt
 
 pub read-by-index-req : Faithful readByIndexReq
-read-by-index-req = faithful readByIndexReq (lit< tt)
+read-by-index-req = faithful readByIndexReq (lit< tt) tt
 
 pub start-up : Faithful startup
-start-up = faithful startup (lit< tt)
+start-up = faithful startup (lit< tt) tt
 
 pub heart-beat : Faithful heartbeat
-heart-beat = faithful heartbeat (lit< tt)
+heart-beat = faithful heartbeat (lit< tt) tt

@@ -2,6 +2,7 @@
 use Prim.Native.Nat.{ℕ}
 use mathlib.Core.Path.{refl}
 use mathlib.Core.List.{[]}
+use Rattle.wire.specs.Layout.{run}
 use Rattle.wire.specs.Description.{Description}
 use Rattle.wire.specs.Refusals.{refused, given, Answer}
 use Rattle.system.specs.declared.empty.EmptyRead.{EmptyRead}
@@ -9,7 +10,7 @@ use Rattle.system.specs.declared.empty.EmptyRead.the-variants.{Empty, Re
 
 -- there is one record with no fields
 abbrev pub empty : ℕ → Description (Unit {0})
-empty kind = record { kind = kind; fields = []; row = λ r. tt; make = λ v. tt; row-make = λ v. refl; make-row = λ r. refl }
+empty kind = record { kind = kind; layout = run []; row = λ r. tt; make = λ v. tt; row-make = λ v. refl; make-row = λ r. refl }
 
 abbrev pub settingsSave : Description (Unit {0})
 settingsSave = empty 0x00a1

@@ -2,6 +2,7 @@
 use mathlib.Core.Path.{refl}
 use mathlib.Core.List.{[], _∷_}
 use Rattle.wire.specs.Field.{any, u32}
+use Rattle.wire.specs.Layout.{run}
 use Rattle.wire.specs.Description.{Description}
 use Rattle.wire.specs.Refusals.{refused, given, Answer}
 use Rattle.system.specs.declared.heartbeat.Heartbeat.{Heartbeat}
@@ -11,7 +12,7 @@ use Rattle.system.specs.declared.heartbeat.HeartbeatRead.the-variants.{R
 abbrev pub heartbeat : Description Heartbeat
 heartbeat = record {
   kind = 0xffff;
-  fields = any u32 ∷ [];
+  layout = run (any u32 ∷ []);
   row = λ r. (r .flags, tt);
   make = λ v. record { flags = v .0 };
   row-make = λ v. refl;

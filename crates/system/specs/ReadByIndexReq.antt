@@ -2,6 +2,7 @@
 use mathlib.Core.Path.{refl}
 use mathlib.Core.List.{[], _∷_}
 use Rattle.wire.specs.Field.{any, u16}
+use Rattle.wire.specs.Layout.{run}
 use Rattle.wire.specs.Description.{Description}
 use Rattle.wire.specs.Refusals.{refused, given, Answer}
 use Rattle.system.specs.declared.settings.ReadByIndexReq.{ReadByIndexReq}
@@ -11,7 +12,7 @@ use Rattle.system.specs.declared.settings.ReadByIndexReqRead.the-variant
 abbrev pub readByIndexReq : Description ReadByIndexReq
 readByIndexReq = record {
   kind = 0x00a2;
-  fields = any u16 ∷ [];
+  layout = run (any u16 ∷ []);
   row = λ r. (r .index, tt);
   make = λ v. record { index = v .0 };
   row-make = λ v. refl;

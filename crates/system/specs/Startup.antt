@@ -2,6 +2,7 @@
 use mathlib.Core.Path.{refl}
 use mathlib.Core.List.{[], _∷_}
 use Rattle.wire.specs.Field.{any, u32}
+use Rattle.wire.specs.Layout.{run}
 use Rattle.wire.specs.Description.{Description}
 use Rattle.wire.specs.Refusals.{refused, given, Answer}
 use Rattle.system.specs.declared.startup.Startup.{Startup}
@@ -11,7 +12,7 @@ use Rattle.system.specs.declared.startup.StartupRead.the-variants.{Recor
 abbrev pub startup : Description Startup
 startup = record {
   kind = 0xff00;
-  fields = any u32 ∷ [];
+  layout = run (any u32 ∷ []);
   row = λ r. (r .reserved, tt);
   make = λ v. record { reserved = v .0 };
   row-make = λ v. refl;

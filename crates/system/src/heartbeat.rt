@@ -1,8 +1,8 @@
 // HEARTBEAT, 0xFFFF: the device runs, with its status flags.
 ghost use mathlib.Core.Path.{_≡_};
 ghost use lib.ListN.{length};
-ghost use Rattle.wire.specs.Field.{decode, rowStored};
-ghost use Rattle.wire.specs.Description.{readAs};
+ghost use Rattle.wire.specs.Layout.{bodyStored};
+ghost use Rattle.wire.specs.Description.{inside, readAs};
 ghost use Rattle.frames.specs.Writer.{senderOf, writtenAnswer};
 ghost use Rattle.frames.specs.Faithful.{writeAnswer, writtenAs};
 ghost use Rattle.system.specs.Heartbeat.{heartbeat, answerOf};
@@ -19,7 +19,7 @@ pub enum HeartbeatRead {
 }
 
 fn take(s: &[u8]) -> Heartbeat
-    ensures { λ r. ⌜ r ≡ heartbeat .make (decode (heartbeat .fields) (now (s .entry)) 0) ⌝ }
+    ensures { λ r. ⌜ r ≡ inside heartbeat (now (s .entry)) ⌝ }
 {
     Heartbeat {
         flags: wire::read_u32(s, 0),
@@ -27,7 +27,7 @@ fn take(s: &[u8]) -> Heartbeat
 }
 
 fn put(buf: &mut [u8], r: Heartbeat)
-    ensures { λ _. ⌜ now (buf .exit) ≡ rowStored (heartbeat .fields) (heartbeat .row r) (now (buf .entry)) 6 ⌝ }
+    ensures { λ _. ⌜ now (buf .exit) ≡ bodyStored (heartbeat .layout) (heartbeat .row r) (now (buf .entry)) 6 ⌝ }
 {
     wire::store_u32(buf, 6, r.flags);
 }

@@ -1,8 +1,8 @@
 // READ_BY_INDEX_REQ, 0x00A2: asks for the setting at an index.
 ghost use mathlib.Core.Path.{_≡_};
 ghost use lib.ListN.{length};
-ghost use Rattle.wire.specs.Field.{decode, rowStored};
-ghost use Rattle.wire.specs.Description.{readAs};
+ghost use Rattle.wire.specs.Layout.{bodyStored};
+ghost use Rattle.wire.specs.Description.{inside, readAs};
 ghost use Rattle.frames.specs.Writer.{senderOf, writtenAnswer};
 ghost use Rattle.frames.specs.Faithful.{writeAnswer, writtenAs};
 ghost use Rattle.system.specs.ReadByIndexReq.{readByIndexReq, answerOf};
@@ -19,7 +19,7 @@ pub enum ReadByIndexReqRead {
 }
 
 fn take(s: &[u8]) -> ReadByIndexReq
-    ensures { λ r. ⌜ r ≡ readByIndexReq .make (decode (readByIndexReq .fields) (now (s .entry)) 0) ⌝ }
+    ensures { λ r. ⌜ r ≡ inside readByIndexReq (now (s .entry)) ⌝ }
 {
     ReadByIndexReq {
         index: wire::read_u16(s, 0),
@@ -27,7 +27,7 @@ fn take(s: &[u8]) -> ReadByIndexReq
 }
 
 fn put(buf: &mut [u8], r: ReadByIndexReq)
-    ensures { λ _. ⌜ now (buf .exit) ≡ rowStored (readByIndexReq .fields) (readByIndexReq .row r) (now (buf .entry)) 6 ⌝ }
+    ensures { λ _. ⌜ now (buf .exit) ≡ bodyStored (readByIndexReq .layout) (readByIndexReq .row r) (now (buf .entry)) 6 ⌝ }
 {
     wire::store_u16(buf, 6, r.index);
 }

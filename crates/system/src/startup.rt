@@ -1,8 +1,8 @@
 // STARTUP, 0xFF00: the device has started.
 ghost use mathlib.Core.Path.{_≡_};
 ghost use lib.ListN.{length};
-ghost use Rattle.wire.specs.Field.{decode, rowStored};
-ghost use Rattle.wire.specs.Description.{readAs};
+ghost use Rattle.wire.specs.Layout.{bodyStored};
+ghost use Rattle.wire.specs.Description.{inside, readAs};
 ghost use Rattle.frames.specs.Writer.{senderOf, writtenAnswer};
 ghost use Rattle.frames.specs.Faithful.{writeAnswer, writtenAs};
 ghost use Rattle.system.specs.Startup.{startup, answerOf};
@@ -19,7 +19,7 @@ pub enum StartupRead {
 }
 
 fn take(s: &[u8]) -> Startup
-    ensures { λ r. ⌜ r ≡ startup .make (decode (startup .fields) (now (s .entry)) 0) ⌝ }
+    ensures { λ r. ⌜ r ≡ inside startup (now (s .entry)) ⌝ }
 {
     Startup {
         reserved: wire::read_u32(s, 0),
@@ -27,7 +27,7 @@ fn take(s: &[u8]) -> Startup
 }
 
 fn put(buf: &mut [u8], r: Startup)
-    ensures { λ _. ⌜ now (buf .exit) ≡ rowStored (startup .fields) (startup .row r) (now (buf .entry)) 6 ⌝ }
+    ensures { λ _. ⌜ now (buf .exit) ≡ bodyStored (startup .layout) (startup .row r) (now (buf .entry)) 6 ⌝ }
 {
     wire::store_u32(buf, 6, r.reserved);
 }

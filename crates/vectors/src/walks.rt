@@ -37,7 +37,7 @@ fn on(cursor: Cursor, s: &[u8]) -> Cursor {
     match cursor.next(s) {
         Next::Frame(f, after) => {
             if f.sender == 0 {
-                walk(frames::payload(s, f));
+                walk(f.kind, frames::payload(s, f));
             }
             after
         }
@@ -46,22 +46,22 @@ fn on(cursor: Cursor, s: &[u8]) -> Cursor {
     }
 }
 
-fn walk(payload: &[u8]) {
+fn walk(kind: u16, payload: &[u8]) {
     print::word(b"walk");
     print::number(payload.len() as u64);
-    let mut place = ask(payload, 0);
-    place = ask(payload, place);
-    place = ask(payload, place);
-    place = ask(payload, place);
-    ask(payload, place);
+    let mut at = ask(kind, payload, 0);
+    at = ask(kind, payload, at);
+    at = ask(kind, payload, at);
+    at = ask(kind, payload, at);
+    ask(kind, payload, at);
     print::end();
 }
 
-fn ask(payload: &[u8], place: usize) -> usize {
-    let step = obs_reader::step_from(payload, place);
+fn ask(kind: u16, payload: &[u8], at: usize) -> usize {
+    let step = obs_reader::step_from(kind, payload, at);
     let answer = step.answer;
     observations::say(answer);
     print::word(b" at");
-    print::number(step.place as u64);
-    step.place
+    print::number(step.at as u64);
+    step.at
 }

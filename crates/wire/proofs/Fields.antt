@@ -1,20 +1,21 @@
 -- Both round trips, once for every description of fields: what is encoded decodes to the same bits, and bytes of the right length decode
 -- and encode to the same bytes. And a row stored value after value is its bytes stored. Assumes nothing.
 use mathlib.Core.Path.{_≡_, refl, sym, ap, ap₂, _∙_}
-use mathlib.Core.Bool.{_&&_}
-use mathlib.Core.List.{List, [], _∷_, _++_}
-use Prim.Native.Nat.{ℕ, _+_, _/_, _^_, _≤_, _<_}
-use native.Mathlib.Nat.{suc-ne-zero}
+use mathlib.Core.Bool.{Bool, _&&_, and-assoc}
+use mathlib.Core.List.{List, [], _∷_, _++_, append-assoc}
+use Prim.Native.Nat.{ℕ, zero, suc, _+_, _/_, _^_, _≤_, _<_}
+use native.Mathlib.Nat.{suc-ne-zero, zero-add, add-zero, suc-add, add-assoc}
 use native.Mathlib.Omega.{arith}
 use lib.IntN.{ℤ}
 use lib.Signed.{mag}
 use lib.ListN.{length, take, drop, length-append, length-drop, take-append-drop}
-use lib.Seq.{sets, drop-drop, take-at, drop-at, length-take-le}
+use lib.Seq.{sets, drop-drop, take-nil, take-take, take-at, drop-at, length-take-le}
 use mir.Syntax.{Width, w8, w16, w32, w64, w128}
 use mir.Val.{bits, hbits, SFits, toZ, ofZ}
 use mir.ValLaws.{toZ-ofZ, ofZ-toZ, ofZ-fits}
 use Rattle.wire.specs.Number.{Bytes, little, bytesOf, numberAt, storedAt}
 use Rattle.wire.specs.Field.{Format, unsigned, signed, double, width, Value, Held, bitsOf, valueOf, valueAt, valueStored, Field, any, ranged, rangedSigned, formatOf, allowed, Row, HeldRow, SettledRow, Settled, allowedRow, rowBits, size, encode, decode, rowStored}
+use Rattle.wire.specs.Layout.{joined}
 use Rattle.wire.proofs.Numbers.{bytes-take, bytes-drop, little-lt, number-lt, length-bytesOf, little-bytesOf, bytesOf-little, stored-sets, length-stored, sets-append}
 use Rattle.wire.proofs.Doubles.{bits-doubleOf, doubleBits-lt}
 
@@ -129,6 +130,71 @@ encode-decode fs s h e = ap (encode fs) (decode-front fs s 0) ∙ front-encoded 
 pub decode-settled : (fs : List Field) (s : List ℕ) (at : ℕ) → Bytes s → SettledRow fs (decode fs s at)
 decode-settled [] s at h = tt
 decode-settled (f ∷ fs) s at h = (value-settled (formatOf f) (numberAt (width (formatOf f)) s at) (number-lt (width (formatOf f)) s at h), decode-settled fs s (at + width (formatOf f)) h)
+
+-- ---- a row among other bytes
+
+-- at an offset it is the row of what stands from there on
+pub decode-drop : (fs : List Field) (s : List ℕ) (at : ℕ) → decode fs s at ≡ decode fs (drop at s) 0
+decode-drop fs s at = decode-front fs s at ∙ sym (decode-front fs (drop at s) 0)
+
+drop-take : (n m : ℕ) (t : List ℕ) → drop n (take (n + m) t) ≡ take m (drop n t)
+drop-take zero m t = rw zero-add
+drop-take (suc n) m [] = rw suc-add (sym (take-nil m))
+drop-take (suc n) m (b ∷ t) = rw suc-add (drop-take n m t)
+
+-- and only its own bytes count
+front-take : (fs : List Field) (t : List ℕ) (m : ℕ) → decodeFront fs (take (size fs + m) t) ≡ decodeFront fs t
+front-take [] t m = refl
+front-take (f ∷ fs) t m =
+    let w = width (formatOf f) in
+    let split : w + size fs + m ≡ w + (size fs + m) = omega arith in
+    let first : take w (take (w + size fs + m) t) ≡ take w t = take-take w (w + size fs + m) t (omega arith) in
+    let rest : decodeFront fs (drop w (take (w + size fs + m) t)) ≡ decodeFront fs (drop w t)
+    = ap (λ (k : ℕ). decodeFront fs (drop w (take k t))) split ∙ ap (decodeFront fs) (drop-take w (size fs + m) t) ∙ front-take fs (drop w t) m in
+    λ i. (valueOf (formatOf f) (little (first i)), rest i)
+
+pub decode-take : (fs : List Field) (s : List ℕ) → decode fs (take (size fs) s) 0 ≡ decode fs s 0
+decode-take fs s =
+    decode-front fs (take (size fs) s) 0
+    ∙ ap (λ (k : ℕ). decodeFront fs (take k s)) (sym (add-zero (size fs)))
+    ∙ front-take fs s 0
+    ∙ sym (decode-front fs s 0)
+
+-- what stands after them does not
+pub decode-append : (fs : List Field) (s t : List ℕ) → length s ≡ size fs → decode fs (s ++ t) 0 ≡ decode fs s 0
+decode-append fs s t e = sym (decode-take fs (s ++ t)) ∙ ap (λ (u : List ℕ). decode fs u 0) (take-at s t (size fs) e)
+
+-- ---- two runs as one
+
+module _ (gs : List Field) where
+  pub size-joined : (fs : List Field) → size (fs ++ gs) ≡ size fs + size gs
+  size-joined [] = sym (zero-add (size gs))
+  size-joined (f ∷ fs) = ap (λ (n : ℕ). width (formatOf f) + n) (size-joined fs) ∙ sym (add-assoc (width (formatOf f)) (size fs) (size gs))
+
+  pub encode-joined : (fs : List Field) (v : Row fs) (w : Row gs) → encode (fs ++ gs) (joined fs gs v w) ≡ encode fs v ++ encode gs w
+  encode-joined [] v w = refl
+  encode-joined (f ∷ fs) v w =
+      let bs = bytesOf (width (formatOf f)) (bitsOf (formatOf f) (v .0)) in
+      ap (λ (t : List ℕ). bs ++ t) (encode-joined fs (v .1) w) ∙ sym (append-assoc bs (encode fs (v .1)) (encode gs w))
+
+  pub decode-joined : (fs : List Field) (s : List ℕ) (at : ℕ) → decode (fs ++ gs) s at ≡ joined fs gs (decode fs s at) (decode gs s (at + size fs))
+  decode-joined [] s at = ap (decode gs s) (sym (add-zero at))
+  decode-joined (f ∷ fs) s at =
+      let k = formatOf f in
+      ap (λ (r : Row (fs ++ gs)). (valueAt k s at, r))
+      (decode-joined fs s (at + width k) ∙ ap (λ (n : ℕ). joined fs gs (decode fs s (at + width k)) (decode gs s n)) (add-assoc at (width k) (size fs)))
+
+  pub stored-joined : (fs : List Field) (v : Row fs) (w : Row gs) (s : List ℕ) (at : ℕ)
+      → rowStored (fs ++ gs) (joined fs gs v w) s at ≡ rowStored gs w (rowStored fs v s at) (at + size fs)
+  stored-joined [] v w s at = ap (rowStored gs w s) (sym (add-zero at))
+  stored-joined (f ∷ fs) v w s at =
+      let k = formatOf f in
+      stored-joined fs (v .1) w (valueStored k (v .0) s at) (at + width k)
+      ∙ ap (rowStored gs w (rowStored fs (v .1) (valueStored k (v .0) s at) (at + width k))) (add-assoc at (width k) (size fs))
+
+  pub allowed-joined : (fs : List Field) (v : Row fs) (w : Row gs) → allowedRow (fs ++ gs) (joined fs gs v w) ≡ (allowedRow fs v && allowedRow gs w)
+  allowed-joined [] v w = refl
+  allowed-joined (f ∷ fs) v w = ap (λ (t : Bool). allowed f (v .0) && t) (allowed-joined fs (v .1) w) ∙ sym (and-assoc (allowed f (v .0)) (allowedRow fs (v .1)) (allowedRow gs w))
 
 -- ---- storing
 

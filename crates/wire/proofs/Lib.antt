@@ -2,7 +2,9 @@ pub mod Numbers
 pub mod Signed
 pub mod Doubles
 pub mod Fields
-pub mod Answers
+pub mod Layouts
+pub mod Copies
+pub mod Distinct
 pub mod Ordered
 pub mod Descriptions
-pub mod Flags
+pub mod OneBit

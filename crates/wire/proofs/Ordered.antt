@@ -5,7 +5,7 @@ use mathlib.Core.List.{[], _∷_}
 use mathlib.Core.Logic.{_↔_, inl, inr}
 use Prim.Native.Nat.{ℕ}
 use Rattle.wire.specs.Refusals.{refused, given, Tests, ordered, FirstFails, AllPass}
-use Rattle.wire.proofs.Answers.{same-given, never-both, same-refused}
+use Rattle.wire.proofs.Distinct.{same-given, never-both, same-refused}
 
 module _ {A : Type 0} (x : A) where
   refused-first : (ts : Tests) (n : ℕ) → ordered ts x ≡ refused n → FirstFails ts n

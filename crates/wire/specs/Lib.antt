@@ -1,5 +1,6 @@
 pub mod Number
 pub mod Double
 pub mod Field
+pub mod Layout
 pub mod Refusals
 pub mod Description

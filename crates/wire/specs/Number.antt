@@ -31,6 +31,10 @@ unfoldable pub storedAt : ℕ → ℕ → List ℕ → ℕ → List ℕ
 unfolding bytesOf
 storedAt w n s at = cond (leb (at + w) (length s)) (sets s at (bytesOf w n)) s
 
+-- s with bytes stored from an offset on, whole or not at all
+unfoldable pub bytesStored : List ℕ → List ℕ → ℕ → List ℕ
+bytesStored bs s at = cond (leb (at + length bs) (length s)) (sets s at bs) s
+
 -- bit k of a number, the lowest being bit 0
 unfoldable pub flagAt : ℕ → ℕ → Bool
 flagAt n k = eqb (n / 2 ^ k % 2) 1

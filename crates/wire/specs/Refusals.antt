@@ -21,6 +21,11 @@ abbrev pub ordered : {A : Type 0} → Tests → A → Answer A
 ordered [] x = given x
 ordered (t ∷ ts) x = cond (t .0) (ordered ts x) (refused (t .1))
 
+-- what a call leaves of something lent: it made the new, or was refused and left it as it was
+abbrev pub leaves : {A B : Type 0} → Answer A → B → B → B
+leaves (given x) new old = new
+leaves (refused n) new old = old
+
 -- n is the number of the first test that fails
 abbrev pub FirstFails : Tests → ℕ → Type 0
 FirstFails [] n = ⊥

@@ -1,5 +1,6 @@
 // Numbers and doubles in bytes, little-endian, and the description of fields that every message is made of.
-// Read specs/Number.antt and specs/Double.antt first, then specs/Field.antt and specs/Description.antt.
+// Read specs/Number.antt and specs/Double.antt first, then specs/Field.antt, specs/Layout.antt and
+// specs/Description.antt.
 // Nothing here has a requires: a byte past the end reads 0, a store that runs past the end changes nothing.
 mod bits;
 mod double;
@@ -15,6 +16,7 @@ pub use read::read_u8;
 pub use read::read_u16;
 pub use read::read_u32;
 pub use read::read_u64;
+pub use store::store_bytes;
 pub use store::store_double;
 pub use store::store_s16;
 pub use store::store_s32;

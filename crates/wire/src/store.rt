@@ -4,6 +4,7 @@ ghost use Prim.Native.Nat.{_+_};
 ghost use lib.Dec.{leb};
 ghost use mir.Syntax.{w16, w32};
 ghost use mir.Val.{ofZ};
+ghost use Rattle.wire.specs.Number.{bytesStored};
 ghost use Rattle.wire.specs.Field.{valueStored, u8, u16, u32, u64, s16, s32, double};
 use crate::double::Double;
 
@@ -81,4 +82,16 @@ pub fn store_double(buf: &mut [u8], at: usize, v: Double)
     ensures { λ _. ⌜ now (buf .exit) ≡ valueStored double v (now (buf .entry)) at ⌝ }
 {
     store_u64(buf, at, v.bits());
+}
+
+pub fn store_bytes(buf: &mut [u8], at: usize, bytes: &[u8])
+    ensures { λ _. ⌜ now (buf .exit) ≡ bytesStored (now (bytes .entry)) (now (buf .entry)) at ⌝ }
+{
+    if room(buf.len(), at, bytes.len()) {
+        let mut i = 0;
+        while i < bytes.len() {
+            buf[at + i] = bytes[i];
+            i += 1;
+        }
+    }
 }

@@ -3,7 +3,7 @@
 use mathlib.Core.Path.{sym, ap, _∙_}
 use borrow.Author.Needs.{needs}
 use lib.ListN.{length}
-use Rattle.frames.proofs.Walks.{Walking, left, left-fewer, never-needs}
+use Rattle.frames.proofs.CursorLoops.{Walking, left, left-fewer, never-needs}
 use Rattle.epochs.specs.Epoch.{contentsOf}
 use Rattle.epochs.specs.Capture.{fedAll, collated}
 use Rattle.epochs.specs.declared.capturing.Collated.{Collated}

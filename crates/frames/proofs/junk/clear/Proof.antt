@@ -9,7 +9,7 @@ use lib.Dec.{eqb, leb}
 use lib.ListN.{length, drop, length-drop}
 use lib.Seq.{getD-drop}
 use Rattle.frames.specs.Junk.{junkRun}
-use Rattle.frames.proofs.Runs.{Hit, hit-none, hit-more}
+use Rattle.frames.proofs.JunkRuns.{Hit, hit-none, hit-more}
 use Rattle.frames.proofs.junk.clear.Statement.{statement}
 use Rattle.frames.proofs.junk.clear.Tie as tie
 

@@ -4,7 +4,7 @@ use Prim.Native.Nat.{_-_}
 use native.Mathlib.Omega.{arith}
 use borrow.Author.Needs.{needs}
 use lib.ListN.{length}
-use Rattle.frames.proofs.Runs.{Reaches, reaches-more, reaches-mark, reaches-end}
+use Rattle.frames.proofs.JunkRuns.{Reaches, reaches-more, reaches-mark, reaches-end}
 use Rattle.frames.proofs.junk.junk_run.Statement.{statement}
 use Rattle.frames.proofs.junk.junk_run.Tie as tie
 

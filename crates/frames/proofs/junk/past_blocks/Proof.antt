@@ -7,7 +7,7 @@ use borrow.Author.Needs.{needs}
 use borrow.Author.Tests.{leb-true}
 use lib.ListN.{length, drop}
 use Rattle.frames.specs.Junk.{junkRun}
-use Rattle.frames.proofs.Runs.{Reaches, reaches-on}
+use Rattle.frames.proofs.JunkRuns.{Reaches, reaches-on}
 use Rattle.frames.proofs.junk.past_blocks.Statement.{statement}
 use Rattle.frames.proofs.junk.past_blocks.Tie as tie
 

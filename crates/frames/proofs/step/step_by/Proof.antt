@@ -6,14 +6,15 @@ use native.Mathlib.Omega.{arith}
 use borrow.Author.Needs.{needs}
 use Rattle.wire.specs.Number.{Bytes}
 use Rattle.frames.specs.declared.step.Step.the-variants.{Found}
-use Rattle.frames.proofs.Steps.{size, finished, junk, headless, cut, bad, found, decides, summed}
+use Rattle.frames.proofs.Steps.{only, summed}
+use Rattle.frames.specs.Decides.{found, bad, cut, headless, junk, finished, size}
 use Rattle.frames.proofs.step.step_by.Statement.{statement}
 use Rattle.frames.proofs.step.step_by.Tie as tie
 
 returns : tie.Need-returns
 returns c =
     let a = c .before .before .args in
-    decides (a .s .now) (a .at) (finished (c .if1 .taken))
+    only (a .s .now) (a .at) (finished (c .if1 .taken))
 
 shared-slice-read-if2 : tie.Need-shared-slice-read-if2
 shared-slice-read-if2 c = search needs
@@ -21,7 +22,7 @@ shared-slice-read-if2 c = search needs
 returns-2 : tie.Need-returns-2
 returns-2 c =
     let a = c .before .before .before .before .args in
-    decides (a .s .now) (a .at) (junk (c .before .before .if1 .left) (c .if2 .taken))
+    only (a .s .now) (a .at) (junk (c .before .before .if1 .left) (c .if2 .taken))
 
 sub-left : tie.Need-sub-left
 sub-left c = search needs
@@ -29,7 +30,7 @@ sub-left c = search needs
 returns-3 : tie.Need-returns-3
 returns-3 c =
     let a = c .before .before .before .before .before .args in
-    decides (a .s .now) (a .at) (headless (c .before .before .before .if1 .left) (c .before .if2 .left) (c .if3 .taken))
+    only (a .s .now) (a .at) (headless (c .before .before .before .if1 .left) (c .before .if2 .left) (c .if3 .taken))
 
 add-length : tie.Need-add-length
 add-length c = search needs
@@ -49,7 +50,7 @@ add-t14 c = omega (arith, c .before .shared-slice-known3 .given (c .before .befo
 returns-4 : tie.Need-returns-4
 returns-4 c =
     let a = c .before .before .before .before .before .before .before .args in
-    decides (a .s .now) (a .at) (cut (c .before .before .before .if2 .left) (c .before .before .if3 .left) (omega arith))
+    only (a .s .now) (a .at) (cut (c .before .before .before .if2 .left) (c .before .before .if3 .left) (omega arith))
 
 add-first : tie.Need-add-first
 add-first c = search needs
@@ -81,7 +82,7 @@ returns-5 c =
     let start = c .before .before .before .before .before .before .before .before .before .before .before in
     let bytes : Bytes (a .s .now) = λ i. c .before .before .before .before .before .before .before .before .before .before .shared-slice-known .given i .fits in
     let same = summed (a .s .now) (a .at) (a .table .now) (start .pre) bytes (c .before .before .crc-by .ensures) in
-    decides (a .s .now) (a .at) (bad (c .before .before .before .before .before .before .before .if2 .left) (omega (arith, c .before .before .before .before .if4 .left)) (λ e. c .if5 .taken (same ∙ e ∙ sym (c .before .read-u16 .ensures))))
+    only (a .s .now) (a .at) (bad (c .before .before .before .before .before .before .before .if2 .left) (omega (arith, c .before .before .before .before .if4 .left)) (λ e. c .if5 .taken (same ∙ e ∙ sym (c .before .read-u16 .ensures))))
 
 read-u16-requires-2 : tie.Need-read-u16-requires-2
 read-u16-requires-2 c κs = search needs
@@ -99,7 +100,7 @@ returns-6 c =
     let bytes : Bytes (a .s .now) = λ i. c .before .before .before .before .before .before .before .before .before .before .before .before .shared-slice-known .given i .fits in
     let same = summed (a .s .now) (a .at) (a .table .now) (start .pre) bytes (c .before .before .before .before .crc-by .ensures) in
     ap₂ (λ (k n : ℕ). Found (record { at = a .at; kind = k; sender = n; length = size (a .s .now) (a .at) })) (c .before .read-u162 .ensures) (c .read-u163 .ensures)
-    ∙ decides (a .s .now) (a .at) (found (c .before .before .before .before .before .before .before .before .before .if2 .left) (c .before .before .before .before .before .before .if4 .left) (sym same ∙ c .before .before .if5 .left ∙ c .before .before .before .read-u16 .ensures))
+    ∙ only (a .s .now) (a .at) (found (c .before .before .before .before .before .before .before .before .before .if2 .left) (c .before .before .before .before .before .before .if4 .left) (sym same ∙ c .before .before .if5 .left ∙ c .before .before .before .read-u16 .ensures))
 
 pub step-by-spec : {M : Type 1} → statement M
 step-by-spec =

@@ -6,7 +6,7 @@ use native.Mathlib.Omega.{arith}
 use borrow.Author.Needs.{needs}
 use lib.ListN.{length}
 use Rattle.frames.specs.Writer.{senderOf}
-use Rattle.frames.proofs.WrittenPlan.{told, fits}
+use Rattle.frames.proofs.WrittenPlan.{known, fits}
 use Rattle.frames.proofs.Written.{seals, sealed-unfit}
 use Rattle.frames.proofs.write.seal.Statement.{statement}
 use Rattle.frames.proofs.write.seal.Tie as tie
@@ -20,7 +20,7 @@ enum-told c = search needs
 room : (c : tie.After-enum-told) → (c .before .before .before .before .args .n ≤ 255) × (c .before .before .before .before .args .n + 8 ≤ length (c .before .before .before .before .args .buf .now))
 room c =
     let a = c .before .before .before .before .args in
-    fits (a .n) (length (a .buf .now)) (told (c .before .before .plan .ensures) (c .enum-told .given .1))
+    fits (a .n) (length (a .buf .now)) (known (c .before .before .plan .ensures) (c .enum-told .given .1))
 
 sender-number-requires : tie.Need-sender-number-requires
 sender-number-requires c κs = search needs
@@ -60,7 +60,7 @@ returns c =
     let a = c .before .before .before .before .before .before .before .before .before .before .before .before .before .before .before .before .args in
     let at = c .before .before .before .before .before .before .before .before .before .before .before .before in
     seals (a .kind) (senderOf (a .sender)) (a .n) (a .buf .now)
-    (told (at .before .before .plan .ensures) (at .enum-told .given .1))
+    (known (at .before .before .plan .ensures) (at .enum-told .given .1))
     (c .before .before .before .before .before .before .before .before .before .before .sender-number .ensures)
     (c .before .before .before .before .before .before .before .before .before .put-head .ensures)
     (c .before .before .before .before .crc .ensures)
@@ -69,7 +69,7 @@ returns c =
 returns-2 : tie.Need-returns-2
 returns-2 c =
     let a = c .before .before .before .before .args in
-    sym (sealed-unfit (a .kind) (senderOf (a .sender)) (a .n) (a .buf .now) (told (c .before .before .plan .ensures) (c .enum-told2 .given .1)))
+    sym (sealed-unfit (a .kind) (senderOf (a .sender)) (a .n) (a .buf .now) (known (c .before .before .plan .ensures) (c .enum-told2 .given .1)))
 
 pub seal-spec : {M : Type 1} → statement M
 seal-spec =

@@ -4,7 +4,7 @@ use native.Mathlib.Omega.{arith}
 use borrow.Author.Needs.{needs}
 use lib.ListN.{length}
 use lib.Seq.{length-sets}
-use Rattle.frames.proofs.Walks.{Walking, left, left-fewer, never-needs}
+use Rattle.frames.proofs.CursorLoops.{Walking, left, left-fewer, never-needs}
 use Rattle.payloads.specs.Table.{answerFor}
 use Rattle.epochs.specs.Collator.{fed}
 use Rattle.epochs.specs.declared.collating.Made.{Made}

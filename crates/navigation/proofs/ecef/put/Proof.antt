@@ -3,7 +3,8 @@ use mathlib.Core.Path.{ap, _∙_}
 use lib.ListN.{length}
 use borrow.Author.Needs.{needs}
 use mir.Syntax.{w32}
-use Rattle.wire.proofs.Fields.{then, then-signed, length-row}
+use Rattle.wire.proofs.Fields.{then, then-signed}
+use Rattle.wire.proofs.Layouts.{length-body-stored}
 use Rattle.navigation.specs.Ecef.{velEcef}
 use Rattle.navigation.proofs.ecef.put.Statement.{statement}
 use Rattle.navigation.proofs.ecef.put.Tie as tie
@@ -42,7 +43,7 @@ returns c =
     then _ _ _ (then _ _ _ (then _ _ _ (then-signed w32 (r .z) _ (k4 .before .struct-told3 .given .1 .1 .1 .0 .1) (then-signed w32 (r .y) _ (k3 .before .struct-told2 .given .1 .1 .0 .1) (then-signed w32 (r .x) _ (k2 .before .struct-told .given .1 .0 .1) (k1 .store-u32 .ensures) (k2 .store-s32 .ensures)) (k3 .store-s322 .ensures)) (k4 .store-s323 .ensures)) (k5 .store-u16 .ensures)) (k6 .store-u8 .ensures)) (k7 .store-u82 .ensures)
 
 same-length : tie.Need-same-length
-same-length c = let a = c .before .before .before .before .before .before .before .before .before .before .before .before .before .before .before .before .before .before .before .before .before .before .before .before .before .before .before .before .before .before .before .before .args in ap length (returns c) ∙ length-row (velEcef .fields) (velEcef .row (a .r)) (a .buf .now) 6
+same-length c = let a = c .before .before .before .before .before .before .before .before .before .before .before .before .before .before .before .before .before .before .before .before .before .before .before .before .before .before .before .before .before .before .before .before .args in ap length (returns c) ∙ length-body-stored (velEcef .layout) (velEcef .row (a .r)) (a .buf .now) 6
 
 pub put-spec : {M : Type 1} → statement M
 put-spec = tie.close (tie.spec store-u32-requires store-s32-requires store-s32-requires-2 store-s32-requires-3 store-u16-requires store-u8-requires store-u8-requires-2 same-length returns)

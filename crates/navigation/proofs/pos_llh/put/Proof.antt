@@ -2,7 +2,8 @@
 use mathlib.Core.Path.{ap, _∙_}
 use lib.ListN.{length}
 use borrow.Author.Needs.{needs}
-use Rattle.wire.proofs.Fields.{then, length-row}
+use Rattle.wire.proofs.Fields.{then}
+use Rattle.wire.proofs.Layouts.{length-body-stored}
 use Rattle.navigation.specs.PosLlh.{posLlh}
 use Rattle.navigation.proofs.pos_llh.put.Statement.{statement}
 use Rattle.navigation.proofs.pos_llh.put.Tie as tie
@@ -44,7 +45,7 @@ returns c =
     then _ _ _ (then _ _ _ (then _ _ _ (then _ _ _ (then _ _ _ (then _ _ _ (then _ _ _ (k1 .store-u32 .ensures) (k2 .store-double .ensures)) (k3 .store-double2 .ensures)) (k4 .store-double3 .ensures)) (k5 .store-u16 .ensures)) (k6 .store-u162 .ensures)) (k7 .store-u8 .ensures)) (k8 .store-u82 .ensures)
 
 same-length : tie.Need-same-length
-same-length c = let a = c .before .before .before .before .before .before .before .before .before .before .before .before .before .before .before .before .before .before .before .before .before .before .before .before .before .before .before .before .before .before .before .before .before .args in ap length (returns c) ∙ length-row (posLlh .fields) (posLlh .row (a .r)) (a .buf .now) 6
+same-length c = let a = c .before .before .before .before .before .before .before .before .before .before .before .before .before .before .before .before .before .before .before .before .before .before .before .before .before .before .before .before .before .before .before .before .before .args in ap length (returns c) ∙ length-body-stored (posLlh .layout) (posLlh .row (a .r)) (a .buf .now) 6
 
 pub put-spec : {M : Type 1} → statement M
 put-spec = tie.close (tie.spec store-u32-requires store-double-requires store-double-requires-2 store-double-requires-3 store-u16-requires store-u16-requires-2 store-u8-requires store-u8-requires-2 same-length returns)

@@ -1,8 +1,8 @@
 -- `navigation::pos_llh::write_pos_llh` meets its contract.
-use mathlib.Core.Path.{sym, _∙_}
+use mathlib.Core.Path.{refl, sym, _∙_}
 use borrow.Author.Needs.{needs}
 use Rattle.frames.specs.Writer.{senderOf}
-use Rattle.frames.proofs.WrittenPlan.{told}
+use Rattle.frames.proofs.WrittenPlan.{known}
 use Rattle.frames.proofs.Promised.{wrote, wrote-nothing, wrote-23}
 use Rattle.navigation.specs.PosLlh.{posLlh}
 use Rattle.navigation.proofs.pos_llh.write_pos_llh.Statement.{statement}
@@ -35,13 +35,13 @@ returns c =
     let at = p .before .before in
     let a = at .before .before .before .before .before .before .args in
     let plan = at .before .before .plan .ensures in
-    wrote posLlh (senderOf (a .sender)) (a .r) (a .buf .now) (sym (at .before .before .before .before .allowed .ensures) ∙ at .before .before .before .if1 .taken) plan (told plan (at .enum-told .given .1)) (p .put .ensures) (c .before .before .seal .ensures)
+    wrote posLlh (senderOf (a .sender)) (a .r) (a .buf .now) (sym (at .before .before .before .before .allowed .ensures) ∙ at .before .before .before .if1 .taken) refl plan (known plan (at .enum-told .given .1)) (p .put .ensures) (c .before .before .seal .ensures)
 
 returns-2 : tie.Need-returns-2
 returns-2 c =
     let a = c .before .before .before .before .before .before .args in
     let plan = c .before .before .plan .ensures in
-    wrote-nothing posLlh (senderOf (a .sender)) (a .r) (a .buf .now) (sym (c .before .before .before .before .allowed .ensures) ∙ c .before .before .before .if1 .taken) plan (told plan (c .enum-told2 .given .1))
+    wrote-nothing posLlh (senderOf (a .sender)) (a .r) (a .buf .now) (sym (c .before .before .before .before .allowed .ensures) ∙ c .before .before .before .if1 .taken) refl plan (known plan (c .enum-told2 .given .1))
 
 returns-3 : tie.Need-returns-3
 returns-3 c =

@@ -1,6 +1,6 @@
 -- `observation::obs::is_obs_length` meets its contract, test by test.
-use Rattle.observation.specs.Layout.{first}
-use Rattle.observation.proofs.Layouts.{short, ragged, counted}
+use Rattle.observation.specs.Edition.{first}
+use Rattle.observation.proofs.Editions.{short, ragged, counted}
 use Rattle.observation.proofs.obs.is_obs_length.Statement.{statement}
 use Rattle.observation.proofs.obs.is_obs_length.Tie as tie
 

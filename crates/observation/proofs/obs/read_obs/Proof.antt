@@ -5,9 +5,9 @@ use native.Mathlib.Omega.{arith}
 use lib.ListN.{length}
 use borrow.Author.Needs.{needs}
 use Rattle.wire.specs.Refusals.{given}
-use Rattle.observation.specs.Layout.{first, fitting, countIn}
-use Rattle.observation.proofs.Layouts.{whole}
-use Rattle.observation.proofs.Payloads.{obs-22, obs-given}
+use Rattle.observation.specs.Edition.{fitting, countIn, first}
+use Rattle.observation.proofs.Editions.{whole}
+use Rattle.observation.proofs.ObsReading.{obs-22, obs-given}
 use Rattle.observation.proofs.obs.read_obs.Statement.{statement}
 use Rattle.observation.proofs.obs.read_obs.Tie as tie
 

@@ -3,8 +3,8 @@
 use Prim.Native.Nat.{_-_}
 use native.Mathlib.Omega.{arith}
 use borrow.Author.Needs.{needs}
-use Rattle.observation.specs.Obs.{observation}
-use Rattle.observation.proofs.RowsStored.{Stored, stored-none, stored-length, stored-all, has-room, stored-more}
+use Rattle.observation.specs.Edition.{observation}
+use Rattle.observation.proofs.EntriesStored.{Stored, stored-none, stored-length, stored-all, has-room, stored-more}
 use Rattle.observation.proofs.obs_write.put_entries.Statement.{statement}
 use Rattle.observation.proofs.obs_write.put_entries.Tie as tie
 

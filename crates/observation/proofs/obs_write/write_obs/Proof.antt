@@ -1,11 +1,14 @@
 -- `observation::obs_write::write_obs` meets its contract.
+use mathlib.Core.Path.{refl}
 use Prim.Native.Nat.{_≤_}
 use native.Mathlib.Omega.{arith}
 use lib.ListN.{length}
 use borrow.Author.Needs.{needs}
 use Rattle.frames.specs.Writer.{senderOf}
-use Rattle.frames.proofs.WrittenPlan.{told, fits}
-use Rattle.observation.proofs.ObsWritten.{sizeFor, wrote-31, wrote-nothing, wrote}
+use Rattle.frames.proofs.WrittenPlan.{known, fits}
+use Rattle.observation.specs.Edition.{startOf, first}
+use Rattle.observation.specs.ObsWriter.{headOf}
+use Rattle.observation.proofs.ObsWritten.{wrote-31, wrote-nothing, wrote}
 use Rattle.observation.proofs.obs_write.write_obs.Statement.{statement}
 use Rattle.observation.proofs.obs_write.write_obs.Tie as tie
 
@@ -15,7 +18,7 @@ cast-k c = search needs
 returns : tie.Need-returns
 returns c =
     let a = c .before .before .before .args in
-    wrote-31 (senderOf (a .sender)) (a .obs) (a .entries) (a .buf .now) (omega arith)
+    wrote-31 first (senderOf (a .sender)) (headOf (a .obs)) (a .obs .count) (a .entries) (a .buf .now) (omega arith)
 
 mul-n : tie.Need-mul-n
 mul-n c = search needs
@@ -36,7 +39,7 @@ put-entries-requires : tie.Need-put-entries-requires
 put-entries-requires c κs =
     let at = c .before .before .before .before .before in
     let a = at .before .before .before .before .before .before .args in
-    let room = fits (sizeFor (a .obs)) (length (a .buf .now)) (told (at .before .before .plan .ensures) (at .enum-told .given .1)) in
+    let room = fits (startOf first (a .obs .count)) (length (a .buf .now)) (known (at .before .before .plan .ensures) (at .enum-told .given .1)) in
     omega (arith, room, c .before .before .before .put-head .kept)
 
 seal-requires : tie.Need-seal-requires
@@ -61,8 +64,8 @@ returns-2 c =
     let start = few .before .before .before in
     let a = start .args in
     let plan = at .before .before .plan .ensures in
-    wrote (senderOf (a .sender)) (a .obs) (a .entries) (a .buf .now) (few .if1 .left) (holds start (few .if1 .left)) plan
-    (told plan (at .enum-told .given .1)) (header .put-head .ensures) (put .put-entries .ensures) (c .before .before .seal .ensures)
+    wrote first (senderOf (a .sender)) (headOf (a .obs)) (a .obs .count) (a .entries) (a .buf .now) (holds start (few .if1 .left)) (λ v. refl) (λ v. refl) (few .if1 .left) plan
+    (known plan (at .enum-told .given .1)) (header .put-head .ensures) (put .put-entries .ensures) (c .before .before .seal .ensures)
 
 returns-3 : tie.Need-returns-3
 returns-3 c =
@@ -70,8 +73,8 @@ returns-3 c =
     let start = few .before .before .before in
     let a = start .args in
     let plan = c .before .before .plan .ensures in
-    wrote-nothing (senderOf (a .sender)) (a .obs) (a .entries) (a .buf .now) (few .if1 .left) (holds start (few .if1 .left)) plan
-    (told plan (c .enum-told2 .given .1))
+    wrote-nothing first (senderOf (a .sender)) (headOf (a .obs)) (a .obs .count) (a .entries) (a .buf .now) (holds start (few .if1 .left)) (λ v. refl) (λ v. refl) (few .if1 .left) plan
+    (known plan (c .enum-told2 .given .1))
 
 pub write-obs-spec : {M : Type 1} → statement M
 write-obs-spec =

@@ -4,7 +4,7 @@ use Prim.Native.Nat.{ℕ}
 use native.Mathlib.Numerals.{add-one}
 use lib.ListN.{length}
 use Rattle.frames.specs.Writer.{senderOf, planned, sealed}
-use Rattle.frames.proofs.WrittenPlan.{told}
+use Rattle.frames.proofs.WrittenPlan.{known}
 use Rattle.frames.proofs.Written.{writes, framed-unfit}
 use Rattle.system.specs.Log.{logKind, logPayload}
 use borrow.Author.Needs.{needs}
@@ -40,7 +40,7 @@ returns c =
     let one = add-one (length (a .text .now)) in
     let plan = at .before .before .plan .ensures ∙ ap (λ (n : ℕ). planned n (length (a .buf .now))) one in (
       plan,
-      writes logKind (senderOf (a .sender)) (logPayload (a .level) (a .text .now)) (a .buf .now) (told plan (at .enum-told .given .1)) (p .put-log .ensures)
+      writes logKind (senderOf (a .sender)) (logPayload (a .level) (a .text .now)) (a .buf .now) (known plan (at .enum-told .given .1)) (p .put-log .ensures)
           (c .before .before .seal .ensures ∙ ap (λ (n : ℕ). sealed logKind (senderOf (a .sender)) n (p .put-log .last .0)) one),
     )
 
@@ -48,7 +48,7 @@ returns-2 : tie.Need-returns-2
 returns-2 c =
     let a = c .before .before .before .before .before .args in
     let plan = c .before .before .plan .ensures ∙ ap (λ (n : ℕ). planned n (length (a .buf .now))) (add-one (length (a .text .now))) in
-    (plan, sym (framed-unfit logKind (senderOf (a .sender)) (logPayload (a .level) (a .text .now)) (a .buf .now) (told plan (c .enum-told2 .given .1))))
+    (plan, sym (framed-unfit logKind (senderOf (a .sender)) (logPayload (a .level) (a .text .now)) (a .buf .now) (known plan (c .enum-told2 .given .1))))
 
 pub write-log-spec : {M : Type 1} → statement M
 write-log-spec =

@@ -2,7 +2,7 @@
 use mathlib.Core.Path.{refl}
 use borrow.Author.Needs.{needs}
 use Rattle.frames.specs.Writer.{senderOf}
-use Rattle.frames.proofs.WrittenPlan.{told}
+use Rattle.frames.proofs.WrittenPlan.{known}
 use Rattle.frames.proofs.Promised.{wrote, wrote-nothing}
 use Rattle.system.specs.ReadByIndexReq.{readByIndexReq}
 use Rattle.system.proofs.settings.write_read_by_index_req.Statement.{statement}
@@ -32,13 +32,13 @@ returns c =
     let at = p .before .before in
     let a = at .before .before .before .before .args in
     let plan = at .before .before .plan .ensures in
-    wrote readByIndexReq (senderOf (a .sender)) (a .r) (a .buf .now) refl plan (told plan (at .enum-told .given .1)) (p .put .ensures) (c .before .before .seal .ensures)
+    wrote readByIndexReq (senderOf (a .sender)) (a .r) (a .buf .now) refl refl plan (known plan (at .enum-told .given .1)) (p .put .ensures) (c .before .before .seal .ensures)
 
 returns-2 : tie.Need-returns-2
 returns-2 c =
     let a = c .before .before .before .before .args in
     let plan = c .before .before .plan .ensures in
-    wrote-nothing readByIndexReq (senderOf (a .sender)) (a .r) (a .buf .now) refl plan (told plan (c .enum-told2 .given .1))
+    wrote-nothing readByIndexReq (senderOf (a .sender)) (a .r) (a .buf .now) refl refl plan (known plan (c .enum-told2 .given .1))
 
 pub write-read-by-index-req-spec : {M : Type 1} → statement M
 write-read-by-index-req-spec = tie.close (tie.spec plan-requires enum-told put-requires seal-requires enum-told-2 same-length returns returns-2)

@@ -1,6 +1,6 @@
 -- `wire::bits::flag` meets its contract.
 use borrow.Author.Needs.{needs}
-use Rattle.wire.proofs.Flags.{flag-masked, flag-past}
+use Rattle.wire.proofs.OneBit.{flag-masked, flag-past}
 use Rattle.wire.proofs.bits.flag.Statement.{statement}
 use Rattle.wire.proofs.bits.flag.Tie as tie
 

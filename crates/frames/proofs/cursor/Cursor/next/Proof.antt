@@ -6,8 +6,8 @@ use native.Mathlib.Omega.{arith}
 use borrow.Author.Needs.{needs}
 use lib.ListN.{length}
 use Rattle.frames.specs.Cursors.{nextOf}
-use Rattle.frames.proofs.Cursors.{passed-on, comes-further, next-kept, next-given}
-use Rattle.frames.proofs.Runs.{past-junk-next, past-junk-further}
+use Rattle.frames.proofs.GoingOn.{passed-on, comes-further, next-kept, next-given}
+use Rattle.frames.proofs.JunkRuns.{past-junk-next, past-junk-further}
 use Rattle.frames.proofs.cursor.Cursor.next.Statement.{statement}
 use Rattle.frames.proofs.cursor.Cursor.next.Tie as tie
 

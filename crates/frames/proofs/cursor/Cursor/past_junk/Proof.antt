@@ -3,7 +3,7 @@
 use mathlib.Core.Path.{ap, _∙_}
 use borrow.Author.Needs.{needs}
 use Rattle.frames.specs.Cursors.{past}
-use Rattle.frames.proofs.Runs.{past-junk-end, past-junk-mark, past-junk-run}
+use Rattle.frames.proofs.JunkRuns.{past-junk-end, past-junk-mark, past-junk-run}
 use Rattle.frames.proofs.cursor.Cursor.past_junk.Statement.{statement}
 use Rattle.frames.proofs.cursor.Cursor.past_junk.Tie as tie
 

@@ -15,8 +15,9 @@ use Rattle.frames.specs.Junk.{junkRun, overJunk, pastJunk}
 use Rattle.frames.specs.declared.step.Step.{Step}
 use Rattle.frames.specs.declared.step.Step.the-variants.{Junk}
 use Rattle.frames.specs.declared.cursor.Cursor.{Cursor}
-use Rattle.frames.proofs.Steps.{junk, decides}
-use Rattle.frames.proofs.Cursors.{here, Honest, next-over, honest-over}
+use Rattle.frames.proofs.Steps.{only}
+use Rattle.frames.specs.Decides.{junk}
+use Rattle.frames.proofs.GoingOn.{here, Honest, next-over, honest-over}
 
 -- ---- how long a run is
 
@@ -158,7 +159,7 @@ module _ (s : List ℕ) (small : length s < 2 ^ 64) where
     is-junk : here s c ≡ Junk
     is-junk =
         let there = getD-drop (c .at) s 0 0 ∙ ap (λ (k : ℕ). getD s k 0) (add-zero (c .at)) in
-        sym (decides s (c .at) (junk inside (λ e. first .1 (there ∙ e))))
+        sym (only s (c .at) (junk inside (λ e. first .1 (there ∙ e))))
 
     one-further : over c Junk .at ≡ c .at + 1
     one-further = mod-eq-of-lt (omega (arith, inside, small))

@@ -6,11 +6,11 @@ use Prim.Native.Nat.{ℕ, zero, suc, _^_, _≤_, _<_}
 use native.Mathlib.Omega.{arith}
 use lib.ListN.{length}
 use Rattle.frames.specs.Reading.{steps, framesOf, countsOf}
-use Rattle.frames.specs.Cursors.{begun, countsIn, nextOf, after, remaining, Told, Led, start, more}
+use Rattle.frames.specs.Cursors.{begun, countsIn, nextOf, after, remaining, Says, Led, start, more}
 use Rattle.frames.specs.declared.step.Frame.{Frame}
 use Rattle.frames.specs.declared.cursor.Cursor.{Cursor}
 use Rattle.frames.specs.declared.cursor.Next as Next
-use Rattle.frames.proofs.Answers.{said, led, led-end, led-needs}
+use Rattle.frames.proofs.NextAnswers.{said, led, led-end, led-needs}
 use Rattle.demands.specs.Handed.{Stops, Handed}
 
 module _ (opened : Bool) (s : List ℕ) (small : length s < 2 ^ 64) where
@@ -27,7 +27,7 @@ module _ (opened : Bool) (s : List ℕ) (small : length s < 2 ^ 64) where
   turn : (fs : List Frame) (c : Cursor) → Led opened s fs c → ((f : Frame) (d : Cursor) → Led opened s (fs ++ f ∷ []) d → length (remaining opened s d) < length (remaining opened s c) → Handed opened s) → Handed opened s
   turn fs c l rest = by (nextOf s c) refl
     where
-      says : {n : Next.Next} → nextOf s c ≡ n → Told opened s (remaining opened s c) n
+      says : {n : Next.Next} → nextOf s c ≡ n → Says opened s (remaining opened s c) n
       says e = said s small opened (led s small opened l .0) e .0
 
       by : (n : Next.Next) → nextOf s c ≡ n → Handed opened s

@@ -8,7 +8,7 @@ use native.Mathlib.Nat.{zero-add, add-zero, add-assoc, mod-eq-of-lt}
 use native.Mathlib.Omega.{arith}
 use lib.ListN.{length}
 use Rattle.frames.specs.Step.{stepAt, passed, ends}
-use Rattle.frames.specs.Reading.{Placed, stops, steps, counted, countsOf, sumOf, added}
+use Rattle.frames.specs.Reading.{Positioned, stops, steps, counted, countsOf, sumOf, added}
 use Rattle.frames.specs.Cursors.{begun, countsIn, plus, over, passes, ended, answer, nextOf}
 use Rattle.frames.specs.declared.step.Step.{Step}
 use Rattle.frames.specs.declared.step.Step.the-variants.{Finished, Junk, Short, Bad, Found}
@@ -164,14 +164,14 @@ module _ (s : List ℕ) (small : length s < 2 ^ 64) where
           whole =
               ap₂ (λ (k : Counts) (p : ℕ). added k (countsOf (steps opened s p))) counts (over-ends opened c e)
               ∙ added-assoc (countsIn c) (counted (here s c)) (countsOf (steps opened s (ends s (c .at))))
-              ∙ ap (λ (xs : List Placed). added (countsIn c) (countsOf xs)) (sym (steps-go opened s (c .at) e))
+              ∙ ap (λ (xs : List Positioned). added (countsIn c) (countsOf xs)) (sym (steps-go opened s (c .at) e))
               ∙ h .whole;
         }
 
     -- where the reading stops they are those of the whole reading
     pub honest-counts : (c : Cursor) → Honest opened s c → stops opened (here s c) ≡ true → countsIn c ≡ countsOf (steps opened s 0)
     honest-counts c h e =
-        sym (added-none (countsIn c)) ∙ ap (λ (xs : List Placed). added (countsIn c) (countsOf xs)) (sym (steps-stop opened s (c .at) e)) ∙ h .whole
+        sym (added-none (countsIn c)) ∙ ap (λ (xs : List Positioned). added (countsIn c) (countsOf xs)) (sym (steps-stop opened s (c .at) e)) ∙ h .whole
 
     -- the same by calls
     module _ (c : Cursor) (h : Honest opened s c) {x : Step} (step : x ≡ here s c) where

@@ -11,8 +11,8 @@ use Rattle.frames.specs.Cursors.{begun, countsIn, nextOf, remaining}
 use Rattle.frames.specs.declared.step.Frame.{Frame}
 use Rattle.frames.specs.declared.cursor.Cursor.{Cursor}
 use Rattle.frames.specs.declared.cursor.Next as Next
-use Rattle.frames.proofs.Cursors.{Honest, honest-begun}
-use Rattle.frames.proofs.Answers.{said, honest-end}
+use Rattle.frames.proofs.GoingOn.{Honest, honest-begun}
+use Rattle.frames.proofs.NextAnswers.{said, honest-end}
 
 -- the frames that a cursor of a closed reading has left
 abbrev pub left : List ℕ → Cursor → List Frame

@@ -9,7 +9,7 @@ use lib.ListN.{length}
 use borrow.Author.Tests.{not-false}
 use Rattle.frames.specs.Step.{ends}
 use Rattle.frames.specs.Reading.{stops, steps, framesIn, framesOf, countsOf}
-use Rattle.frames.specs.Cursors.{countsIn, over, passes, ended, nextOf, after, remaining, Told, Led, start, more}
+use Rattle.frames.specs.Cursors.{countsIn, over, passes, ended, nextOf, after, remaining, Says, Led, start, more}
 use Rattle.frames.specs.declared.step.Step.{Step}
 use Rattle.frames.specs.declared.step.Step.the-variants.{Finished, Junk, Short, Bad, Found}
 use Rattle.frames.specs.declared.step.Frame.{Frame}
@@ -17,7 +17,7 @@ use Rattle.frames.specs.declared.cursor.Cursor.{Cursor}
 use Rattle.frames.specs.declared.cursor.Next as Next
 use Rattle.frames.proofs.Steps.{at-end, past-end}
 use Rattle.frames.proofs.Readings.{steps-stop, steps-go}
-use Rattle.frames.proofs.Cursors.{here, Answered, pass, end, Honest, passed-on, over-ends, over-further, answered, honest-begun, honest-over, honest-counts}
+use Rattle.frames.proofs.GoingOn.{here, Answered, pass, end, Honest, passed-on, over-ends, over-further, answered, honest-begun, honest-over, honest-counts}
 
 passed-no-frame : (opened : Bool) (x : Step) (fs : List Frame) → passes opened x ≡ true → framesIn x fs ≡ fs
 passed-no-frame opened Finished fs e = refl
@@ -52,13 +52,13 @@ module _ (s : List ℕ) (small : length s < 2 ^ 64) (opened : Bool) where
       ∙ passed-no-frame opened (here s c) (framesOf (steps opened s (ends s (c .at)))) e
       ∙ ap (λ (p : ℕ). framesOf (steps opened s p)) (sym (over-ends s small opened c goes))
 
-  told-by : {c : Cursor} {n : Next.Next} → Answered opened s c n → c .at ≤ length s → Told opened s (remaining opened s c) n
+  says-by : {c : Cursor} {n : Next.Next} → Answered opened s c n → c .at ≤ length s → Says opened s (remaining opened s c) n
   unfolding framesOf
-  told-by (pass {c = c} {n = n} e rest) h =
-      subst⁻¹ (λ (fs : List Frame). Told opened s fs n) (remaining-over c e) (told-by rest (over-further s small opened c (passed-on opened (here s c) e) .1))
-  told-by (end {c = c} e) h = at (here s c) refl e
+  says-by (pass {c = c} {n = n} e rest) h =
+      subst⁻¹ (λ (fs : List Frame). Says opened s fs n) (remaining-over c e) (says-by rest (over-further s small opened c (passed-on opened (here s c) e) .1))
+  says-by (end {c = c} e) h = at (here s c) refl e
     where
-      at : (x : Step) → here s c ≡ x → passes opened x ≡ false → Told opened s (remaining opened s c) (ended c x)
+      at : (x : Step) → here s c ≡ x → passes opened x ≡ false → Says opened s (remaining opened s c) (ended c x)
       at Finished q e = (ap framesOf (steps-stop opened s (c .at) (ap (stops opened) q)), omega (arith, at-end s (c .at) (ap (stops false) q)))
       at Junk q e = absurd (true≢false e)
       at (Short n) q e =
@@ -70,13 +70,13 @@ module _ (s : List ℕ) (small : length s < 2 ^ 64) (opened : Bool) where
           ap framesOf (steps-go opened s (c .at) goes)
           ∙ ap₂ (λ (x : Step) (p : ℕ). framesIn x (framesOf (steps opened s p))) q (sym (over-ends s small opened c goes) ∙ ap (λ (x : Step). over c x .at) q)
 
-  pub told : (c : Cursor) → c .opened ≡ opened → c .at ≤ length s → Told opened s (remaining opened s c) (nextOf s c)
-  told c m h = told-by (answered s small opened c m) h
+  pub says : (c : Cursor) → c .opened ≡ opened → c .at ≤ length s → Says opened s (remaining opened s c) (nextOf s c)
+  says c m h = says-by (answered s small opened c m) h
 
   -- ---- both, of what next answered
 
-  pub said : {c : Cursor} {n : Next.Next} → Honest opened s c → nextOf s c ≡ n → Told opened s (remaining opened s c) n × Honest opened s (after n)
-  said {c} h e = (subst (Told opened s (remaining opened s c)) e (told c (h .mode) (h .inside)), subst (λ (n : Next.Next). Honest opened s (after n)) e (honest-after (answered s small opened c (h .mode)) h))
+  pub said : {c : Cursor} {n : Next.Next} → Honest opened s c → nextOf s c ≡ n → Says opened s (remaining opened s c) n × Honest opened s (after n)
+  said {c} h e = (subst (Says opened s (remaining opened s c)) e (says c (h .mode) (h .inside)), subst (λ (n : Next.Next). Honest opened s (after n)) e (honest-after (answered s small opened c (h .mode)) h))
 
   -- when no frame is left the counts are those of the whole reading
   pub honest-end : {c d : Cursor} → Honest opened s c → nextOf s c ≡ Next.the-variants.End d → countsIn d ≡ countsOf (steps opened s 0)
