@@ -36,8 +36,8 @@ SameLast κs (s ∷ ss) ks a v w = SameAt (s .row κs .exit (ks .0)) (a .0) (v .
 -- the clauses c of a function, at a model of the logic; what is looked at of its result
 module _ {M : Type 1} (𝓤 : URA M) (T : Ended) (c : Clauses 𝓤 T) where
   pub record DeterminedAs (Shown : Lfts (T .signature .lifetimes) → Type 0) (shown : (κs : Lfts (T .signature .lifetimes)) → Res (T .signature) κs → Shown κs) : Type 1 where
-    -- it has no `requires`
-    pub asks-nothing : (κs : Lfts (T .signature .lifetimes)) (a : Args (T .signature) κs) (g : c κs a .ghost) → ent 𝓤 (emp 𝓤) (c κs a .requires g)
+    -- it has no `requires`, and takes no ghost that a caller would have to find
+    pub asks-nothing : (κs : Lfts (T .signature .lifetimes)) (a : Args (T .signature) κs) → c κs a .ghost × ((g : c κs a .ghost) → ent 𝓤 (emp 𝓤) (c κs a .requires g))
     -- where its `ensures` holds of two ends of a call, they are one
     pub one-end : (k : Ends T) (g : c (k .lives) (k .inputs) .ghost)
         → ent 𝓤
