@@ -4,11 +4,8 @@ pub mod ProofOf3
 pub mod ProofOfExported
 pub mod AllHold
 pub mod ShutOut
-pub mod Order
-pub mod Refused
+pub mod Nobody
 pub mod AllHanded
-pub mod Again
-pub mod EpochsReported
 pub mod Room
 pub mod Shuffled
 pub mod Between

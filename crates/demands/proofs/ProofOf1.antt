@@ -1,45 +1,54 @@
--- Demand 1 holds, all of it by citations. Assumes nothing.
+-- Demand 1 holds: each call is defined by its list, and the rest is citations. Assumes nothing.
 use mathlib.Core.Path.{refl, ap}
+use mathlib.Core.List.{List}
 use Prim.Native.Nat.{ℕ}
 use denote.Ref.{now}
+use lib.ListN.{length}
+use Rattle.wire.specs.Description.{readAs}
 use Rattle.wire.specs.Refusals.{Answer}
 use Rattle.wire.proofs.Ordered.{exactly-first, exactly-all}
+use Rattle.frames.specs.Writer.{planned}
+use Rattle.frames.specs.Faithful.{writeAnswer}
 use Rattle.frames.proofs.Written.{framed-unfit}
+use Rattle.frames.proofs.Promised.{left-alone}
+use Rattle.observation.specs.Obs.{readEntry, readEntryOf, readObs}
+use Rattle.observation.specs.ObsWriter.{obsWriteAnswer, obsWritten}
+use Rattle.observation.specs.Phase.{readPhase}
+use Rattle.system.specs.Log.{readLog}
 use Rattle.obs_reader.specs.declared.ObsReader.{ObsReader}
-use Rattle.obs_reader.proofs.Places.{stays}
-use Rattle.payloads.specs.Table.{table}
-use Rattle.epochs.specs.Collator.{acted, rosterOf, fed}
+use Rattle.obs_reader.proofs.OneQuestion.{stays}
+use Rattle.epochs.specs.Collator.{forPlace, fedFrame, made}
 use Rattle.epochs.proofs.Feeding.{refused-keeps}
 use Rattle.epochs.proofs.Captures.{collated-refused}
 use Rattle.text.proofs.Pending.{laid-unfit}
-use Rattle.listing.specs.Listing.{listedAs}
-use Rattle.demands.proofs.Order.{looks-up-ordered, reads-ordered, reads-obs-ordered, reads-log-ordered, reads-entry-ordered, plans-ordered, writes-ordered, writes-obs-ordered, lists-ordered, phase-ordered, made-ordered, judged-ordered}
-use Rattle.demands.proofs.Refused.{record-unwritten, obs-unwritten, nobody-listed}
+use Rattle.listing.specs.Listing.{listAnswer, listedAs}
 use Rattle.demands.specs.Demand1.{RefusedByNumber, WritesNothing, MovesNoState, Demand1}
+use Rattle.demands.proofs.Nobody.{nobody-listed}
 
 refused-by-number : RefusedByNumber
-unfolding fed
+unfolding readAs planned writeAnswer readEntry readEntryOf readObs obsWriteAnswer readPhase readLog forPlace fedFrame made listAnswer
 refused-by-number = record {
   in-order = λ A x ts. (exactly-first x ts, exactly-all x ts);
-  payload = looks-up-ordered table;
-  record-payload = λ R m. reads-ordered m;
-  obs-payload = reads-obs-ordered;
-  log-payload = reads-log-ordered;
-  index = reads-entry-ordered;
-  reader-place = λ r. reads-entry-ordered (now (r .payload)) (r .place);
-  record-buffer = λ R m. writes-ordered m;
-  obs-buffer = writes-obs-ordered;
-  bytes-buffer = plans-ordered;
-  capture = lists-ordered;
-  phase = phase-ordered;
-  roster = made-ordered;
-  frame = λ c kind sender payload. ap (acted c sender) (judged-ordered (rosterOf c) kind sender payload);
+  payload = λ kind s. refl;
+  record-payload = λ R d s. refl;
+  obs-payload = λ s. refl;
+  log-payload = λ s. refl;
+  index = λ s i. refl;
+  reader-index = λ kind s i. refl;
+  record-buffer = λ R d r room. refl;
+  obs-buffer = λ k room. refl;
+  bytes-buffer = λ n room. refl;
+  capture = λ s room. refl;
+  phase = λ z. refl;
+  roster = λ roster. refl;
+  frame = λ c x. refl;
 }
 
 writes-nothing : WritesNothing
+unfolding obsWritten
 writes-nothing = record {
-  refused-record = λ R m sender r buf n e. record-unwritten m sender r buf e;
-  refused-obs = λ sender o entries buf n fifteen e. obs-unwritten sender o entries buf fifteen e;
+  refused-record = λ R d sender r buf n e. left-alone d sender r buf e;
+  refused-obs = λ sender h k entries buf n e. ap (λ (a : Answer ℕ). leaves a _ buf) e;
   refused-bytes = λ kind sender payload buf n e. framed-unfit kind sender payload buf e;
   refused-listing = λ s buf n e. ap (λ (a : Answer ℕ). listedAs a s buf) e;
   unfit-line = laid-unfit;
@@ -47,8 +56,8 @@ writes-nothing = record {
 
 moves-no-state : MovesNoState
 moves-no-state = record {
-  refused-frame = λ c kind sender payload n e. refused-keeps c kind sender payload e;
-  refused-reader = λ r n e. ap {B = ObsReader} (λ (i : ℕ). record { payload = r .payload; place = i }) (stays (now (r .payload)) (r .place) e);
+  refused-frame = λ c x n e. refused-keeps c x e;
+  refused-reader = λ r n e. ap {B = ObsReader} (λ (i : ℕ). record { kind = r .kind; payload = r .payload; at = i }) (stays (r .kind) (now (r .payload)) (r .at) e);
   refused-roster = nobody-listed;
   refused-capture = λ s roster refuses. collated-refused s roster refl refuses;
 }

@@ -2,22 +2,22 @@
 use mathlib.Core.Path.{sym, ap, _∙_, subst}
 use Prim.Native.Nat.{ℕ, _<_}
 use Rattle.wire.specs.Field.{Row}
-use Rattle.epochs.proofs.Rosters.{seat-listed, seat-named}
+use Rattle.epochs.proofs.Searches.{seat-listed, seat-named}
+use Rattle.epochs.proofs.Making.{seated}
 use Rattle.epochs.proofs.Collations.{same-state}
-use Rattle.listing.specs.Listing.{listed}
 use Rattle.exports.specs.Feed.{reportFields}
-use Rattle.exports.proofs.Answered.{next-left}
+use Rattle.exports.proofs.LentRows.{next-left}
 use Rattle.exports.proofs.Lives.{stands, one-epoch, epoch-row}
-use Rattle.exports.proofs.Refusals.{next-keeps, totals-keeps, list-keeps, collator-keeps, feed-keeps}
+use Rattle.exports.proofs.Untouched.{next-keeps, totals-keeps, list-keeps, collator-keeps, feed-keeps}
 use Rattle.demands.specs.Exported.{Exported}
 
 pub exported : Exported
 exported = record {
   kept = record { next = next-keeps; totals = totals-keeps; list = list-keeps; collator = collator-keeps; feed = feed-keeps };
   frames-left = next-left;
-  epochs-told = λ roster s report xs f x byte lent enough. one-epoch roster (f .taken) (f .senders) s report (f .long) (f .room) xs (f .bytes) x byte lent enough;
+  epochs-answered = λ roster s report xs f x byte lent enough. one-epoch roster (f .taken) (f .senders) s report (f .long) (f .room) xs (f .bytes) x byte lent enough;
   epochs-stored = λ roster s report xs f x byte lent enough e w.
-      let seat = seat-listed roster (x .sender) 0 (w .listed) in
+      let seat = seat-listed roster (x .sender) (w .listed) in
       let small = subst (λ (n : ℕ). n < 65536) (seat-named roster (x .sender) (seat .1)) (f .senders (seat .0)) in
       let row = epoch-row roster (f .taken) (f .senders) s report (f .long) (f .room) xs (f .bytes) x byte lent enough small w in
       record {
@@ -29,6 +29,6 @@ exported = record {
       };
   unmixed = λ roster s t report other xs ys f g same.
       stands roster (f .taken) (f .senders) s report (f .long) (f .room) xs (f .bytes)
-      ∙ same-state roster (f .taken) xs ys same
+      ∙ same-state roster (seated roster (f .taken)) xs ys same
       ∙ sym (stands roster (g .taken) (g .senders) t other (g .long) (g .room) ys (g .bytes));
 }

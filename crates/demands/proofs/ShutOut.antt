@@ -14,14 +14,15 @@ use Rattle.frames.specs.declared.cursor.Counts.{Counts}
 use Rattle.frames.specs.declared.cursor.Cursor.{Cursor}
 use Rattle.frames.specs.declared.cursor.Next as Next
 use Rattle.frames.proofs.Tiling.{only-closed}
-use Rattle.epochs.specs.Collator.{made}
-use Rattle.epochs.specs.Epoch.{countdown, fedFrame, after, EndsEpoch}
+use Rattle.runs.specs.InWords.{countdown}
+use Rattle.epochs.specs.Collator.{fedFrame, made}
+use Rattle.epochs.specs.Epoch.{after, EndsEpoch}
 use Rattle.frames.specs.Frame.{Content}
 use Rattle.epochs.specs.declared.collating.Collator.{Collator}
 use Rattle.epochs.specs.declared.collating.Happened.the-variants as H
-use Rattle.epochs.proofs.Rosters.{names-at}
-use Rattle.epochs.proofs.Making.{accepted}
-use Rattle.epochs.proofs.Collations.{epoch-told}
+use Rattle.epochs.proofs.Searches.{names-at}
+use Rattle.epochs.proofs.Making.{accepted, seated}
+use Rattle.epochs.proofs.Collations.{epoch-outcome}
 use Rattle.demands.specs.Examples.{blank, blankFrame, packetFrom}
 use Rattle.demands.specs.Idle.{Reader, FrameRule, refusing, FindsNothing, alike, Machine, collator, standing, ReportsEpochs, NeverMoves, upToFrame, ShutOut}
 use Rattle.demands.proofs.OnceHonest.{adds-up}
@@ -72,7 +73,7 @@ stands roster c (x ∷ xs) = stands roster (fedFrame c x .collator) xs
 
 moving : (roster : List ℕ) → made roster .number ≡ 0 → ReportsEpochs roster (collator roster)
 moving roster ok xs x e =
-    subst (λ (c : Collator). (fedFrame c x .happened ≡ H.Epoch e) ↔ EndsEpoch roster xs x e) (sym (stands roster (made roster .collator) xs)) (epoch-told roster ok xs x e)
+    subst (λ (c : Collator). (fedFrame c x .happened ≡ H.Epoch e) ↔ EndsEpoch roster xs x e) (sym (stands roster (made roster .collator) xs)) (epoch-outcome roster (seated roster ok) xs x e)
 
 -- ---- all five
 

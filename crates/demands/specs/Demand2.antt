@@ -7,66 +7,39 @@ use mathlib.Core.Bool.{Bool, true}
 use mathlib.Core.List.{List, [], _++_, map, flatMap}
 use mathlib.Core.Logic.{_↔_, _⊎_}
 use Prim.Native.Nat.{ℕ, _+_, _*_, _^_, _≤_, _<_}
+use lib.IntN.{ℤ}
 use lib.ListN.{length, getD, take, drop, replicate}
 use denote.Ref.{now}
-use lib.IntN.{ℤ}
 use Rattle.wire.specs.Number.{Bytes}
-use Rattle.wire.specs.Field.{HeldRow}
-use Rattle.wire.specs.Description.{readAs}
 use Rattle.wire.specs.Refusals.{given}
-use Rattle.wire.specs.Description as wire
 use Rattle.frames.specs.Frame.{frameBytes, Content, Sendable, AllSendable, frameOf, stream}
 use Rattle.frames.specs.Step.{stepAt, payloadIn}
 use Rattle.frames.specs.Reading.{Positioned, closedSteps, openSteps, Tiled, holding, beforeShort, framesOf, countsOf, sumOf}
-use Rattle.frames.specs.Writer.{planned, withFrame, asRead, foundFrom}
-use Rattle.frames.specs.Faithful.{Faithful}
+use Rattle.frames.specs.Writer.{asRead, foundFrom}
+use Rattle.frames.specs.Decides.{Decides}
 use Rattle.frames.specs.declared.step.Frame.{Frame}
 use Rattle.frames.specs.declared.step.Step.{Step}
 use Rattle.frames.specs.declared.step.Step.the-variants.{Found}
-use Rattle.frames.specs.Decides.{Decides}
-use Rattle.navigation.specs.Dops.{dops}
-use Rattle.navigation.specs.Ecef.{baselineEcef, velEcef}
-use Rattle.navigation.specs.GpsTime.{gpsTime}
-use Rattle.navigation.specs.Heading.{baselineHeading}
-use Rattle.navigation.specs.Ned.{baselineNed, velNed}
-use Rattle.navigation.specs.PosEcef.{posEcef}
-use Rattle.navigation.specs.PosLlh.{posLlh}
-use Rattle.observation.specs.BasePosEcef.{basePosEcef}
-use Rattle.observation.specs.BasePosLlh.{basePosLlh}
-use Rattle.observation.specs.Layout.{first}
-use Rattle.observation.specs.Obs.{head, observation, readObs, readEntry, entriesFrom}
-use Rattle.observation.specs.ObsWriter.{headOf, obsFrame, obsWriteAnswer, obsWritten}
+use Rattle.observation.specs.ObsFaithful.{ObsFaithful}
 use Rattle.observation.specs.Phase.{phaseOf, partsOf}
-use Rattle.observation.specs.declared.entry.Observation.{Observation}
-use Rattle.observation.specs.declared.obs.Obs.{Obs}
 use Rattle.observation.specs.declared.phase.Phase.{Phase}
-use Rattle.system.specs.Empty.{settingsSave, readByIndexDone}
-use Rattle.system.specs.Heartbeat.{heartbeat}
-use Rattle.system.specs.Log.{logKind, readLog, logPayload, textIn, logFrame}
-use Rattle.system.specs.ReadByIndexReq.{readByIndexReq}
-use Rattle.system.specs.Startup.{startup}
-use Rattle.system.specs.declared.log.Log.{Log}
+use Rattle.system.specs.LogFaithful.{LogFaithful}
 use Rattle.obs_reader.specs.Walk.{Walk, standing, askedTimes, observationsIn, pastThem}
 use Rattle.obs_reader.specs.declared.ObsReader.{ObsReader}
-use Rattle.payloads.specs.declared.Message.{Message}
-use Rattle.payloads.specs.declared.Message.the-variants as M
-use Rattle.payloads.proofs.Lines.{Typed}
-use Rattle.epochs.specs.Collator.{names, made}
-use Rattle.epochs.specs.Epoch.{EpochEnds, InWords, fedFrame, after, reports, reportsOf, EndsEpoch, contentsOf}
+use Rattle.payloads.specs.Payloads.{messages, Promised, AllOf}
+use Rattle.packets.specs.declared.packet.Packet.{Packet}
+use Rattle.runs.specs.InWords.{EpochEnds, InWords}
+use Rattle.epochs.specs.Search.{names}
+use Rattle.epochs.specs.Collator.{fedFrame, made}
+use Rattle.epochs.specs.Epoch.{after, reports, reportsOf, EndsEpoch, Epochs, contentsOf}
 use Rattle.epochs.specs.Capture.{collated}
-use Rattle.epochs.specs.declared.judging.Packet.{Packet}
 use Rattle.epochs.specs.declared.collating.Report.{Report}
 use Rattle.epochs.specs.declared.collating.Happened.the-variants as H
 use Rattle.text.specs.Decimal.{decimal, valueFrom}
-use Rattle.listing.specs.Roster.{rosterIn}
-use Rattle.listing.specs.Listing.{frameLine, totalsLine, textOf, listAnswer, listed}
-use Rattle.listing.specs.Words.{obsSendersIn, different, Lines}
+use Rattle.enlisting.specs.FirstEight.{different, obsSendersIn, rosterIn}
+use Rattle.listing.specs.Listing.{frameLine, totalsLine, textOf, listAnswer, withListing}
+use Rattle.listing.specs.Words.{Lines}
 use Rattle.demands.specs.Handed.{Handed}
-use Rattle.demands.specs.Reported.{Epochs}
-
--- a message keeps its promise, and under the number by which it is written its own reader reads it
-abbrev pub Promised : {R : Type 0} → wire.Description R → (R → Message) → Type 0
-Promised m name = Faithful m × Typed (m .kind) name (readAs m)
 
 -- "The frames found are exactly those that specification 1.1 and our written resume rule give"
 pub record FramesFound : Type 0 where
@@ -94,47 +67,16 @@ pub record EveryByteCounted : Type 0 where
 
 -- "a record written reads back bit for bit; an accepted payload written again gives the same bytes"
 pub record ReadAndWritten : Type 0 where
-  -- every message with fields of its own or none: `Faithful` says both
-  pub messages :
-      Promised gpsTime (λ r. M.GpsTime r)
-      × Promised dops (λ r. M.Dops r)
-      × Promised posEcef (λ r. M.PosEcef r)
-      × Promised posLlh (λ r. M.PosLlh r)
-      × Promised baselineEcef (λ r. M.BaselineEcef r)
-      × Promised velEcef (λ r. M.VelEcef r)
-      × Promised baselineNed (λ r. M.BaselineNed r)
-      × Promised velNed (λ r. M.VelNed r)
-      × Promised baselineHeading (λ r. M.BaselineHeading r)
-      × Promised basePosLlh (λ r. M.BasePosLlh r)
-      × Promised basePosEcef (λ r. M.BasePosEcef r)
-      × Promised settingsSave (λ r. M.SettingsSave)
-      × Promised readByIndexDone (λ r. M.ReadByIndexDone)
-      × Promised readByIndexReq (λ r. M.ReadByIndexReq r)
-      × Promised startup (λ r. M.Startup r)
-      × Promised heartbeat (λ r. M.Heartbeat r)
-  -- OBS, and LOG
-  pub obs-read : Typed (first .kind) (λ r. M.Obs r) readObs
-  pub obs-reads-back : (sender : ℕ) (o : Obs) (entries : List Observation) (buf : List ℕ) (n : ℕ)
-      → sender < 65536 → o .count ≤ length entries → HeldRow (head .fields) (head .row (headOf o)) → obsWriteAnswer o (length buf) ≡ given n
-      → (stepAt (obsWritten sender o entries buf) 0 ≡ Found (obsFrame sender o entries))
-      × (readObs (payloadIn (obsWritten sender o entries buf) (obsFrame sender o entries)) ≡ given o)
-      × ((i : ℕ) (d : Observation) → i < o .count → HeldRow (observation .fields) (observation .row (getD entries i d))
-      → readEntry (payloadIn (obsWritten sender o entries buf) (obsFrame sender o entries)) i ≡ given (getD entries i d))
-  pub obs-again : (sender : ℕ) (r : Obs) (buf s : List ℕ) → Bytes s → readObs s ≡ given r
-      → obsWritten sender r (entriesFrom (r .count) 0 s) buf ≡ withFrame (first .kind) sender s buf
+  -- every message: `Faithful` says both, and under the number by which it is written its own reader reads it
+  pub messages : AllOf Promised messages
+  -- what is read and written of OBS, and of LOG, is that message
+  pub obs : ObsFaithful
+  pub log : LogFaithful
   -- "a reader that keeps the lent payload and its place": asked n times it keeps its payload and stands where n questions lead
-  pub obs-asked : (n : ℕ) (r : ObsReader) → askedTimes n r ≡ record { payload = r .payload; place = standing n (now (r .payload)) (r .place) }
-  -- from place 0 they are answered by the payload's observations in order, each once, and by a refusal from then on
-  pub obs-walk : (s : List ℕ) (more : ℕ)
-      → Walk (length (observationsIn s) + more) s 0 (map given (observationsIn s) ++ replicate more (pastThem s)) (length (observationsIn s))
-  pub log-read : Typed logKind (λ r. M.Log r) readLog
-  pub log-reads-back : (sender level : ℕ) (text buf : List ℕ) (n : ℕ)
-      → sender < 65536 → planned (length (logPayload level text)) (length buf) ≡ given n
-      → (stepAt (withFrame logKind sender (logPayload level text) buf) 0 ≡ Found (logFrame sender level text))
-      × (readLog (payloadIn (withFrame logKind sender (logPayload level text) buf) (logFrame sender level text)) ≡ given (record { level = level; length = length text }))
-      × (textIn (payloadIn (withFrame logKind sender (logPayload level text) buf) (logFrame sender level text)) ≡ text)
-  pub log-again : (sender : ℕ) (r : Log) (buf s : List ℕ) → readLog s ≡ given r
-      → withFrame logKind sender (logPayload (r .level) (textIn s)) buf ≡ withFrame logKind sender s buf
+  pub obs-asked : (n : ℕ) (r : ObsReader) → askedTimes n r ≡ record { kind = r .kind; payload = r .payload; at = standing n (r .kind) (now (r .payload)) (r .at) }
+  -- from the start they are answered by the payload's observations in order, each once, and by a refusal from then on
+  pub obs-walk : (kind : ℕ) (s : List ℕ) (more : ℕ)
+      → Walk (length (observationsIn kind s) + more) kind s 0 (map given (observationsIn kind s) ++ replicate more (pastThem kind s)) (length (observationsIn kind s))
   -- the carrier phase has one pair, which gives it back
   pub phase : ((z : ℤ) → phaseOf (partsOf z) ≡ z) × ((p : Phase) → p .«l_f» < 256 → partsOf (phaseOf p) ≡ p)
 
@@ -176,7 +118,7 @@ pub record Listed : Type 0 where
   pub decimals : (n : ℕ) → valueFrom 0 (decimal n) ≡ n
   -- a buffer of 8 bytes for each of a capture's, and 32, gets the whole text, and keeps the bytes after it
   pub room : (s buf : List ℕ) → Bytes s → length s ≤ 65536 → 8 * length s + 32 ≤ length buf
-      → (listAnswer s (length buf) ≡ given (length (textOf s))) × (listed s buf ≡ textOf s ++ drop (length (textOf s)) buf)
+      → (listAnswer s (length buf) ≡ given (length (textOf s))) × (withListing s buf ≡ textOf s ++ drop (length (textOf s)) buf)
 
 pub record Demand2 : Type 0 where
   pub frames-found : FramesFound

@@ -6,13 +6,13 @@ use mathlib.Core.Path.{_≡_}
 use mathlib.Core.Bool.{true, false}
 use mathlib.Core.List.{List, [], _∷_, _++_}
 use Prim.Native.Nat.{ℕ}
-use Rattle.epochs.specs.Collator.{names, made}
-use Rattle.epochs.specs.Epoch.{after, reports, reportsOf, SameFrames, contentsOf}
+use Rattle.epochs.specs.Search.{names}
+use Rattle.epochs.specs.Collator.{made}
+use Rattle.epochs.specs.Epoch.{after, reports, reportsOf, Epochs, SameFrames, contentsOf}
 use Rattle.frames.specs.Frame.{Content}
 use Rattle.epochs.specs.Capture.{collated}
 use Rattle.epochs.specs.declared.collating.Report.{Report}
 use Rattle.demands.specs.Noise.{Piece, AllFit, captureOf, sentIn}
-use Rattle.demands.specs.Reported.{Epochs}
 
 -- what two captures come to, es and fs being their epochs by demand 2
 pub record Unmixed (roster a b : List ℕ) (es fs : List Report) : Type 0 where

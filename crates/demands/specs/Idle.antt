@@ -15,8 +15,9 @@ use Rattle.frames.specs.declared.step.Step.the-variants.{Finished, Junk, Short,
 use Rattle.frames.specs.declared.cursor.Counts.{Counts}
 use Rattle.frames.specs.declared.cursor.Cursor.{Cursor}
 use Rattle.frames.specs.declared.cursor.Next as Next
-use Rattle.epochs.specs.Collator.{made}
-use Rattle.epochs.specs.Epoch.{countdown, fedFrame, EndsEpoch}
+use Rattle.runs.specs.InWords.{countdown}
+use Rattle.epochs.specs.Collator.{fedFrame, made}
+use Rattle.epochs.specs.Epoch.{EndsEpoch}
 use Rattle.frames.specs.Frame.{Content}
 use Rattle.epochs.specs.declared.collating.Collator.{Collator}
 use Rattle.epochs.specs.declared.collating.Report.{Report}

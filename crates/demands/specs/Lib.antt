@@ -4,7 +4,5 @@ pub mod Demand3
 pub mod Exported
 pub mod Examples
 pub mod Idle
-pub mod Order
 pub mod Handed
-pub mod Reported
 pub mod Noise
