@@ -39,6 +39,7 @@ module _ (s : ℕ) where
 
   module _ (roster : List ℕ) (listed : names roster s ≡ true) where
     pub second-ends : EndsEpoch roster (packetFrom s 0x20 ∷ []) (packetFrom s 0x21) (bothOf s)
+    unfolding sameKey
     second-ends = record {
       packet = numbered 1;
       total = 0;
