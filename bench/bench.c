@@ -16,7 +16,7 @@
 #undef sbp_feed
 #undef sbp_list
 
-#include "../include/sbp.h"
+#include "../link/include/sbp.h"
 
 /* bench/twin.rs, which says what they do. */
 uint16_t rust_crc(const uint8_t *bytes, size_t n);

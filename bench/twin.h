@@ -5,4 +5,4 @@
 #define sbp_answer twin_answer
 #define sbp_feed twin_feed
 #define sbp_list twin_list
-#include "../ctwin/fast.h"
+#include "../twins/c/fast.h"

@@ -1,8 +1,8 @@
 #!/usr/bin/env python3
-"""Holds sbplist against a listing by document 01's words, on captures at the edges, and stored files against what makes them; its last line
-is 'N passed, M failed'.
+"""Holds sbplist against the Python twin's listing, on captures at the edges, and stored files against what makes them; its last line is
+'N passed, M failed'.
 
-The frames and epochs are found by crates/vectors/answers.py, which has none of our code. usage: listing.py (after rt check sbplist)
+usage: listing.py (after rt check sbplist)
 """
 import os
 import subprocess
@@ -10,37 +10,15 @@ import sys
 
 ROOT = os.path.dirname(os.path.dirname(os.path.abspath(__file__)))
 sys.dont_write_bytecode = True
-sys.path[:0] = [os.path.join(ROOT, "crates", "vectors"), os.path.join(ROOT, "sample")]
+sys.path[:0] = [os.path.join(ROOT, "twins", "python"), os.path.join(ROOT, "tests", "sample")]
 import answers
 import make
+import twin
 
 RUN = [os.path.join(ROOT, "tools", "run"), "sbplist"]
-KINDS = {kind: name for name, (kind, _, _) in answers.MESSAGES.items()}
 
 
-def payload_answer(kind, payload):
-    if kind in KINDS:
-        return answers.answer(KINDS[kind], payload)
-    lengths = {0x0049: answers.is_obs(len(payload)), 0x0401: 1 <= len(payload), 0x00A1: not payload, 0x00A6: not payload}
-    return 21 if kind not in lengths else 0 if lengths[kind] else 22
-
-
-def listing(data):
-    if len(data) > 65536:
-        return "R 11\n"
-    found, counts, _ = answers.reading(data, False)
-    senders = list(dict.fromkeys(sender for _, kind, sender, _ in found if kind == 0x0049))
-    sorter, lines = answers.Sorter(*senders[:8]), []
-    for at, kind, sender, payload in found:
-        lines.append("F %d %d %d %d %d" % (at, kind, sender, len(payload), payload_answer(kind, payload)))
-        told = sorter.feed(kind, sender, payload)
-        if told.startswith(" epoch"):
-            lines.append("E" + told[len(" epoch"):])
-    lines.append("T %d %s" % (len(data), answers.row(counts)))
-    return "\n".join(lines) + "\n"
-
-
-def listed(data, piece=None):
+def printed(data, piece=None):
     """What sbplist prints, the capture coming whole or in pieces."""
     with subprocess.Popen(RUN, stdin=subprocess.PIPE, stdout=subprocess.PIPE, stderr=subprocess.PIPE) as program:
         if piece is None:
@@ -56,8 +34,8 @@ def listed(data, piece=None):
 
 def cases():
     sample = make.capture()
-    blank, epoch = answers.frame(0, 0, b""), answers.frame(0x0049, 65535, answers.obs(2**32 - 1, 65535, 0x10, 0))
-    ten = b"".join(answers.frame(0x0049, 65530 - s, answers.obs(5, 6, 0x20 + i, s % 16)) for i in (0, 1) for s in range(10))
+    blank, epoch = twin.frame(0, 0, b""), twin.frame(twin.OBS, 65535, twin.obs(2**32 - 1, 65535, 0x10, 0))
+    ten = b"".join(twin.frame(twin.OBS, 65530 - s, twin.obs(5, 6, 0x20 + i, s % 16)) for i in (0, 1) for s in range(10))
     yield "nothing", b"", None
     yield "one byte of noise", b"\x00", None
     yield "one byte of a frame", b"\x55", None
@@ -70,26 +48,26 @@ def cases():
     yield "65535 bytes of epochs", epoch * 4369, None
     yield "65536 bytes of 0x55", b"\x55" * 65536, None
     yield "ten senders", ten, None
-    yield "unknown and malformed", b"".join(answers.frame(k, 9, bytes(n)) for k in (0x48, 0x49, 0x4A, 0x100, 0x200, 0x401) for n in (0, 7, 11, 24, 32, 255)), None
+    yield "unknown and malformed", b"".join(twin.frame(k, 9, bytes(n)) for k in (0x48, 0x49, 0x4A, 0x100, 0x200, 0x401) for n in (0, 7, 11, 24, 32, 255)), None
     yield "a megabyte, 997 bytes at a time", (sample + bytes(100)) * 200, 997
 
 
 def main():
     passed, failed = 0, []
     for name, data, piece in cases():
-        if listed(data, piece) == listing(data):
+        if printed(data, piece) == twin.listing(data):
             passed += 1
         else:
             failed.append(name)
             print("not the listing:", name, data[:60].hex())
-    with open(os.path.join(ROOT, "sample", "base-and-rover.sbp"), "rb") as stored:
+    with open(os.path.join(ROOT, "tests", "sample", "base-and-rover.sbp"), "rb") as stored:
         sample = stored.read() == make.capture()
     with open(os.path.join(ROOT, "crates", "vectors", "stdout")) as stored:
         lines = stored.read() == "".join(line + "\n" for line in answers.lines())
     with subprocess.Popen(RUN, stdin=os.open(ROOT, os.O_RDONLY), stdout=subprocess.PIPE, stderr=subprocess.PIPE) as program:
         out, said = program.communicate()
     for name, held in (
-            ("the stored sample is what make.py makes", sample), ("vectors' stored answers are what answers.py works out", lines),
+            ("the stored sample is what make.py makes", sample), ("vectors' stored answers are what the Python twin works out", lines),
             ("a read that fails prints nothing and says why", out == b"" and said.startswith(b"read: "))):
         passed += held
         if not held:

@@ -19,13 +19,13 @@ use Rattle.frames.specs.declared.step.Step.the-variants.{Finished, Junk, Short,
 use Rattle.frames.specs.declared.cursor.Cursor.{Cursor}
 use Rattle.frames.specs.declared.cursor.Next as Next
 use Rattle.frames.proofs.CursorLoops.{Walking, left, walking-begun, walking-on, walking-end}
-use Rattle.epochs.specs.Packet.{seatOf}
-use Rattle.epochs.specs.Collator.{rosterOf, made, repeats}
-use Rattle.epochs.specs.Epoch.{fedFrame, after, reportIn, reports, reportsOf, contentIn, contentsOf}
+use Rattle.epochs.specs.Search.{seatOf, repeats}
+use Rattle.epochs.specs.Collator.{rosterOf, fedFrame, made}
+use Rattle.epochs.specs.Epoch.{after, outcomes, reportIn, reports, reportsOf, contentIn, contentsOf}
 use Rattle.frames.specs.Frame.{Content}
 use Rattle.epochs.specs.Capture.{begun, oneMore, counted, fedInto, fedAll, collated}
-use Rattle.epochs.specs.declared.judging.Seat.{Seat}
-use Rattle.epochs.specs.declared.judging.Seat.the-variants.{At, Nowhere}
+use Rattle.epochs.specs.declared.seating.Seat.{Seat}
+use Rattle.epochs.specs.declared.seating.Seat.the-variants.{At, Nowhere}
 use Rattle.epochs.specs.declared.collating.Collator.{Collator}
 use Rattle.epochs.specs.declared.collating.Fed.{Fed}
 use Rattle.epochs.specs.declared.collating.Made.{Made}
@@ -33,8 +33,8 @@ use Rattle.epochs.specs.declared.collating.Report.{Report}
 use Rattle.epochs.specs.declared.collating.Happened.{Happened}
 use Rattle.epochs.specs.declared.collating.Happened.the-variants as H
 use Rattle.epochs.specs.declared.capturing.Collated.{Collated}
-use Rattle.epochs.proofs.Rosters.{seat-named, seat-own}
-use Rattle.epochs.proofs.Making.{accepted}
+use Rattle.epochs.proofs.Searches.{seat-named, seat-own}
+use Rattle.epochs.proofs.Making.{seated, made-seated}
 use Rattle.epochs.proofs.Feeding.{fed-lists}
 use Rattle.epochs.proofs.Senders.{roster-kept}
 
@@ -142,7 +142,7 @@ module _ (roster : List ℕ) (once : repeats roster ≡ false) (few : length ros
 
   all-counted : (t : Collated) → rosterOf (t .collator) ≡ roster → length (t .reports) ≡ 8 → (xs : List Content) → getD (t .reports) i 0 + length xs < 2 ^ 64
       → getD (fedAll t xs .reports) i 0 ≡ getD (t .reports) i 0 + length (reportsOf sender (reports (t .collator) xs))
-  unfolding fedAll reports reportsOf
+  unfolding fedAll outcomes reportsOf
   all-counted t e size [] h = omega arith
   all-counted t e size (x ∷ xs) h =
       let c = t .collator in
@@ -150,7 +150,7 @@ module _ (roster : List ℕ) (once : repeats roster ≡ false) (few : length ros
       let fits : getD (t .reports) i 0 + 1 < 2 ^ 64 = omega arith in
       let one = one-counted c e (f .happened) (t .reports) size fits [] in
       let next : getD (counted c (f .happened) (t .reports)) i 0 + length xs < 2 ^ 64 = omega (arith, one, one-report (f .happened)) in
-      all-counted (fedInto t x) (fed-lists c (x .kind) (x .sender) (x .payload) ∙ e) (counted-size c (f .happened) (t .reports) ∙ size) xs next
+      all-counted (fedInto t x) (fed-lists c x ∙ e) (counted-size c (f .happened) (t .reports) ∙ size) xs next
       ∙ one-counted c e (f .happened) (t .reports) size fits (reports (f .collator) xs)
 
 -- a capture has no more frames than bytes
@@ -184,9 +184,9 @@ module _ (s roster : List ℕ) (ok : made roster .number ≡ 0) where
       → getD (collated s roster .reports) i 0 ≡ length (reportsOf (getD roster i 0) (reports (made roster .collator) (contentsOf s)))
   unfolding contentsOf
   collated-counts small i below =
-      let is = accepted roster ok in
+      let is = seated roster ok in
       let listed : rosterOf (made roster .collator) ≡ roster
-      = ap (λ (m : Made). rosterOf (m .collator)) (is .whole) ∙ roster-kept roster (is .few) (λ (k : ℕ). []) in
+      = ap rosterOf (made-seated roster is) ∙ roster-kept roster (is .few) (λ (k : ℕ). []) in
       let none : _≡_ {A = ℕ} (getD (replicate 8 0) i 0) 0 = getD-replicate 8 i 0 0 (omega (arith, is .few)) in
       let frames : length (contentsOf s) ≤ length s = rw length-map (frames-few false 0 0 s) in
       let sum = all-counted roster (is .once) (is .few) i below (begun (made roster)) listed refl (contentsOf s) (omega arith) in

@@ -1,7 +1,7 @@
--- Whole collations, for an accepted roster and any frames. Demand 2: a report is made exactly when an epoch of its sender ends, and no other.
--- Demand 3: the end state and each listed sender's reports depend on that sender's own frames alone, for frames and for captures.
--- Assumes nothing.
-use mathlib.Core.Path.{_≡_, refl, sym, ap, _∙_, subst}
+-- Whole collations, of a roster whose senders have their seats and any frames. Demand 2: each frame comes to an epoch exactly when it ends one, and
+-- reports are read off that. Demand 3: the end state and each listed sender's reports depend on that sender's own frames alone, for frames and for
+-- captures. Nothing here looks inside a packet or a step. Assumes nothing.
+use mathlib.Core.Path.{_≡_, refl, sym, ap, ap₂, _∙_, subst}
 use mathlib.Core.Bool.{Bool, true, false, cond}
 use mathlib.Core.List.{List, [], _∷_, _++_}
 use mathlib.Core.Logic.{_↔_}
@@ -10,83 +10,99 @@ use lib.Dec.{eqb}
 use lib.ListN.{length, take, replicate}
 use borrow.Author.Tests.{eqb-true, eqb-false, eq-eqb}
 use Rattle.wire.specs.Number.{Bytes}
-use Rattle.epochs.specs.Collator.{idle, stepped, told, names, made}
-use Rattle.epochs.specs.Epoch.{own, kept, packetsOf, ofSender, historyOf, fedFrame, after, reportIn, reports, reportsOf, EndsEpoch, SameFrames, contentsOf}
+use Rattle.wire.specs.Refusals.{refused, given, Answer}
 use Rattle.frames.specs.Frame.{Content}
-use Rattle.epochs.specs.declared.judging.Packet.{Packet}
-use Rattle.epochs.specs.declared.judging.Judged.{Judged}
-use Rattle.epochs.specs.declared.judging.Judged.the-variants as J
-use Rattle.epochs.specs.declared.placing.Place.{Place}
-use Rattle.epochs.specs.declared.placing.Ended.{Ended}
-use Rattle.epochs.specs.declared.placing.Ended.the-variants.{Not, Whole}
+use Rattle.packets.specs.Packet.{AllFormed}
+use Rattle.packets.specs.declared.packet.Packet.{Packet}
+use Rattle.packets.proofs.Recognitions.{formed, n-small}
+use Rattle.runs.specs.Run.{stepped, runOf}
+use Rattle.runs.specs.declared.running.Ended.{Ended}
+use Rattle.runs.specs.declared.running.Ended.the-variants.{Not, Whole}
+use Rattle.runs.proofs.Fronts.{total-small}
+use Rattle.runs.proofs.WholeEpochs.{whole-epoch}
+use Rattle.epochs.specs.Search.{names}
+use Rattle.epochs.specs.Collator.{idle, outcome, fedFrame, made}
+use Rattle.epochs.specs.Epoch.{ownPacket, kept, packetsOf, ofSender, historyOf, after, outcomes, reportIn, reportsIn, reports, reportsOf, EndsEpoch, CameTo, Epochs, none, ending, passing, Seated, SameFrames, contentsOf}
+use Rattle.epochs.specs.declared.collating.Place.{Place}
 use Rattle.epochs.specs.declared.collating.Collator.{Collator}
-use Rattle.epochs.specs.declared.collating.Made.{Made}
 use Rattle.epochs.specs.declared.collating.Report.{Report}
 use Rattle.epochs.specs.declared.collating.Happened.{Happened}
 use Rattle.epochs.specs.declared.collating.Happened.the-variants as H
 use Rattle.epochs.specs.declared.collating.Fed.{Fed}
-use Rattle.epochs.proofs.Pasts.{Formed, AllFormed, placeOf, placesOf, stateOf}
-use Rattle.epochs.proofs.Rosters.{same-seat, seat-alone, map-listed}
-use Rattle.epochs.proofs.Judgements.{heard, judged-formed, judged-n}
-use Rattle.epochs.proofs.Making.{Accepted, accepted}
-use Rattle.epochs.proofs.Runs.{total-small}
-use Rattle.epochs.proofs.Epochs.{whole-epoch}
+use Rattle.epochs.proofs.Searches.{map-listed}
+use Rattle.epochs.proofs.Making.{made-seated}
 use Rattle.epochs.proofs.Feeding.{never-refused, never-taken, report-own}
-use Rattle.epochs.proofs.Senders.{heardBy, tells, fresh-state, fed-listed, fed-unlisted, fed-state, after-state}
+use Rattle.epochs.proofs.Senders.{placeOf, placesOf, stateOf, heardBy, comesTo, fresh-state, fed-listed, fed-unlisted, fed-state, after-state}
 
 -- ---- what is kept of frames is well-formed
-
-own-formed : (x : Content) {i : ℕ} {p : Packet} → own x ≡ J.For i p → Formed p
-own-formed x q = judged-formed (x .sender ∷ []) (x .kind) (x .sender) (x .payload) q
 
 pub packets-formed : (xs : List Content) (past : List Packet) → AllFormed past → AllFormed (packetsOf xs past)
 unfolding packetsOf
 packets-formed [] past all = all
-packets-formed (x ∷ xs) past all = packets-formed xs (kept (own x) past) (one (own x) refl)
+packets-formed (x ∷ xs) past all = packets-formed xs (kept (ownPacket x) past) (one (ownPacket x) refl)
   where
-    one : (j : Judged) → own x ≡ j → AllFormed (kept j past)
-    one (J.Refused n) q = all
-    one (J.For i p) q = (own-formed x q, all)
+    one : (a : Answer Packet) → ownPacket x ≡ a → AllFormed (kept a past)
+    one (refused n) q = all
+    one (given p) q = (formed (x .kind) (x .payload) q, all)
 
 pub history-formed : (s : ℕ) (xs : List Content) → AllFormed (historyOf s xs)
 unfolding historyOf
 history-formed s xs = packets-formed (ofSender s xs) [] tt
 
--- a frame by itself has the only seat
-own-seat : (x : Content) {i : ℕ} {p : Packet} → own x ≡ J.For i p → i ≡ 0
-own-seat x q = same-seat (heard (x .sender ∷ []) (x .kind) (x .sender) (x .payload) q .found .seat ∙ seat-alone (x .sender))
-
 pub same-report : {a b : Report} → H.Epoch a ≡ H.Epoch b → a ≡ b
 same-report e = cc
+
+pub after-one : (c : Collator) (xs : List Content) (x : Content) → after c (xs ++ x ∷ []) ≡ fedFrame (after c xs) x .collator
+unfolding after
+after-one c [] x = refl
+after-one c (y ∷ xs) x = after-one (fedFrame c y .collator) xs x
+
+-- ---- the epochs of frames, read off what each came to
+
+module _ {roster : List ℕ} where
+  pub epochs-in : (past xs : List Content) (hs : List Happened) → CameTo roster past xs hs → Epochs roster past xs (reportsIn hs)
+  epochs-in past [] [] c = none
+  epochs-in past (x ∷ xs) (H.Refused n ∷ hs) c = passing (λ e w. never-refused (c .0 e .1 w)) (epochs-in (past ++ x ∷ []) xs hs (c .1))
+  epochs-in past (x ∷ xs) (H.Taken ∷ hs) c = passing (λ e w. never-taken (c .0 e .1 w)) (epochs-in (past ++ x ∷ []) xs hs (c .1))
+  epochs-in past (x ∷ xs) (H.Epoch r ∷ hs) c = ending (c .0 r .0 refl) (epochs-in (past ++ x ∷ []) xs hs (c .1))
+
+  pub only-epochs : {past xs : List Content} {es : List Report} → Epochs roster past xs es → (hs : List Happened) → CameTo roster past xs hs → es ≡ reportsIn hs
+  only-epochs none [] c = refl
+  only-epochs (ending {e = e} w rest) (h ∷ hs) c = ap₂ reportIn (sym (c .0 e .1 w)) (only-epochs rest hs (c .1))
+  only-epochs (passing {es = es} never rest) (h ∷ hs) c = by h refl ∙ ap (reportIn h) (only-epochs rest hs (c .1))
+    where
+      by : (k : Happened) → h ≡ k → es ≡ reportIn k es
+      by (H.Refused n) q = refl
+      by H.Taken q = refl
+      by (H.Epoch e) q = absurd (never e (c .0 e .0 q))
 
 -- ---- the reports of one sender, from its own frames alone
 
 unfoldable ownReports : ℕ → List Packet → List Content → List Report
 ownReports s past [] = []
-ownReports s past (x ∷ xs) = reportIn (tells s past (own x)) (ownReports s (kept (own x) past) xs)
+ownReports s past (x ∷ xs) = reportIn (comesTo s past (ownPacket x)) (ownReports s (kept (ownPacket x) past) xs)
 
-tells-own : (s : ℕ) (past : List Packet) (j : Judged) (rs : List Report) → reportsOf s (reportIn (tells s past j) rs) ≡ reportIn (tells s past j) (reportsOf s rs)
+comes-own : (s : ℕ) (past : List Packet) (a : Answer Packet) (rs : List Report) → reportsOf s (reportIn (comesTo s past a) rs) ≡ reportIn (comesTo s past a) (reportsOf s rs)
 unfolding reportsOf
-tells-own s past (J.Refused n) rs = refl
-tells-own s past (J.For i p) rs = by (stepped (placeOf past) p .ended)
+comes-own s past (refused n) rs = refl
+comes-own s past (given p) rs = by (stepped (runOf past) p .ended)
   where
-    by : (e : Ended) → reportsOf s (reportIn (told s p e) rs) ≡ reportIn (told s p e) (reportsOf s rs)
+    by : (e : Ended) → reportsOf s (reportIn (outcome s p e) rs) ≡ reportIn (outcome s p e) (reportsOf s rs)
     by Not = refl
     by (Whole t) = rw (eq-eqb s s refl)
 
-module _ (roster : List ℕ) (ok : made roster .number ≡ 0) where
+module _ (roster : List ℕ) (is : Seated roster) where
   abbrev start : Collator
   start = made roster .collator
 
-  is : Accepted roster
-  is = accepted roster ok
+  begun : made roster .collator ≡ stateOf roster (λ (s : ℕ). [])
+  begun = made-seated roster is ∙ fresh-state roster (is .few)
 
   -- the end state is one place for each listed sender, made of that sender's own packets
   pub standing : (xs : List Content) → after (made roster .collator) xs ≡ stateOf roster (λ (s : ℕ). historyOf s xs)
   unfolding historyOf
   standing xs =
-      ap (λ (m : Made). after (m .collator) xs) (is .whole)
-      ∙ ap (λ (c : Collator). after c xs) (fresh-state roster (is .few))
+      ap (λ (c : Collator). after c xs) begun
       ∙ after-state roster (is .few) (is .once) xs (λ (s : ℕ). [])
 
   -- ---- demand 2
@@ -95,48 +111,61 @@ module _ (roster : List ℕ) (ok : made roster .number ≡ 0) where
     abbrev past : ℕ → List Packet
     past s = historyOf s xs
 
-    formed-on : {i : ℕ} {p : Packet} → own x ≡ J.For i p → AllFormed (p ∷ past (x .sender))
-    formed-on q = (own-formed x q, history-formed (x .sender) xs)
+    formed-on : {p : Packet} → ownPacket x ≡ given p → AllFormed (p ∷ past (x .sender))
+    formed-on q = (formed (x .kind) (x .payload) q, history-formed (x .sender) xs)
 
-    -- a frame that is fed after others tells of an epoch exactly when it ends one
-    pub epoch-told : (fedFrame (after (made roster .collator) xs) x .happened ≡ H.Epoch e) ↔ EndsEpoch roster xs x e
-    epoch-told = (λ h. there (names roster (x .sender)) refl (sym at ∙ h), λ w. at ∙ back w)
+    -- a frame that is fed after others comes to an epoch exactly when it ends it
+    pub epoch-outcome : (fedFrame (after (made roster .collator) xs) x .happened ≡ H.Epoch e) ↔ EndsEpoch roster xs x e
+    epoch-outcome = (λ h. there (names roster (x .sender)) refl (sym at ∙ h), λ w. at ∙ back w)
       where
         at : fedFrame (after start xs) x .happened ≡ fedFrame (stateOf roster past) x .happened
         at = ap (λ (c : Collator). fedFrame c x .happened) (standing xs)
 
-        listed-tells : names roster (x .sender) ≡ true → fedFrame (stateOf roster past) x .happened ≡ tells (x .sender) (past (x .sender)) (own x)
-        listed-tells n = ap (λ (f : Fed). f .happened) (fed-listed roster (is .few) (is .once) past x n)
+        listed-comes : names roster (x .sender) ≡ true → fedFrame (stateOf roster past) x .happened ≡ comesTo (x .sender) (past (x .sender)) (ownPacket x)
+        listed-comes n = ap (λ (f : Fed). f .happened) (fed-listed roster (is .few) (is .once) past x n)
 
-        by-ended : names roster (x .sender) ≡ true → (p : Packet) → own x ≡ J.For 0 p → (d : Ended) → stepped (placeOf (past (x .sender))) p .ended ≡ d
-            → told (x .sender) p d ≡ H.Epoch e → EndsEpoch roster xs x e
+        by-ended : names roster (x .sender) ≡ true → (p : Packet) → ownPacket x ≡ given p → (d : Ended) → stepped (runOf (past (x .sender))) p .ended ≡ d
+            → outcome (x .sender) p d ≡ H.Epoch e → EndsEpoch roster xs x e
         by-ended n p q Not r h = absurd (never-taken h)
         by-ended n p q (Whole t) r h =
             record { packet = p; total = t; listed = n; formed = q; ends = whole-epoch p (past (x .sender)) t (formed-on q) .0 r; report = sym (same-report h) }
 
-        by-own : names roster (x .sender) ≡ true → (j : Judged) → own x ≡ j → tells (x .sender) (past (x .sender)) j ≡ H.Epoch e → EndsEpoch roster xs x e
-        by-own n (J.Refused m) q h = absurd (never-refused h)
-        by-own n (J.For i p) q h = by-ended n p (q ∙ ap (λ (i : ℕ). J.For i p) (own-seat x q)) (stepped (placeOf (past (x .sender))) p .ended) refl h
+        by-own : names roster (x .sender) ≡ true → (a : Answer Packet) → ownPacket x ≡ a → comesTo (x .sender) (past (x .sender)) a ≡ H.Epoch e → EndsEpoch roster xs x e
+        by-own n (refused m) q h = absurd (never-refused h)
+        by-own n (given p) q h = by-ended n p q (stepped (runOf (past (x .sender))) p .ended) refl h
 
         there : (t : Bool) → names roster (x .sender) ≡ t → fedFrame (stateOf roster past) x .happened ≡ H.Epoch e → EndsEpoch roster xs x e
-        there true n h = by-own n (own x) refl (sym (listed-tells n) ∙ h)
+        there true n h = by-own n (ownPacket x) refl (sym (listed-comes n) ∙ h)
         there false n h =
             let r = fed-unlisted roster (is .few) (is .once) past x n in
             absurd (never-refused (sym (ap (λ (f : Fed). f .happened) (r .1)) ∙ h))
 
         back : EndsEpoch roster xs x e → fedFrame (stateOf roster past) x .happened ≡ H.Epoch e
         back w =
-            listed-tells (w .listed)
-            ∙ ap (tells (x .sender) (past (x .sender))) (w .formed)
-            ∙ ap (told (x .sender) (w .packet)) (whole-epoch (w .packet) (past (x .sender)) (w .total) (formed-on (w .formed)) .1 (w .ends))
+            listed-comes (w .listed)
+            ∙ ap (comesTo (x .sender) (past (x .sender))) (w .formed)
+            ∙ ap (outcome (x .sender) (w .packet)) (whole-epoch (w .packet) (past (x .sender)) (w .total) (formed-on (w .formed)) .1 (w .ends))
             ∙ ap H.Epoch (sym (w .report))
 
     -- with at most 225 observations, where the payload is of bytes
     pub epoch-small : Bytes (x .payload) → fedFrame (after (made roster .collator) xs) x .happened ≡ H.Epoch e → e .observations ≤ 225
     epoch-small bytes h =
-        let w = epoch-told .0 h in
-        let n = judged-n (x .sender ∷ []) (x .kind) (x .sender) (x .payload) bytes (w .formed) in
+        let w = epoch-outcome .0 h in
+        let n = n-small (x .kind) (x .payload) (w .formed) bytes in
         subst (λ (r : Report). r .observations ≤ 225) (sym (w .report)) (total-small (formed-on (w .formed)) n (w .ends))
+
+  -- a frame ends one epoch at most
+  pub one-epoch : {past : List Content} {x : Content} {d e : Report} → EndsEpoch roster past x d → EndsEpoch roster past x e → d ≡ e
+  one-epoch {past} {x} {d} {e} v w = same-report (sym (epoch-outcome past x d .1 v) ∙ epoch-outcome past x e .1 w)
+
+  -- each frame with its report or none: the one law that reports and listings are read off
+  pub came-to : (past xs : List Content) → CameTo roster past xs (outcomes (after (made roster .collator) past) xs)
+  unfolding outcomes
+  came-to past [] = tt
+  came-to past (x ∷ xs) = (
+    λ e. epoch-outcome past x e,
+    subst (λ (c : Collator). CameTo roster (past ++ x ∷ []) xs (outcomes c xs)) (after-one (made roster .collator) past x) (came-to (past ++ x ∷ []) xs),
+  )
 
   -- ---- demand 3
 
@@ -151,7 +180,7 @@ module _ (roster : List ℕ) (ok : made roster .number ≡ 0) where
 
   own-reports : (s : ℕ) → names roster s ≡ true → (xs : List Content) (past : ℕ → List Packet)
       → reportsOf s (reports (stateOf roster past) xs) ≡ ownReports s (past s) (ofSender s xs)
-  unfolding reports reportsOf ofSender ownReports
+  unfolding outcomes reportsOf ofSender ownReports
   own-reports s n [] past = refl
   own-reports s n (x ∷ xs) past = by (eqb (x .sender) s) refl (own-reports s n xs (heardBy x past))
     where
@@ -159,23 +188,22 @@ module _ (roster : List ℕ) (ok : made roster .number ≡ 0) where
       rest = ap (λ (c : Collator). reportsOf s (reports c xs)) (fed-state roster (is .few) (is .once) past x)
 
       by : (t : Bool) → eqb (x .sender) s ≡ t
-          → reportsOf s (reports (stateOf roster (heardBy x past)) xs) ≡ ownReports s (cond t (kept (own x) (past s)) (past s)) (ofSender s xs)
+          → reportsOf s (reports (stateOf roster (heardBy x past)) xs) ≡ ownReports s (cond t (kept (ownPacket x) (past s)) (past s)) (ofSender s xs)
           → reportsOf s (reportIn (fedFrame (stateOf roster past) x .happened) (reports (fedFrame (stateOf roster past) x .collator) xs))
           ≡ ownReports s (past s) (cond t (x ∷ ofSender s xs) (ofSender s xs))
       by true q all =
           let own-sender = eqb-true (x .sender) s q in
-          let heard-of : fedFrame (stateOf roster past) x .happened ≡ tells s (past s) (own x)
+          let heard-of : fedFrame (stateOf roster past) x .happened ≡ comesTo s (past s) (ownPacket x)
           = ap (λ (f : Fed). f .happened) (fed-listed roster (is .few) (is .once) past x (ap (names roster) own-sender ∙ n))
-          ∙ ap (λ (k : ℕ). tells k (past k) (own x)) own-sender in
+          ∙ ap (λ (k : ℕ). comesTo k (past k) (ownPacket x)) own-sender in
           ap (λ (h : Happened). reportsOf s (reportIn h (reports (fedFrame (stateOf roster past) x .collator) xs))) heard-of
-          ∙ tells-own s (past s) (own x) (reports (fedFrame (stateOf roster past) x .collator) xs)
-          ∙ ap (reportIn (tells s (past s) (own x))) (rest ∙ all)
-      by false q all = report-own (stateOf roster past) (x .kind) (x .sender) (x .payload) (reports (fedFrame (stateOf roster past) x .collator) xs) (eqb-false (x .sender) s q) ∙ rest ∙ all
+          ∙ comes-own s (past s) (ownPacket x) (reports (fedFrame (stateOf roster past) x .collator) xs)
+          ∙ ap (reportIn (comesTo s (past s) (ownPacket x))) (rest ∙ all)
+      by false q all = report-own (stateOf roster past) x (reports (fedFrame (stateOf roster past) x .collator) xs) (eqb-false (x .sender) s q) ∙ rest ∙ all
 
   from-start : (s : ℕ) → names roster s ≡ true → (xs : List Content) → reportsOf s (reports start xs) ≡ ownReports s [] (ofSender s xs)
   from-start s n xs =
-      ap (λ (m : Made). reportsOf s (reports (m .collator) xs)) (is .whole)
-      ∙ ap (λ (c : Collator). reportsOf s (reports c xs)) (fresh-state roster (is .few))
+      ap (λ (c : Collator). reportsOf s (reports c xs)) begun
       ∙ own-reports s n xs (λ (s : ℕ). [])
 
   pub same-reports : (xs ys : List Content) → SameFrames roster xs ys → (s : ℕ) → names roster s ≡ true

@@ -1,11 +1,6 @@
-pub mod Pasts
-pub mod Rosters
-pub mod Keys
-pub mod Judgements
+pub mod Searches
 pub mod Making
-pub mod Runs
-pub mod Places
-pub mod Epochs
+pub mod Placings
 pub mod Feeding
 pub mod Reports
 pub mod Senders

@@ -9,38 +9,54 @@ use lib.Dec.{eqb}
 use lib.ListN.{length, getD, set, take, replicate, length-map, List·getD-append}
 use lib.Seq.{take-take, take-append-seam, getD-take, take-set-lt, set-append-left}
 use borrow.Author.Tests.{eq-eqb, ne-eqb}
-use Rattle.epochs.specs.Packet.{seatOf, judged}
-use Rattle.epochs.specs.Collator.{idle, stepped, told, rosterOf, fed, fresh, names, repeats}
-use Rattle.epochs.specs.Epoch.{own, kept, packetsOf, ofSender, fedFrame, after}
+use Rattle.wire.specs.Refusals.{refused, given, Answer}
 use Rattle.frames.specs.Frame.{Content}
-use Rattle.epochs.specs.declared.judging.Packet.{Packet}
-use Rattle.epochs.specs.declared.judging.Seat.the-variants.{At}
-use Rattle.epochs.specs.declared.judging.Judged.{Judged}
-use Rattle.epochs.specs.declared.judging.Judged.the-variants as J
-use Rattle.epochs.specs.declared.placing.Place.{Place}
+use Rattle.packets.specs.declared.packet.Packet.{Packet}
+use Rattle.packets.proofs.Joined.{mapped}
+use Rattle.runs.specs.Run.{stepped, runOf}
+use Rattle.runs.specs.declared.running.Run.{Run}
+use Rattle.epochs.specs.Search.{seatOf, names, repeats}
+use Rattle.epochs.specs.Collator.{idle, outcome, forPlace, rosterOf, fedFrame, fresh}
+use Rattle.epochs.specs.Epoch.{ownPacket, kept, packetsOf, ofSender, after}
+use Rattle.epochs.specs.declared.seating.Seat.the-variants.{At}
+use Rattle.epochs.specs.declared.collating.Place.{Place}
 use Rattle.epochs.specs.declared.collating.Collator.{Collator}
 use Rattle.epochs.specs.declared.collating.Happened.{Happened}
 use Rattle.epochs.specs.declared.collating.Happened.the-variants as H
 use Rattle.epochs.specs.declared.collating.Fed.{Fed}
-use Rattle.epochs.proofs.Pasts.{placeOf, placesOf, stateOf}
-use Rattle.epochs.proofs.Rosters.{seat-below, seat-named, seat-listed, seat-unlisted, map-others, map-seat, map-at}
-use Rattle.epochs.proofs.Judgements.{moved, judged-listed, judged-unlisted}
+use Rattle.epochs.proofs.Searches.{seat-below, seat-named, seat-listed, map-others, map-seat, map-at}
+use Rattle.epochs.proofs.Placings.{at, placed-listed, placed-unlisted}
 use Rattle.epochs.proofs.Feeding.{fed-refused, fed-for}
+
+-- ---- how the laws see a collator's state
+
+-- a sender's place after its packets, the latest first
+abbrev pub placeOf : List Packet → Place
+placeOf past = record { run = runOf past }
+
+-- the places of a roster's senders, each after its own packets
+abbrev pub placesOf : List ℕ → (ℕ → List Packet) → List Place
+placesOf roster past = map (λ (s : ℕ). placeOf (past s)) roster
+
+-- the collator in which each listed sender has sent the packets of its past, and nothing else has left a trace
+abbrev pub stateOf : List ℕ → (ℕ → List Packet) → Collator
+stateOf roster past =
+    record { places = take 8 (placesOf roster past ++ replicate 8 idle); roster = take 8 (roster ++ replicate 8 0); count = length roster }
 
 -- the packets of every sender once a frame is fed: its own sender's has one more, where it is well-formed
 abbrev pub heardBy : Content → (ℕ → List Packet) → ℕ → List Packet
-heardBy x past s = cond (eqb (x .sender) s) (kept (own x) (past s)) (past s)
+heardBy x past s = cond (eqb (x .sender) s) (kept (ownPacket x) (past s)) (past s)
 
--- what a frame of a listed sender tells
-abbrev pub tells : ℕ → List Packet → Judged → Happened
-tells sender past (J.Refused n) = H.Refused n
-tells sender past (J.For i p) = told sender p (stepped (placeOf past) p .ended)
+-- what a frame of a listed sender comes to
+abbrev pub comesTo : ℕ → List Packet → Answer Packet → Happened
+comesTo sender past (refused n) = H.Refused n
+comesTo sender past (given p) = outcome sender p (stepped (runOf past) p .ended)
 
 pub state-ext : (roster : List ℕ) {a b : ℕ → List Packet} → ((s : ℕ) → a s ≡ b s) → stateOf roster a ≡ stateOf roster b
 state-ext roster e = ap (stateOf roster) (λ i s. e s i)
 
 -- the frame's own sender, and the others
-heard-own : (x : Content) (past : ℕ → List Packet) → heardBy x past (x .sender) ≡ kept (own x) (past (x .sender))
+heard-own : (x : Content) (past : ℕ → List Packet) → heardBy x past (x .sender) ≡ kept (ownPacket x) (past (x .sender))
 heard-own x past = rw (eq-eqb (x .sender) (x .sender) refl)
 
 heard-other : (x : Content) (past : ℕ → List Packet) (s : ℕ) → (s ≡ x .sender → ⊥) → past s ≡ heardBy x past s
@@ -52,7 +68,7 @@ module _ (roster : List ℕ) (few : length roster ≤ 8) where
 
   -- a made collator has heard nothing
   pub fresh-state : fresh roster ≡ stateOf roster (λ (s : ℕ). [])
-  unfolding placeOf
+  unfolding runOf
   fresh-state = ap (λ (ps : List Place). record { places = ps; roster = take 8 (roster ++ replicate 8 0); count = length roster }) (sym (all-idle roster 8 8 (omega arith)))
     where
       all-idle : (xs : List ℕ) (m n : ℕ) → m ≤ n → take m (map (λ (s : ℕ). idle) xs ++ replicate n idle) ≡ replicate m idle
@@ -65,15 +81,15 @@ module _ (roster : List ℕ) (few : length roster ≤ 8) where
     abbrev c : Collator
     c = stateOf roster past
 
-    at-roster : judged (rosterOf c) (x .kind) (x .sender) (x .payload) ≡ judged roster (x .kind) (x .sender) (x .payload)
-    at-roster = ap (λ (r : List ℕ). judged r (x .kind) (x .sender) (x .payload)) (roster-kept past)
+    at-roster : forPlace (rosterOf c) x ≡ forPlace roster x
+    at-roster = ap (λ (r : List ℕ). forPlace r x) (roster-kept past)
 
-    abbrev told-of : List Place → Happened → Fed
-    told-of places h = record { collator = record { places = places; roster = c .roster; count = c .count }; happened = h }
+    abbrev fed-to : List Place → Happened → Fed
+    fed-to places h = record { collator = record { places = places; roster = c .roster; count = c .count }; happened = h }
 
     -- a frame that is not well-formed leaves every sender's packets as they were
-    unheard : {n : ℕ} → own x ≡ J.Refused n → c ≡ stateOf roster (heardBy x past)
-    unheard q = state-ext roster (λ s. both (eqb (x .sender) s) ∙ ap (λ (j : Judged). cond (eqb (x .sender) s) (kept j (past s)) (past s)) (sym q))
+    unheard : {n : ℕ} → ownPacket x ≡ refused n → c ≡ stateOf roster (heardBy x past)
+    unheard q = state-ext roster (λ s. both (eqb (x .sender) s) ∙ ap (λ (a : Answer Packet). cond (eqb (x .sender) s) (kept a (past s)) (past s)) (sym q))
       where
         both : {ps : List Packet} (t : Bool) → ps ≡ cond t ps ps
         both true = refl
@@ -100,41 +116,41 @@ module _ (roster : List ℕ) (few : length roster ≤ 8) where
           ∙ ap (λ (s : ℕ). placeOf (past s)) named
 
       -- and once it has the next packet the others are as they were
-      placed : {j : ℕ} {p : Packet} → own x ≡ J.For j p → set (c .places) i (stepped (placeOf (past (x .sender))) p .place) ≡ stateOf roster (heardBy x past) .places
-      unfolding placeOf
-      placed {p = p} q =
-          let v = stepped (placeOf (past (x .sender))) p .place in
-          let next : v ≡ placeOf (heardBy x past (x .sender)) = sym (ap placeOf (heard-own x past ∙ ap (λ (j : Judged). kept j (past (x .sender))) q)) in
+      placed-on : {p : Packet} → ownPacket x ≡ given p → set (c .places) i (record { run = stepped (runOf (past (x .sender))) p .run }) ≡ stateOf roster (heardBy x past) .places
+      unfolding runOf
+      placed-on {p} q =
+          let v : Place = record { run = stepped (runOf (past (x .sender))) p .run } in
+          let next : v ≡ placeOf (heardBy x past (x .sender)) = sym (ap placeOf (heard-own x past ∙ ap (λ (a : Answer Packet). kept a (past (x .sender))) q)) in
           sym (take-set-lt 8 (placesOf roster past ++ replicate 8 idle) i v (omega (arith, below)))
           ∙ ap (take 8) (set-append-left (placesOf roster past) (replicate 8 idle) i v inside)
           ∙ ap (λ (ps : List Place). take 8 (ps ++ replicate 8 idle))
           (ap (set (placesOf roster past) i) next
           ∙ map-seat (x .sender) (λ y other. ap placeOf (heard-other x past y other)) roster i once below named)
 
-      fed-at : (j : Judged) → own x ≡ j → fed c (x .kind) (x .sender) (x .payload) ≡ told-of (stateOf roster (heardBy x past) .places) (tells (x .sender) (past (x .sender)) j)
-      fed-at (J.Refused n) q =
-          fed-refused c (x .kind) (x .sender) (x .payload) (at-roster ∙ judged-listed roster (x .kind) (x .sender) (x .payload) e ∙ ap (moved i) q)
+      fed-at : (a : Answer Packet) → ownPacket x ≡ a → fedFrame c x ≡ fed-to (stateOf roster (heardBy x past) .places) (comesTo (x .sender) (past (x .sender)) a)
+      fed-at (refused n) q =
+          fed-refused c x (at-roster ∙ placed-listed roster x e ∙ ap (mapped (at i)) q)
           ∙ ap (λ (d : Collator). record { collator = d; happened = H.Refused n }) (unheard q)
-      fed-at (J.For j p) q =
-          fed-for c (x .kind) (x .sender) (x .payload) (at-roster ∙ judged-listed roster (x .kind) (x .sender) (x .payload) e ∙ ap (moved i) q)
-          ∙ ap (λ (place : Place). told-of (set (c .places) i (stepped place p .place)) (told (x .sender) p (stepped place p .ended))) own-place
-          ∙ ap (λ (ps : List Place). told-of ps (tells (x .sender) (past (x .sender)) (J.For j p))) (placed q)
+      fed-at (given p) q =
+          fed-for c x (at-roster ∙ placed-listed roster x e ∙ ap (mapped (at i)) q)
+          ∙ ap (λ (r : Run). fed-to (set (c .places) i (record { run = stepped r p .run })) (outcome (x .sender) p (stepped r p .ended))) (ap (λ (place : Place). place .run) own-place)
+          ∙ ap (λ (ps : List Place). fed-to ps (comesTo (x .sender) (past (x .sender)) (given p))) (placed-on q)
 
     pub fed-listed : names roster (x .sender) ≡ true
-        → fed c (x .kind) (x .sender) (x .payload) ≡ record { collator = stateOf roster (heardBy x past); happened = tells (x .sender) (past (x .sender)) (own x) }
-    fed-listed n = let seat = seat-listed roster (x .sender) 0 n in fed-at (seat .0) (seat .1) (own x) refl
+        → fedFrame c x ≡ record { collator = stateOf roster (heardBy x past); happened = comesTo (x .sender) (past (x .sender)) (ownPacket x) }
+    fed-listed n = let seat = seat-listed roster (x .sender) n in fed-at (seat .0) (seat .1) (ownPacket x) refl
 
     -- ---- a frame of another sender is refused, and leaves no trace
 
     pub fed-unlisted : names roster (x .sender) ≡ false
-        → (n : ℕ) × (fed c (x .kind) (x .sender) (x .payload) ≡ record { collator = stateOf roster (heardBy x past); happened = H.Refused n })
+        → (n : ℕ) × (fedFrame c x ≡ record { collator = stateOf roster (heardBy x past); happened = H.Refused n })
     fed-unlisted n =
-        let r = judged-unlisted roster (x .kind) (x .sender) (x .payload) (seat-unlisted roster (x .sender) 0 n) in
+        let r = placed-unlisted roster x n in
         let others : placesOf roster past ≡ placesOf roster (heardBy x past)
         = map-others (x .sender) (λ y other. ap placeOf (heard-other x past y other)) roster n in (
           r .0,
-          fed-refused c (x .kind) (x .sender) (x .payload) (at-roster ∙ r .1)
-              ∙ ap (λ (ps : List Place). told-of (take 8 (ps ++ replicate 8 idle)) (H.Refused (r .0))) others,
+          fed-refused c x (at-roster ∙ r .1)
+              ∙ ap (λ (ps : List Place). fed-to (take 8 (ps ++ replicate 8 idle)) (H.Refused (r .0))) others,
         )
 
     -- either way the state is that of each sender's own packets
@@ -151,7 +167,7 @@ module _ (roster : List ℕ) (few : length roster ≤ 8) where
   unfolding packetsOf ofSender
   packets-on x xs past s = by (eqb (x .sender) s)
     where
-      by : (t : Bool) → packetsOf (ofSender s xs) (cond t (kept (own x) (past s)) (past s)) ≡ packetsOf (cond t (x ∷ ofSender s xs) (ofSender s xs)) (past s)
+      by : (t : Bool) → packetsOf (ofSender s xs) (cond t (kept (ownPacket x) (past s)) (past s)) ≡ packetsOf (cond t (x ∷ ofSender s xs) (ofSender s xs)) (past s)
       by true = refl
       by false = refl
 

@@ -4,12 +4,12 @@ use mathlib.Core.Bool.{cond}
 use mathlib.Core.List.{List, [], _∷_}
 use lib.Dec.{eqb}
 use lib.ListN.{getD, set, replicate}
-use Rattle.epochs.specs.Packet.{seatOf}
-use Rattle.epochs.specs.Collator.{rosterOf, made}
-use Rattle.epochs.specs.Epoch.{fedFrame, contentsOf}
+use Rattle.epochs.specs.Search.{seatOf}
+use Rattle.epochs.specs.Collator.{rosterOf, fedFrame, made}
+use Rattle.epochs.specs.Epoch.{contentsOf}
 use Rattle.frames.specs.Frame.{Content}
-use Rattle.epochs.specs.declared.judging.Seat.{Seat}
-use Rattle.epochs.specs.declared.judging.Seat.the-variants.{At, Nowhere}
+use Rattle.epochs.specs.declared.seating.Seat.{Seat}
+use Rattle.epochs.specs.declared.seating.Seat.the-variants.{At, Nowhere}
 use Rattle.epochs.specs.declared.collating.Collator.{Collator}
 use Rattle.epochs.specs.declared.collating.Made.{Made}
 use Rattle.epochs.specs.declared.collating.Happened.{Happened}

@@ -1,20 +1,24 @@
--- The collator step by step: a place takes a packet, a collator takes a frame. Assumes nothing.
-use Prim.Native.Nat.{ℕ, _+_, _%_}
-use mathlib.Core.Bool.{Bool, true, false, _&&_, not, cond}
+-- The collator step by step: a frame's own place takes its packet. What a packet is stands in `packets` and what a step does in `runs`; nothing
+-- here looks inside either. Assumes nothing.
+use Prim.Native.Nat.{ℕ}
+use mathlib.Core.Bool.{_&&_, not}
 use mathlib.Core.List.{List, [], _∷_, _++_}
-use lib.Dec.{eqb, leb}
+use lib.Dec.{leb}
 use lib.ListN.{length, getD, set, take, replicate}
-use Rattle.epochs.specs.Packet.{sameKey, judged}
-use Rattle.epochs.specs.declared.judging.Packet.{Packet}
-use Rattle.epochs.specs.declared.judging.Judged.{Judged}
-use Rattle.epochs.specs.declared.judging.Judged.the-variants as J
-use Rattle.epochs.specs.declared.placing.Part.{Part}
-use Rattle.epochs.specs.declared.placing.Run.{Run}
-use Rattle.epochs.specs.declared.placing.Run.the-variants.{Idle, Open}
-use Rattle.epochs.specs.declared.placing.Place.{Place}
-use Rattle.epochs.specs.declared.placing.Ended.{Ended}
-use Rattle.epochs.specs.declared.placing.Ended.the-variants.{Not, Whole}
-use Rattle.epochs.specs.declared.placing.Stepped.{Stepped}
+use Rattle.wire.specs.Refusals.{refused, given, Answer, Tests, ordered}
+use Rattle.frames.specs.Frame.{Content}
+use Rattle.packets.specs.Packet.{packetIn, shape, numbering}
+use Rattle.packets.specs.declared.packet.Packet.{Packet}
+use Rattle.runs.specs.Run.{stepped}
+use Rattle.runs.specs.declared.running.Run.the-variants.{Idle}
+use Rattle.runs.specs.declared.running.Ended.{Ended}
+use Rattle.runs.specs.declared.running.Ended.the-variants.{Not, Whole}
+use Rattle.epochs.specs.Search.{seatOf, names, repeats}
+use Rattle.epochs.specs.declared.seating.Seat.{Seat}
+use Rattle.epochs.specs.declared.seating.Seat.the-variants.{At, Nowhere}
+use Rattle.epochs.specs.declared.recognising.Recognised.{Recognised}
+use Rattle.epochs.specs.declared.recognising.Recognised.the-variants as R
+use Rattle.epochs.specs.declared.collating.Place.{Place}
 use Rattle.epochs.specs.declared.collating.Collator.{Collator}
 use Rattle.epochs.specs.declared.collating.Report.{Report}
 use Rattle.epochs.specs.declared.collating.Happened.{Happened}
@@ -22,86 +26,72 @@ use Rattle.epochs.specs.declared.collating.Happened.the-variants as H
 use Rattle.epochs.specs.declared.collating.Fed.{Fed}
 use Rattle.epochs.specs.declared.collating.Made.{Made}
 
--- ---- one place
+-- ---- a frame, by the roster and the frame alone
+
+-- "Feeding: 46, 22, 43, 44, 45."
+abbrev pub feeding : List ℕ → Content → Tests
+feeding roster x = shape (x .kind) (x .payload) ++ (names roster (x .sender), 43) ∷ numbering (packetIn (x .payload))
+
+abbrev pub seatNumber : Seat → ℕ
+seatNumber Nowhere = 0
+seatNumber (At i) = i
+
+-- what passes them is a packet for its sender's place
+unfoldable pub forPlace : List ℕ → Content → Answer (ℕ × Packet)
+forPlace roster x = ordered (feeding roster x) (seatNumber (seatOf roster (x .sender) 0), packetIn (x .payload))
+
+abbrev pub recognisedAnswer : Recognised → Answer (ℕ × Packet)
+recognisedAnswer (R.For i p) = given (i, p)
+recognisedAnswer (R.Refused n) = refused n
+
+-- ---- the collator
 
 abbrev pub idle : Place
 idle = record { run = Idle }
-
-abbrev pub dropped : Stepped
-dropped = record { place = idle; ended = Not }
-
--- the run that ends with this packet: whole where its counter is the last, else open for the next
-unfoldable pub goesOn : Packet → ℕ → Stepped
-goesOn p total =
-    cond (eqb ((p .counter + 1) % 256) (p .key .n)) (record { place = idle; ended = Whole total })
-    (record { place = record { run = Open (record { key = p .key; next = (p .counter + 1) % 256; total = total }) }; ended = Not })
-
--- a packet fits an open run: of the same key, with the counter that comes next
-abbrev pub fits : Part → Packet → Bool
-fits part p = sameKey (part .key) (p .key) && eqb (part .next) (p .counter)
-
--- the observations of an open run and one more packet. The sum wraps, so that no state traps
-abbrev pub summed : Part → Packet → ℕ
-summed part p = (part .total + p .observations) % 65536
-
--- a packet that fits goes on; any other leaves the place idle
-unfoldable pub continued : Run → Packet → Stepped
-unfolding goesOn
-continued Idle p = dropped
-continued (Open part) p = cond (fits part p) (goesOn p (summed part p)) dropped
-
--- counter 0 begins a run, whatever was open
-unfoldable pub stepped : Place → Packet → Stepped
-unfolding goesOn continued
-stepped place p = cond (eqb (p .counter) 0) (goesOn p (p .observations)) (continued (place .run) p)
-
--- ---- the collator
 
 -- an epoch of the sender that ends with this packet
 abbrev pub reportOf : ℕ → Packet → ℕ → Report
 reportOf sender p total = record { sender = sender; wn = p .key .wn; tow = p .key .tow; n = p .key .n; observations = total }
 
--- what a step tells: nothing yet, or an epoch
-abbrev pub told : ℕ → Packet → Ended → Happened
-told sender p Not = H.Taken
-told sender p (Whole total) = H.Epoch (reportOf sender p total)
+-- what a step comes to: nothing yet, or an epoch
+abbrev pub outcome : ℕ → Packet → Ended → Happened
+outcome sender p Not = H.Taken
+outcome sender p (Whole total) = H.Epoch (reportOf sender p total)
 
 -- the packet's place takes it, and no other
 abbrev pub taken : Collator → ℕ → ℕ → Packet → Fed
 taken c sender i p =
-    let s = stepped (getD (c .places) i idle) p in
-    record { collator = record { places = set (c .places) i (s .place); roster = c .roster; count = c .count }; happened = told sender p (s .ended) }
+    let s = stepped (getD (c .places) i idle .run) p in
+    record {
+      collator = record { places = set (c .places) i (record { run = s .run }); roster = c .roster; count = c .count };
+      happened = outcome sender p (s .ended);
+    }
 
 -- a refusal leaves the state as it was
-abbrev pub acted : Collator → ℕ → Judged → Fed
-acted c sender (J.Refused n) = record { collator = c; happened = H.Refused n }
-acted c sender (J.For i p) = taken c sender i p
+abbrev pub acted : Collator → ℕ → Answer (ℕ × Packet) → Fed
+acted c sender (refused n) = record { collator = c; happened = H.Refused n }
+acted c sender (given a) = taken c sender (a .0) (a .1)
 
 -- the senders that a collator lists
 abbrev pub rosterOf : Collator → List ℕ
 rosterOf c = take (c .count) (c .roster)
 
-unfoldable pub fed : Collator → ℕ → ℕ → List ℕ → Fed
-fed c kind sender payload = acted c sender (judged (rosterOf c) kind sender payload)
+unfoldable pub fedFrame : Collator → Content → Fed
+fedFrame c x = acted c (x .sender) (forPlace (rosterOf c) x)
 
 -- ---- made from a roster
 
 abbrev pub fresh : List ℕ → Collator
 fresh roster = record { places = replicate 8 idle; roster = take 8 (roster ++ replicate 8 0); count = length roster }
 
-unfoldable pub names : List ℕ → ℕ → Bool
-names [] x = false
-names (y ∷ ys) x = cond (eqb y x) true (names ys x)
+-- "Roster: 41, 42.": not empty and not longer than 8, no sender twice
+abbrev pub rostering : List ℕ → Tests
+rostering roster = (leb 1 (length roster) && leb (length roster) 8, 41) ∷ (not (repeats roster), 42) ∷ []
 
--- a sender is named twice
-unfoldable pub repeats : List ℕ → Bool
-unfolding names
-repeats [] = false
-repeats (x ∷ xs) = cond (names xs x) true (repeats xs)
+-- a refusal's collator lists nobody
+abbrev pub asMade : Answer Collator → Made
+asMade (given c) = record { collator = c; number = 0 }
+asMade (refused n) = record { collator = fresh []; number = n }
 
--- 41 for a roster that is empty or longer than 8, then 42 for a sender twice; a refusal's collator lists nobody
 unfoldable pub made : List ℕ → Made
-made roster =
-    cond (not (leb 1 (length roster) && leb (length roster) 8)) (record { collator = fresh []; number = 41 })
-    (cond (repeats roster) (record { collator = fresh []; number = 42 })
-    (record { collator = fresh roster; number = 0 }))
+made roster = asMade (ordered (rostering roster) (fresh roster))

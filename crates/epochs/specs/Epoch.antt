@@ -1,69 +1,41 @@
--- An epoch in document 01's words, over the packets of one sender; the packets and the reports of a sender over frames fed in order.
--- Assumes nothing.
-use Prim.Native.Nat.{ℕ, zero, suc, _+_}
+-- Frames fed in order: the packets of each sender, what each frame comes to, and which frame ends an epoch in document 01's words. Nothing here
+-- looks inside a packet or a step. Assumes nothing.
+use Prim.Native.Nat.{ℕ, _≤_}
 use mathlib.Core.Path.{_≡_}
-use mathlib.Core.Bool.{true, cond}
+use mathlib.Core.Bool.{true, false, cond}
 use mathlib.Core.List.{List, [], _∷_, _++_, map}
+use mathlib.Core.Logic.{_↔_}
 use lib.Dec.{eqb}
-use lib.ListN.{replicate}
+use lib.ListN.{length}
+use Rattle.wire.specs.Refusals.{refused, given, Answer}
 use Rattle.frames.specs.Frame.{Content}
 use Rattle.frames.specs.Step.{payloadIn}
 use Rattle.frames.specs.Reading.{closedSteps, framesOf}
 use Rattle.frames.specs.declared.step.Frame.{Frame}
-use Rattle.epochs.specs.Packet.{sameKey, judged}
-use Rattle.epochs.specs.Collator.{reportOf, names, fed}
-use Rattle.epochs.specs.declared.judging.Key.{Key}
-use Rattle.epochs.specs.declared.judging.Packet.{Packet}
-use Rattle.epochs.specs.declared.judging.Judged.{Judged}
-use Rattle.epochs.specs.declared.judging.Judged.the-variants as J
+use Rattle.packets.specs.Packet.{recognised}
+use Rattle.packets.specs.declared.packet.Packet.{Packet}
+use Rattle.runs.specs.InWords.{EpochEnds}
+use Rattle.epochs.specs.Search.{names, repeats}
+use Rattle.epochs.specs.Collator.{reportOf, fedFrame}
 use Rattle.epochs.specs.declared.collating.Collator.{Collator}
 use Rattle.epochs.specs.declared.collating.Report.{Report}
-use Rattle.epochs.specs.declared.collating.Fed.{Fed}
 use Rattle.epochs.specs.declared.collating.Happened.{Happened}
 use Rattle.epochs.specs.declared.collating.Happened.the-variants as H
 
--- ---- a run of packets, the latest first: of one key, with counters 0 up to j, and their observations together
-pub data RunTo (key : Key) : ℕ → List Packet → ℕ → Type 0 where
-  begins : {p : Packet} {past : List Packet} → sameKey key (p .key) ≡ true → p .counter ≡ 0 → RunTo key 0 (p ∷ past) (p .observations)
-  follows : {p : Packet} {past : List Packet} {j total : ℕ} → RunTo key j past total → sameKey key (p .key) ≡ true → p .counter ≡ suc j
-      → RunTo key (suc j) (p ∷ past) (total + p .observations)
+-- ---- the packets of frames
 
--- the latest packet is the last of an epoch: a run of n packets that follow one another, with counters 0 to n - 1
-pub record EpochEnds (p : Packet) (past : List Packet) (total : ℕ) : Type 0 where
-  pub last : suc (p .counter) ≡ p .key .n
-  pub run : RunTo (p .key) (p .counter) (p ∷ past) total
-
--- the same, packet by packet: n of them stand next to one another at the front of the history, with counters n - 1 down to 0, all of one key
-unfoldable pub countdown : ℕ → List ℕ
-countdown zero = []
-countdown (suc n) = n ∷ countdown n
-
-unfoldable pub observationsIn : List Packet → ℕ
-observationsIn [] = 0
-observationsIn (p ∷ ps) = observationsIn ps + p .observations
-
-pub record InWords (p : Packet) (past : List Packet) (total : ℕ) : Type 0 where
-  pub packets : List Packet
-  pub earlier : List Packet
-  pub front : p ∷ past ≡ packets ++ earlier
-  pub counters : map (λ (q : Packet). q .counter) packets ≡ countdown (p .key .n)
-  pub keys : map (λ (q : Packet). q .key) packets ≡ replicate (p .key .n) (p .key)
-  pub sum : observationsIn packets ≡ total
-
--- ---- frames, in the order in which they are fed
-
--- what a frame is by itself: as its own sender's collator judges it
-abbrev pub own : Content → Judged
-own x = judged (x .sender ∷ []) (x .kind) (x .sender) (x .payload)
+-- what a frame is by itself
+abbrev pub ownPacket : Content → Answer Packet
+ownPacket x = recognised (x .kind) (x .payload)
 
 -- the packet of a well-formed frame comes to those before it
-abbrev pub kept : Judged → List Packet → List Packet
-kept (J.Refused n) past = past
-kept (J.For i p) past = p ∷ past
+abbrev pub kept : Answer Packet → List Packet → List Packet
+kept (refused n) past = past
+kept (given p) past = p ∷ past
 
 unfoldable pub packetsOf : List Content → List Packet → List Packet
 packetsOf [] past = past
-packetsOf (x ∷ xs) past = packetsOf xs (kept (own x) past)
+packetsOf (x ∷ xs) past = packetsOf xs (kept (ownPacket x) past)
 
 unfoldable pub ofSender : ℕ → List Content → List Content
 ofSender sender [] = []
@@ -74,22 +46,27 @@ unfoldable pub historyOf : ℕ → List Content → List Packet
 unfolding packetsOf ofSender
 historyOf sender xs = packetsOf (ofSender sender xs) []
 
-abbrev pub fedFrame : Collator → Content → Fed
-fedFrame c x = fed c (x .kind) (x .sender) (x .payload)
+-- ---- what feeding frames leaves, what each of them comes to, and the reports among that
 
--- what feeding frames leaves, and what it reports
 unfoldable pub after : Collator → List Content → Collator
 after c [] = c
 after c (x ∷ xs) = after (fedFrame c x .collator) xs
+
+unfoldable pub outcomes : Collator → List Content → List Happened
+outcomes c [] = []
+outcomes c (x ∷ xs) = fedFrame c x .happened ∷ outcomes (fedFrame c x .collator) xs
 
 abbrev pub reportIn : Happened → List Report → List Report
 reportIn (H.Refused n) rs = rs
 reportIn H.Taken rs = rs
 reportIn (H.Epoch r) rs = r ∷ rs
 
-unfoldable pub reports : Collator → List Content → List Report
-reports c [] = []
-reports c (x ∷ xs) = reportIn (fedFrame c x .happened) (reports (fedFrame c x .collator) xs)
+abbrev pub reportsIn : List Happened → List Report
+reportsIn [] = []
+reportsIn (h ∷ hs) = reportIn h (reportsIn hs)
+
+abbrev pub reports : Collator → List Content → List Report
+reports c xs = reportsIn (outcomes c xs)
 
 unfoldable pub reportsOf : ℕ → List Report → List Report
 reportsOf sender [] = []
@@ -103,9 +80,29 @@ pub record EndsEpoch (roster : List ℕ) (xs : List Content) (x : Content) (e : 
   pub packet : Packet
   pub total : ℕ
   pub listed : names roster (x .sender) ≡ true
-  pub formed : own x ≡ J.For 0 packet
+  pub formed : ownPacket x ≡ given packet
   pub ends : EpochEnds packet (historyOf (x .sender) xs) total
   pub report : e ≡ reportOf (x .sender) packet total
+
+-- each of the frames that come after those of the past came to an epoch exactly when it ends that epoch
+abbrev pub CameTo : List ℕ → List Content → List Content → List Happened → Type 0
+CameTo roster past [] [] = Unit {0}
+CameTo roster past [] (h ∷ hs) = ⊥
+CameTo roster past (x ∷ xs) [] = ⊥
+CameTo roster past (x ∷ xs) (h ∷ hs) = ((e : Report) → (h ≡ H.Epoch e) ↔ EndsEpoch roster past x e) × CameTo roster (past ++ x ∷ []) xs hs
+
+-- the epochs of the frames that come after those of the past: one for each frame that ends one, in order
+pub data Epochs (roster : List ℕ) : List Content → List Content → List Report → Type 0 where
+  none : {past : List Content} → Epochs roster past [] []
+  ending : {past xs : List Content} {x : Content} {e : Report} {es : List Report} → EndsEpoch roster past x e → Epochs roster (past ++ x ∷ []) xs es
+      → Epochs roster past (x ∷ xs) (e ∷ es)
+  passing : {past xs : List Content} {x : Content} {es : List Report} → ((e : Report) → EndsEpoch roster past x e → ⊥) → Epochs roster (past ++ x ∷ []) xs es
+      → Epochs roster past (x ∷ xs) es
+
+-- each listed sender has its seat: an accepted roster, or that of nobody
+pub record Seated (roster : List ℕ) : Type 0 where
+  pub few : length roster ≤ 8
+  pub once : repeats roster ≡ false
 
 -- every listed sender sent the same frames in the same order
 abbrev pub SameFrames : List ℕ → List Content → List Content → Type 0

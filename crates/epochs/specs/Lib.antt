@@ -1,4 +1,4 @@
-pub mod Packet
+pub mod Search
 pub mod Collator
 pub mod Epoch
 pub mod Capture

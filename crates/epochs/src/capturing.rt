@@ -4,8 +4,8 @@ ghost use Rattle.epochs.specs.Capture.{oneMore, counted, fedInto, begun,
 use crate::collating::Collator;
 use crate::collating::Happened;
 use crate::collating::Made;
-use crate::judging::Seat;
-use crate::judging::seat_of;
+use crate::seating::Seat;
+use crate::seating::seat_of;
 use frames::Cursor;
 use frames::Next;
 

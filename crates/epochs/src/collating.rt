@@ -1,15 +1,21 @@
 // The collator: a place for each listed sender.
 ghost use mathlib.Core.Path.{_≡_};
 ghost use mathlib.Core.List.{_++_};
-ghost use lib.ListN.{getD, take, drop, replicate};
-ghost use Rattle.epochs.specs.Collator.{idle, told, fed, names, repeats, made};
-use crate::judging::Judged;
-use crate::judging::Packet;
-use crate::judging::judge;
-use crate::placing::Ended;
-use crate::placing::Place;
-use crate::placing::Run;
-use crate::placing::step;
+ghost use lib.ListN.{getD, take, replicate};
+ghost use Rattle.epochs.specs.Search.{repeats};
+ghost use Rattle.epochs.specs.Collator.{idle, outcome, fedFrame, made};
+use crate::recognising::Recognised;
+use crate::recognising::recognise;
+use crate::seating::Seat;
+use crate::seating::search;
+use packets::Packet;
+use runs::Ended;
+use runs::Run;
+
+// A listed sender's place: idle, or an open run.
+pub struct Place {
+    pub run: Run,
+}
 
 // The senders are the first count of the roster, and place i is that of sender i.
 pub struct Collator {
@@ -55,20 +61,6 @@ fn fresh(roster: [u16; 8], count: usize) -> Collator
     }
 }
 
-// Whether a roster names a sender from a place on.
-fn named(roster: &[u16], from: usize, sender: u16) -> bool
-    ensures { λ r. ⌜ r ≡ names (drop from (now (roster .entry))) sender ⌝ }
-{
-    let mut i = from;
-    while i < roster.len() {
-        if roster[i] == sender {
-            return true;
-        }
-        i += 1;
-    }
-    false
-}
-
 // Whether a roster names a sender twice.
 fn repeated(roster: &[u16]) -> bool
     ensures { λ r. ⌜ r ≡ repeats (now (roster .entry)) ⌝ }
@@ -76,9 +68,10 @@ fn repeated(roster: &[u16]) -> bool
     let mut i = 0;
     while i < roster.len() {
         let next = i + 1;
-        if named(roster, next, roster[i]) {
+        let later = search(roster, next, roster[i]);
+        let Seat::Nowhere = later else {
             return true;
-        }
+        };
         i = next;
     }
     false
@@ -107,9 +100,9 @@ fn seats(roster: &[u16]) -> [u16; 8]
     all
 }
 
-// What a step of a sender's place tells.
-fn told(sender: u16, packet: Packet, ended: Ended) -> Happened
-    ensures { λ r. ⌜ r ≡ told sender packet ended ⌝ }
+// What a step of a sender's place comes to.
+fn outcome(sender: u16, packet: Packet, ended: Ended) -> Happened
+    ensures { λ r. ⌜ r ≡ outcome sender packet ended ⌝ }
 {
     match ended {
         Ended::Not => Happened::Taken,
@@ -158,24 +151,25 @@ impl Collator {
 
     // The frame's own place takes it; a refusal, 46, 22, 43, 44 or 45, leaves the collator as it was.
     pub fn feed(mut self, kind: u16, sender: u16, payload: &[u8]) -> Fed
-        ensures { λ r. ⌜ r ≡ fed self kind sender (now (payload .entry)) ⌝ }
+        ensures { λ r. ⌜ r ≡ fedFrame self (record { kind = kind; sender = sender; payload = now (payload .entry) }) ⌝ }
     {
         let roster = self.roster;
-        let verdict = judge(roster, self.count, kind, sender, payload);
-        match verdict {
-            Judged::Refused(number) => Fed {
+        let found = recognise(roster, self.count, kind, sender, payload);
+        match found {
+            Recognised::Refused(number) => Fed {
                 collator: self,
                 happened: Happened::Refused(number),
             },
-            Judged::For(at, packet) => {
+            Recognised::For(at, packet) => {
                 let place = self.places[at];
-                let next = step(place, packet);
-                let after = next.place;
-                self.places[at] = after;
+                let run = place.run;
+                let next = runs::step(run, packet);
+                let after = next.run;
+                self.places[at] = Place { run: after };
                 let ended = next.ended;
                 Fed {
                     collator: self,
-                    happened: told(sender, packet, ended),
+                    happened: outcome(sender, packet, ended),
                 }
             }
         }

@@ -1,10 +1,10 @@
 // The collator: observation epochs, sender by sender. Each listed sender has one place, and no frame of another sender touches it.
-// Read specs/Packet.antt (which frames count), specs/Collator.antt (step by step), specs/Epoch.antt (an epoch in document 01's words, and what
-// a sender's frames make of it), specs/Capture.antt (a whole capture).
+// Read specs/Search.antt (who is listed), specs/Collator.antt (step by step), specs/Epoch.antt (which frame ends an epoch, and what frames
+// come to), specs/Capture.antt (a whole capture).
 mod capturing;
 mod collating;
-mod judging;
-mod placing;
+mod recognising;
+mod seating;
 
 pub use capturing::Collated;
 pub use capturing::collate;
@@ -12,16 +12,9 @@ pub use collating::Collator;
 pub use collating::Fed;
 pub use collating::Happened;
 pub use collating::Made;
+pub use collating::Place;
 pub use collating::Report;
-pub use judging::Judged;
-pub use judging::Key;
-pub use judging::Packet;
-pub use judging::Seat;
-pub use judging::judge;
-pub use judging::seat_of;
-pub use placing::Ended;
-pub use placing::Part;
-pub use placing::Place;
-pub use placing::Run;
-pub use placing::Stepped;
-pub use placing::step;
+pub use recognising::Recognised;
+pub use recognising::recognise;
+pub use seating::Seat;
+pub use seating::seat_of;

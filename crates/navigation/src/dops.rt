@@ -23,7 +23,7 @@ pub enum DopsRead {
     Refused(u8),
 }
 
-fn take(s: &[u8]) -> Dops
+pub fn take_dops(s: &[u8]) -> Dops
     ensures { λ r. ⌜ r ≡ inside dops (now (s .entry)) ⌝ }
 {
     Dops {
@@ -53,7 +53,7 @@ pub fn read_dops(s: &[u8]) -> DopsRead
     if s.len() != 14 {
         return DopsRead::Refused(22);
     }
-    DopsRead::Record(take(s))
+    DopsRead::Record(take_dops(s))
 }
 
 pub fn write_dops(buf: &mut [u8], sender: Sender, r: Dops) -> Written

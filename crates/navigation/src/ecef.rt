@@ -25,7 +25,7 @@ pub enum EcefVectorRead {
     Refused(u8),
 }
 
-fn take(s: &[u8]) -> EcefVector
+pub fn take_ecef(s: &[u8]) -> EcefVector
     ensures { λ r. ⌜ r ≡ inside velEcef (now (s .entry)) ⌝ }
 {
     EcefVector {
@@ -63,7 +63,7 @@ pub fn read_baseline_ecef(s: &[u8]) -> EcefVectorRead
     if s.len() != 20 {
         return EcefVectorRead::Refused(22);
     }
-    let r = take(s);
+    let r = take_ecef(s);
     if allowed(r) {
         return EcefVectorRead::Record(r);
     }
@@ -91,7 +91,7 @@ pub fn read_vel_ecef(s: &[u8]) -> EcefVectorRead
     if s.len() != 20 {
         return EcefVectorRead::Refused(22);
     }
-    EcefVectorRead::Record(take(s))
+    EcefVectorRead::Record(take_ecef(s))
 }
 
 pub fn write_vel_ecef(buf: &mut [u8], sender: Sender, r: EcefVector) -> Written

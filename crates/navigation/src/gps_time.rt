@@ -22,7 +22,7 @@ pub enum GpsTimeRead {
     Refused(u8),
 }
 
-fn take(s: &[u8]) -> GpsTime
+pub fn take_gps_time(s: &[u8]) -> GpsTime
     ensures { λ r. ⌜ r ≡ inside gpsTime (now (s .entry)) ⌝ }
 {
     GpsTime {
@@ -54,7 +54,7 @@ pub fn read_gps_time(s: &[u8]) -> GpsTimeRead
     if s.len() != 11 {
         return GpsTimeRead::Refused(22);
     }
-    let r = take(s);
+    let r = take_gps_time(s);
     if allowed(r) {
         return GpsTimeRead::Record(r);
     }

@@ -22,7 +22,7 @@ pub enum BaselineHeadingRead {
     Refused(u8),
 }
 
-fn take(s: &[u8]) -> BaselineHeading
+pub fn take_baseline_heading(s: &[u8]) -> BaselineHeading
     ensures { λ r. ⌜ r ≡ inside baselineHeading (now (s .entry)) ⌝ }
 {
     BaselineHeading {
@@ -54,7 +54,7 @@ pub fn read_baseline_heading(s: &[u8]) -> BaselineHeadingRead
     if s.len() != 10 {
         return BaselineHeadingRead::Refused(22);
     }
-    let r = take(s);
+    let r = take_baseline_heading(s);
     if allowed(r) {
         return BaselineHeadingRead::Record(r);
     }

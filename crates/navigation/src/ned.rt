@@ -26,7 +26,7 @@ pub enum NedVectorRead {
     Refused(u8),
 }
 
-fn take(s: &[u8]) -> NedVector
+pub fn take_ned(s: &[u8]) -> NedVector
     ensures { λ r. ⌜ r ≡ inside velNed (now (s .entry)) ⌝ }
 {
     NedVector {
@@ -66,7 +66,7 @@ pub fn read_baseline_ned(s: &[u8]) -> NedVectorRead
     if s.len() != 22 {
         return NedVectorRead::Refused(22);
     }
-    let r = take(s);
+    let r = take_ned(s);
     if allowed(r) {
         return NedVectorRead::Record(r);
     }
@@ -94,7 +94,7 @@ pub fn read_vel_ned(s: &[u8]) -> NedVectorRead
     if s.len() != 22 {
         return NedVectorRead::Refused(22);
     }
-    NedVectorRead::Record(take(s))
+    NedVectorRead::Record(take_ned(s))
 }
 
 pub fn write_vel_ned(buf: &mut [u8], sender: Sender, r: NedVector) -> Written

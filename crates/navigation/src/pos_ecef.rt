@@ -26,7 +26,7 @@ pub enum PosEcefRead {
     Refused(u8),
 }
 
-fn take(s: &[u8]) -> PosEcef
+pub fn take_pos_ecef(s: &[u8]) -> PosEcef
     ensures { λ r. ⌜ r ≡ inside posEcef (now (s .entry)) ⌝ }
 {
     PosEcef {
@@ -64,7 +64,7 @@ pub fn read_pos_ecef(s: &[u8]) -> PosEcefRead
     if s.len() != 32 {
         return PosEcefRead::Refused(22);
     }
-    let r = take(s);
+    let r = take_pos_ecef(s);
     if allowed(r) {
         return PosEcefRead::Record(r);
     }

@@ -27,7 +27,7 @@ pub enum PosLlhRead {
     Refused(u8),
 }
 
-fn take(s: &[u8]) -> PosLlh
+pub fn take_pos_llh(s: &[u8]) -> PosLlh
     ensures { λ r. ⌜ r ≡ inside posLlh (now (s .entry)) ⌝ }
 {
     PosLlh {
@@ -67,7 +67,7 @@ pub fn read_pos_llh(s: &[u8]) -> PosLlhRead
     if s.len() != 34 {
         return PosLlhRead::Refused(22);
     }
-    let r = take(s);
+    let r = take_pos_llh(s);
     if allowed(r) {
         return PosLlhRead::Record(r);
     }

@@ -21,7 +21,7 @@ pub enum BasePosEcefRead {
     Refused(u8),
 }
 
-fn take(s: &[u8]) -> BasePosEcef
+pub fn take_base_pos_ecef(s: &[u8]) -> BasePosEcef
     ensures { λ r. ⌜ r ≡ inside basePosEcef (now (s .entry)) ⌝ }
 {
     BasePosEcef {
@@ -45,7 +45,7 @@ pub fn read_base_pos_ecef(s: &[u8]) -> BasePosEcefRead
     if s.len() != 24 {
         return BasePosEcefRead::Refused(22);
     }
-    BasePosEcefRead::Record(take(s))
+    BasePosEcefRead::Record(take_base_pos_ecef(s))
 }
 
 pub fn write_base_pos_ecef(buf: &mut [u8], sender: Sender, r: BasePosEcef) -> Written

@@ -21,7 +21,7 @@ pub enum BasePosLlhRead {
     Refused(u8),
 }
 
-fn take(s: &[u8]) -> BasePosLlh
+pub fn take_base_pos_llh(s: &[u8]) -> BasePosLlh
     ensures { λ r. ⌜ r ≡ inside basePosLlh (now (s .entry)) ⌝ }
 {
     BasePosLlh {
@@ -45,7 +45,7 @@ pub fn read_base_pos_llh(s: &[u8]) -> BasePosLlhRead
     if s.len() != 24 {
         return BasePosLlhRead::Refused(22);
     }
-    BasePosLlhRead::Record(take(s))
+    BasePosLlhRead::Record(take_base_pos_llh(s))
 }
 
 pub fn write_base_pos_llh(buf: &mut [u8], sender: Sender, r: BasePosLlh) -> Written

@@ -1,2 +1,2 @@
-pub mod Lines
-pub mod Answers
+pub mod Entries
+pub mod Agreed

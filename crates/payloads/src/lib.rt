@@ -1,10 +1,15 @@
 // What a type number means: one reading of any type and payload, and its answer 0, 21, 22 or 23.
-// Read specs/Table.antt first: it is document 01's table, a line for each message with its type, length and ranges.
-// proofs/Answers.antt shows that the table and the messages' own descriptions agree.
+// Read specs/Payloads.antt first: the messages by their descriptions, and the ordered tests of any type and payload; then specs/Checks.antt,
+// document 01's types, lengths and ranges as numbers, which are proved to agree with the descriptions.
 ghost use mathlib.Core.Path.{_≡_};
-ghost use Rattle.payloads.specs.Table.{readFor, answerFor, readingAnswer};
+ghost use Rattle.observation.specs.Obs.{readObs};
+ghost use Rattle.system.specs.Log.{readLog};
+ghost use Rattle.payloads.specs.Payloads.{readFor, answerFor, readingAnswer, named};
 
-mod each;
+mod check;
+
+use observation::ObsRead;
+use system::LogRead;
 
 // Every message that has a reading. The observations of an Obs and the text of a Log stay in the payload: read_observation and
 // log_text give them.
@@ -34,29 +39,21 @@ pub enum Reading {
     Refused(u8),
 }
 
-pub fn read(kind: u16, payload: &[u8]) -> Reading
-    ensures { λ r. ⌜ readingAnswer r ≡ readFor kind (now (payload .entry)) ⌝ }
+fn obs(s: &[u8]) -> Reading
+    ensures { λ r. ⌜ readingAnswer r ≡ named (λ x. Message.Obs x) (readObs (now (s .entry))) ⌝ }
 {
-    match kind {
-        0x0100 => each::gps_time(payload),
-        0x0206 => each::dops(payload),
-        0x0200 => each::pos_ecef(payload),
-        0x0201 => each::pos_llh(payload),
-        0x0202 => each::baseline_ecef(payload),
-        0x0204 => each::vel_ecef(payload),
-        0x0203 => each::baseline_ned(payload),
-        0x0205 => each::vel_ned(payload),
-        0x0207 => each::baseline_heading(payload),
-        0x0044 => each::base_pos_llh(payload),
-        0x0048 => each::base_pos_ecef(payload),
-        0x0049 => each::obs(payload),
-        0x0401 => each::log(payload),
-        0x00a1 => each::settings_save(payload),
-        0x00a6 => each::read_by_index_done(payload),
-        0x00a2 => each::read_by_index_req(payload),
-        0xff00 => each::startup(payload),
-        0xffff => each::heartbeat(payload),
-        _ => Reading::Refused(21),
+    match observation::read_obs(s) {
+        ObsRead::Record(r) => Reading::Record(Message::Obs(r)),
+        ObsRead::Refused(n) => Reading::Refused(n),
+    }
+}
+
+fn log(s: &[u8]) -> Reading
+    ensures { λ r. ⌜ readingAnswer r ≡ named (λ x. Message.Log x) (readLog (now (s .entry))) ⌝ }
+{
+    match system::read_log(s) {
+        LogRead::Record(r) => Reading::Record(Message::Log(r)),
+        LogRead::Refused(n) => Reading::Refused(n),
     }
 }
 
@@ -64,8 +61,37 @@ pub fn read(kind: u16, payload: &[u8]) -> Reading
 pub fn answer(kind: u16, payload: &[u8]) -> u8
     ensures { λ r. ⌜ r ≡ answerFor kind (now (payload .entry)) ⌝ }
 {
-    match read(kind, payload) {
-        Reading::Record(_) => 0,
-        Reading::Refused(n) => n,
+    check::tested(check::check_of(kind), payload)
+}
+
+pub fn read(kind: u16, payload: &[u8]) -> Reading
+    ensures { λ r. ⌜ readingAnswer r ≡ readFor kind (now (payload .entry)) ⌝ }
+{
+    let n = answer(kind, payload);
+    if n != 0 {
+        return Reading::Refused(n);
+    }
+    match kind {
+        0x0100 => Reading::Record(Message::GpsTime(navigation::take_gps_time(payload))),
+        0x0206 => Reading::Record(Message::Dops(navigation::take_dops(payload))),
+        0x0200 => Reading::Record(Message::PosEcef(navigation::take_pos_ecef(payload))),
+        0x0201 => Reading::Record(Message::PosLlh(navigation::take_pos_llh(payload))),
+        0x0202 => Reading::Record(Message::BaselineEcef(navigation::take_ecef(payload))),
+        0x0204 => Reading::Record(Message::VelEcef(navigation::take_ecef(payload))),
+        0x0203 => Reading::Record(Message::BaselineNed(navigation::take_ned(payload))),
+        0x0205 => Reading::Record(Message::VelNed(navigation::take_ned(payload))),
+        0x0207 => Reading::Record(Message::BaselineHeading(navigation::take_baseline_heading(
+            payload,
+        ))),
+        0x0044 => Reading::Record(Message::BasePosLlh(observation::take_base_pos_llh(payload))),
+        0x0048 => Reading::Record(Message::BasePosEcef(observation::take_base_pos_ecef(payload))),
+        0x00a1 => Reading::Record(Message::SettingsSave),
+        0x00a6 => Reading::Record(Message::ReadByIndexDone),
+        0x00a2 => Reading::Record(Message::ReadByIndexReq(system::take_read_by_index_req(payload))),
+        0xff00 => Reading::Record(Message::Startup(system::take_startup(payload))),
+        0xffff => Reading::Record(Message::Heartbeat(system::take_heartbeat(payload))),
+        0x0049 => obs(payload),
+        0x0401 => log(payload),
+        _ => Reading::Refused(21),
     }
 }

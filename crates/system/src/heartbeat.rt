@@ -18,7 +18,7 @@ pub enum HeartbeatRead {
     Refused(u8),
 }
 
-fn take(s: &[u8]) -> Heartbeat
+pub fn take_heartbeat(s: &[u8]) -> Heartbeat
     ensures { λ r. ⌜ r ≡ inside heartbeat (now (s .entry)) ⌝ }
 {
     Heartbeat {
@@ -38,7 +38,7 @@ pub fn read_heartbeat(s: &[u8]) -> HeartbeatRead
     if s.len() != 4 {
         return HeartbeatRead::Refused(22);
     }
-    HeartbeatRead::Record(take(s))
+    HeartbeatRead::Record(take_heartbeat(s))
 }
 
 pub fn write_heartbeat(buf: &mut [u8], sender: Sender, r: Heartbeat) -> Written

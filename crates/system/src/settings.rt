@@ -18,7 +18,7 @@ pub enum ReadByIndexReqRead {
     Refused(u8),
 }
 
-fn take(s: &[u8]) -> ReadByIndexReq
+pub fn take_read_by_index_req(s: &[u8]) -> ReadByIndexReq
     ensures { λ r. ⌜ r ≡ inside readByIndexReq (now (s .entry)) ⌝ }
 {
     ReadByIndexReq {
@@ -38,7 +38,7 @@ pub fn read_read_by_index_req(s: &[u8]) -> ReadByIndexReqRead
     if s.len() != 2 {
         return ReadByIndexReqRead::Refused(22);
     }
-    ReadByIndexReqRead::Record(take(s))
+    ReadByIndexReqRead::Record(take_read_by_index_req(s))
 }
 
 pub fn write_read_by_index_req(buf: &mut [u8], sender: Sender, r: ReadByIndexReq) -> Written

@@ -18,7 +18,7 @@ pub enum StartupRead {
     Refused(u8),
 }
 
-fn take(s: &[u8]) -> Startup
+pub fn take_startup(s: &[u8]) -> Startup
     ensures { λ r. ⌜ r ≡ inside startup (now (s .entry)) ⌝ }
 {
     Startup {
@@ -38,7 +38,7 @@ pub fn read_startup(s: &[u8]) -> StartupRead
     if s.len() != 4 {
         return StartupRead::Refused(22);
     }
-    StartupRead::Record(take(s))
+    StartupRead::Record(take_startup(s))
 }
 
 pub fn write_startup(buf: &mut [u8], sender: Sender, r: Startup) -> Written

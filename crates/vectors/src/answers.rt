@@ -4,25 +4,29 @@ use crate::print;
 
 pub fn run() {
     let s = [0u8; 264];
-    known(&s, 0x0100);
-    known(&s, 0x0206);
-    known(&s, 0x0200);
-    known(&s, 0x0201);
-    known(&s, 0x0202);
-    known(&s, 0x0204);
-    known(&s, 0x0203);
-    known(&s, 0x0205);
-    known(&s, 0x0207);
-    known(&s, 0x0044);
-    known(&s, 0x0048);
-    known(&s, 0x0049);
-    known(&s, 0x0401);
-    known(&s, 0x00a1);
-    known(&s, 0x00a6);
-    known(&s, 0x00a2);
-    known(&s, 0xff00);
-    known(&s, 0xffff);
+    each(&s);
     unknown(&s);
+}
+
+fn each(s: &[u8]) {
+    known(s, 0x0100);
+    known(s, 0x0206);
+    known(s, 0x0200);
+    known(s, 0x0201);
+    known(s, 0x0202);
+    known(s, 0x0204);
+    known(s, 0x0203);
+    known(s, 0x0205);
+    known(s, 0x0207);
+    known(s, 0x0044);
+    known(s, 0x0048);
+    known(s, 0x0049);
+    known(s, 0x0401);
+    known(s, 0x00a1);
+    known(s, 0x00a6);
+    known(s, 0x00a2);
+    known(s, 0xff00);
+    known(s, 0xffff);
 }
 
 // The lengths up to 264 at which zeros are taken.

@@ -1,9 +1,11 @@
 // Captures read closed and open, frame by frame: document 01's examples, and damaged ones.
+use crate::messages;
 use crate::print;
 use frames::Counts;
 use frames::Cursor;
 use frames::Frame;
 use frames::Next;
+use frames::Step;
 
 // The example frame of 003, section 4.
 pub const EXAMPLE: [u8; 28] = [
@@ -38,18 +40,31 @@ pub const EXAMPLE: [u8; 28] = [
 ];
 
 pub fn run() {
+    example();
+    shortest();
+    around();
+}
+
+fn example() {
     let example = EXAMPLE;
     show(b"example", &example);
+    fields(&example);
     // a CRC that differs: bad, and on at 1
     let mut wrong = EXAMPLE;
     wrong[27] = 0x95;
     show(b"example-damaged", &wrong);
+}
+
+fn shortest() {
     show(
         b"all-zero-frame",
         &[0x55, 0x00, 0x00, 0x00, 0x00, 0x00, 0x00, 0x00],
     );
     show(b"nothing", b"");
     show(b"five-bytes", &[0x55, 0x00, 0x00, 0x00, 0x00]);
+}
+
+fn around() {
     // a stated length of 8 holds a whole frame: skipped by that length, it would be lost
     show(
         b"frame-inside-a-bad-one",
@@ -93,6 +108,13 @@ pub fn run() {
             0x55,
         ],
     );
+}
+
+// The fields of the example, which 003 gives a table of.
+fn fields(s: &[u8]) {
+    if let Step::Found(f) = frames::step_at(s, 0) {
+        messages::baseline_ecef(frames::payload(s, f));
+    }
 }
 
 // Each frame with its payload, then the counts; open, then closed.

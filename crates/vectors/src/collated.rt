@@ -4,6 +4,7 @@ use crate::payload::put_obs;
 use crate::print;
 use epochs::Collator;
 use epochs::Happened;
+use epochs::Report;
 use frames::Cursor;
 use frames::Next;
 
@@ -45,15 +46,17 @@ fn say(h: Happened) {
     match h {
         Happened::Refused(n) => print::refused(n),
         Happened::Taken => print::word(b" taken"),
-        Happened::Epoch(r) => {
-            print::word(b" epoch");
-            print::number(r.sender as u64);
-            print::number(r.wn as u64);
-            print::number(r.tow as u64);
-            print::number(r.n as u64);
-            print::number(r.observations as u64);
-        }
+        Happened::Epoch(r) => report(r),
     }
+}
+
+fn report(r: Report) {
+    print::word(b" epoch");
+    print::number(r.sender as u64);
+    print::number(r.wn as u64);
+    print::number(r.tow as u64);
+    print::number(r.n as u64);
+    print::number(r.observations as u64);
 }
 
 // Feeds one frame and says what happened.
@@ -98,7 +101,7 @@ fn number(roster: &[u16]) {
     print::number(made.number as u64);
 }
 
-fn listed() -> Collator {
+fn three() -> Collator {
     let made = Collator::made(&[1228, 0, 65535]);
     made.collator
 }
@@ -108,7 +111,7 @@ fn listed() -> Collator {
 // n from the upper half of n_obs, the counter from the lower.
 fn halves() {
     print::word(b"halves");
-    let mut c = listed();
+    let mut c = three();
     c = fed(c, 0, sent(1, 2, 0x00, 0));
     c = fed(c, 0, sent(1, 2, 0x11, 0));
     c = fed(c, 0, sent(1, 2, 0x10, 3));
@@ -126,7 +129,7 @@ fn other(c: Collator, kind: u16, sender: u16, n: usize) -> Collator {
 // 46, 22, 43, 44, 45: each before the next, and none of them breaks the open run.
 fn refusals() {
     print::word(b"refusals");
-    let mut c = listed();
+    let mut c = three();
     c = fed(c, 0, sent(5, 6, 0x20, 1));
     c = other(c, 0x004a, 9, 8);
     c = other(c, 0x0049, 9, 8);
@@ -140,7 +143,7 @@ fn refusals() {
 
 // Runs that break, and runs that begin anew.
 fn runs() {
-    let mut c = listed();
+    let mut c = three();
     c = repeated(c);
     c = begun_again(c);
     c = other_week(c);
@@ -206,7 +209,7 @@ fn two_senders_one_time(start: Collator) -> Collator {
 
 // Epochs of 1 to 15 packets, of 15 observations each.
 fn sizes() {
-    let mut c = listed();
+    let mut c = three();
     let mut n: usize = 1;
     while n <= 15 {
         c = whole(c, n);
@@ -299,7 +302,7 @@ fn both(start: Tally, tow: u32) -> Tally {
 
 fn ticket() {
     let mut t = Tally {
-        collator: listed(),
+        collator: three(),
         base: 0,
         rover: 0,
     };

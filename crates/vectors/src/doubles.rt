@@ -3,6 +3,12 @@ use crate::print;
 use wire::Double;
 
 pub fn run() {
+    finite();
+    others();
+    made();
+}
+
+fn finite() {
     line(b"double zero", 0x0000_0000_0000_0000);
     line(b"double minus-zero", 0x8000_0000_0000_0000);
     line(b"double one", 0x3ff0_0000_0000_0000);
@@ -10,6 +16,9 @@ pub fn run() {
     line(b"double greatest-subnormal", 0x000f_ffff_ffff_ffff);
     line(b"double least-normal", 0x0010_0000_0000_0000);
     line(b"double greatest", 0x7fef_ffff_ffff_ffff);
+}
+
+fn others() {
     line(b"double infinity", 0x7ff0_0000_0000_0000);
     line(b"double minus-infinity", 0xfff0_0000_0000_0000);
     line(b"double signalling-nan", 0x7ff0_0000_0000_0001);
@@ -17,7 +26,6 @@ pub fn run() {
     line(b"double quiet-nan-with-payload", 0x7ff8_dead_beef_0001);
     line(b"double minus-signalling-nan", 0xfff4_0000_0000_0000);
     line(b"double minus-quiet-nan", 0xffff_ffff_ffff_ffff);
-    made();
 }
 
 // The pattern, whether its value is a NaN, the pattern kept beside it, and the pattern written back.

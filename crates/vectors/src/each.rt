@@ -1,15 +1,14 @@
-// Every message of a fixed length that has fields: at its length and one off, at the ends of its ranges, with NaNs and minus zero.
+// Every message of a fixed length: at its length and one off, at the ends of its ranges, with NaNs and minus zero.
 use crate::messages;
 use crate::payload::front;
 use crate::payload::mixed;
-use crate::print;
 
 pub fn run() {
     lengths(0);
     lengths(5);
     ns_ends();
     doubles();
-    fixes();
+    empties();
 }
 
 // Payloads of the right length and of one less and one more.
@@ -96,71 +95,11 @@ fn double(bits: u64) {
     messages::base_pos_ecef(&t);
 }
 
-// Flags at all values: the answer of each ranged message, what its fix mode means, and the other bits.
-fn fixes() {
-    let mut flags: usize = 0;
-    while flags < 256 {
-        fix((flags % 256) as u8);
-        flags += 1;
-    }
-}
-
-fn answer(kind: u16, s: &[u8]) {
-    print::number(payloads::answer(kind, s) as u64);
-}
-
-fn mode(fix: navigation::Fix) {
-    match fix {
-        navigation::Fix::SinglePoint => print::word(b" single"),
-        navigation::Fix::Float => print::word(b" float"),
-        navigation::Fix::Fixed => print::word(b" fixed"),
-        navigation::Fix::Reserved => print::word(b" reserved"),
-    }
-}
-
-fn bit(on: bool) {
-    if on {
-        print::word(b" 1");
-    } else {
-        print::word(b" 0");
-    }
-}
-
-fn fix(flags: u8) {
-    print::word(b"flags");
-    print::number(flags as u64);
-    positions(flags);
-    baseline(flags);
-    other_baselines(flags);
-    bit(navigation::raim_available(flags));
-    bit(navigation::raim_repaired(flags));
-    bit(navigation::pos_llh_above_sea(flags));
-    bit(navigation::pos_llh_raim_available(flags));
-    bit(navigation::pos_llh_raim_repaired(flags));
-    print::end();
-}
-
-fn positions(flags: u8) {
-    let mut s = [0u8; 34];
-    wire::store_u8(&mut s, 31, flags);
-    answer(0x0200, front(&s, 32));
-    mode(navigation::pos_ecef_fix(flags));
-    wire::store_u8(&mut s, 33, flags);
-    answer(0x0201, &s);
-    mode(navigation::pos_llh_fix(flags));
-}
-
-fn baseline(flags: u8) {
-    let mut s = [0u8; 20];
-    wire::store_u8(&mut s, 19, flags);
-    answer(0x0202, &s);
-    mode(navigation::baseline_fix(flags));
-}
-
-fn other_baselines(flags: u8) {
-    let mut s = [0u8; 22];
-    wire::store_u8(&mut s, 21, flags);
-    answer(0x0203, &s);
-    wire::store_u8(&mut s, 9, flags);
-    answer(0x0207, front(&s, 10));
+// The two messages without a payload.
+fn empties() {
+    let s = [0u8; 1];
+    messages::settings_save(front(&s, 0));
+    messages::settings_save(&s);
+    messages::read_by_index_done(front(&s, 0));
+    messages::read_by_index_done(&s);
 }

@@ -1,12 +1,13 @@
 // Runs published values and edge cases and prints what comes out; the file stdout beside src/ has the answers, worked out elsewhere.
-// answers.py works them out from documents 01 and 003, in Python, and looks at no code of ours. What is proved here is that the program ends
-// and traps nowhere, not what it prints.
+// The Python twin works them out from documents 01 and 003 and looks at no code of ours. What is proved here is that the program ends and traps
+// nowhere, not what it prints.
 mod answers;
 mod captures;
 mod checksums;
 mod collated;
 mod doubles;
 mod each;
+mod flags;
 mod messages;
 mod numbers;
 mod observations;
@@ -22,6 +23,7 @@ fn main() {
     captures::run();
     written::run();
     each::run();
+    flags::run();
     observations::run();
     walks::run();
     answers::run();

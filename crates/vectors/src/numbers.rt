@@ -2,6 +2,12 @@
 use crate::print;
 
 pub fn run() {
+    read();
+    signed();
+    stored();
+}
+
+fn read() {
     let s = [0x01, 0x02, 0x03, 0x04, 0x85, 0x86, 0x87, 0x88];
     reads(b"read-at 0", &s, 0);
     reads(b"read-at 4", &s, 4);
@@ -9,11 +15,17 @@ pub fn run() {
     reads(b"read-at 7", &s, 7);
     reads(b"read-at 8", &s, 8);
     reads(b"read-at greatest", &s, 18446744073709551615);
+}
+
+fn signed() {
     signs(b"signed least-16", &[0x00, 0x80, 0x00, 0x00]);
     signs(b"signed greatest-16", &[0xff, 0x7f, 0x00, 0x00]);
     signs(b"signed least-32", &[0x00, 0x00, 0x00, 0x80]);
     signs(b"signed greatest-32", &[0xff, 0xff, 0xff, 0x7f]);
     signs(b"signed minus-one", &[0xff, 0xff, 0xff, 0xff]);
+}
+
+fn stored() {
     stores(b"store-at 0", 0);
     stores(b"store-at 3", 3);
     // a store that runs past the end changes nothing

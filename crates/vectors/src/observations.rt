@@ -36,12 +36,7 @@ fn obs(s: &[u8]) {
     print::word(b"obs");
     print::number(s.len() as u64);
     match observation::read_obs(s) {
-        ObsRead::Record(o) => {
-            print::number(o.tow as u64);
-            print::number(o.wn as u64);
-            print::number(o.n_obs as u64);
-            print::number(o.count as u64);
-        }
+        ObsRead::Record(o) => header(o),
         ObsRead::Refused(n) => print::refused(n),
     }
     print::end();
@@ -51,25 +46,30 @@ fn obs(s: &[u8]) {
     entry(s, 15);
 }
 
+fn header(o: Obs) {
+    print::number(o.tow as u64);
+    print::number(o.wn as u64);
+    print::number(o.n_obs as u64);
+    print::number(o.count as u64);
+}
+
 // An observation's fields, or the refusal.
 pub fn say(answer: ObservationRead) {
     match answer {
-        ObservationRead::Record(o) => {
-            print::number(o.p as u64);
-            print::signed_32(o.l_i);
-            print::row(
-                &[
-                    o.l_f as u64,
-                    o.cn0 as u64,
-                    o.lock as u64,
-                    o.sat as u64,
-                    o.code as u64,
-                    o.reserved as u64,
-                ],
-            );
-        }
+        ObservationRead::Record(o) => fields(o),
         ObservationRead::Refused(n) => print::refused(n),
     }
+}
+
+fn fields(o: Observation) {
+    print::number(o.p as u64);
+    print::signed_32(o.l_i);
+    print::number(o.l_f as u64);
+    print::number(o.cn0 as u64);
+    print::number(o.lock as u64);
+    print::number(o.sat as u64);
+    print::number(o.code as u64);
+    print::number(o.reserved as u64);
 }
 
 fn entry(s: &[u8], i: usize) {
@@ -175,12 +175,20 @@ fn logs(s: &[u8]) {
     log(front(s, 9));
     log(front(s, 255));
     log(front(s, 256));
+    logs_written(s);
+}
+
+fn logs_written(s: &[u8]) {
     let mut least = [0xeeu8; 9];
     log_into(&mut least, front(s, 0));
     let mut just = [0xeeu8; 14];
     log_into(&mut just, front(s, 5));
     let mut short = [0xeeu8; 13];
     log_into(&mut short, front(s, 5));
+    longest_log(s);
+}
+
+fn longest_log(s: &[u8]) {
     let mut long = [0xeeu8; 264];
     log_into(&mut long, front(s, 254));
     log_into(&mut long, front(s, 255));
@@ -204,7 +212,7 @@ fn log(s: &[u8]) {
 fn log_into(buf: &mut [u8], text: &[u8]) {
     print::word(b"write-log");
     print::number(text.len() as u64);
-    written::told(system::write_log(buf, Sender::Unnamed, 6, text));
+    written::outcome(system::write_log(buf, Sender::Unnamed, 6, text));
     print::bytes(buf);
     print::end();
 }

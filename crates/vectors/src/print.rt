@@ -34,31 +34,6 @@ pub fn signed_32(z: i32) {
     signed(z as i64);
 }
 
-pub fn row(numbers: &[u64]) {
-    let mut i = 0;
-    while i < numbers.len() {
-        number(numbers[i]);
-        i += 1;
-    }
-}
-
-pub fn signed_row(numbers: &[i32]) {
-    let mut i = 0;
-    while i < numbers.len() {
-        signed_32(numbers[i]);
-        i += 1;
-    }
-}
-
-// The bits of doubles.
-pub fn patterns(bits: &[u64]) {
-    let mut i = 0;
-    while i < bits.len() {
-        hex(bits[i], 16);
-        i += 1;
-    }
-}
-
 pub fn hex(n: u64, width: usize) {
     io::write_all(1, b" ");
     io::print_hex(1, n, width);

@@ -20,7 +20,7 @@ pub fn run() {
 }
 
 // How many bytes were written, or the refusal.
-pub fn told(w: Written) {
+pub fn outcome(w: Written) {
     match w {
         Written::Bytes(n) => print::number(n as u64),
         Written::Refused(n) => print::refused(n),
@@ -33,20 +33,24 @@ fn length(n: usize) {
     let mut buf = [0xeeu8; 300];
     print::word(b"length");
     print::number(n as u64);
-    told(frames::write_frame(&mut buf, 0x1234, Sender::Named(0x5678), front(&payload, n)));
+    outcome(frames::write_frame(&mut buf, 0x1234, Sender::Named(0x5678), front(&payload, n)));
+    after(&buf, n);
+    print::end();
+}
+
+fn after(buf: &[u8], n: usize) {
     print::hex(
-        wire::read_u16(&buf, std::num::wrapping_add_usize(n, 6)) as u64,
+        wire::read_u16(buf, std::num::wrapping_add_usize(n, 6)) as u64,
         4,
     );
     // the byte after the frame is as it was
     print::hex(
-        wire::read_u8(&buf, std::num::wrapping_add_usize(n, 8)) as u64,
+        wire::read_u8(buf, std::num::wrapping_add_usize(n, 8)) as u64,
         2,
     );
-    if let Step::Found(f) = frames::step_at(&buf, 0) {
+    if let Step::Found(f) = frames::step_at(buf, 0) {
         print::number(f.length as u64);
     }
-    print::end();
 }
 
 // A frame of 263 bytes, cut at each place: open asks for 6, then for 263; closed, every byte is counted once.
@@ -54,7 +58,7 @@ fn cuts() {
     let payload = mixed(255, 3);
     let mut buf = [0u8; 263];
     print::word(b"write 255-into-263");
-    told(frames::write_frame(&mut buf, 0x1234, Sender::Unnamed, front(&payload, 255)));
+    outcome(frames::write_frame(&mut buf, 0x1234, Sender::Unnamed, front(&payload, 255)));
     print::end();
     each_cut(&buf);
 }
@@ -70,6 +74,12 @@ fn each_cut(s: &[u8]) {
 fn cut(s: &[u8]) {
     print::word(b"cut");
     print::number(s.len() as u64);
+    first(s);
+    captures::counts(frames::totals(s));
+    print::end();
+}
+
+fn first(s: &[u8]) {
     match Cursor::opened().next(s) {
         Next::Frame(f, _) => {
             print::word(b" frame");
@@ -81,8 +91,6 @@ fn cut(s: &[u8]) {
             print::number(n as u64);
         }
     }
-    captures::counts(frames::totals(s));
-    print::end();
 }
 
 // 31 before 32, and nothing written by either; then a frame that fits.
@@ -96,7 +104,7 @@ fn refusals() {
 
 fn tried(name: &[u8], buf: &mut [u8], payload: &[u8]) {
     print::word(name);
-    told(frames::write_frame(buf, 0x0102, Sender::Unnamed, payload));
+    outcome(frames::write_frame(buf, 0x0102, Sender::Unnamed, payload));
     print::bytes(buf);
     print::end();
 }

@@ -1,7 +1,7 @@
 // Numbers and doubles in bytes, little-endian, and the description of fields that every message is made of.
 // Read specs/Number.antt and specs/Double.antt first, then specs/Field.antt, specs/Layout.antt and
 // specs/Description.antt.
-// Nothing here has a requires: a byte past the end reads 0, a store that runs past the end changes nothing.
+// Nothing here has a requires, and all are inner parts: a byte past the end reads 0, a store that runs past the end changes nothing.
 mod bits;
 mod double;
 mod read;

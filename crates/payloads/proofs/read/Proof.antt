@@ -1,43 +1,57 @@
--- `payloads::read` meets its contract: each type by its line, any other by having none.
+-- `payloads::read` meets its contract: each type by its entry, any other by having none.
+use mathlib.Core.Path.{refl, ap}
 use borrow.Author.Needs.{needs}
-use Rattle.payloads.specs.Table.{table}
-use Rattle.payloads.proofs.Answers as typed
-use Rattle.payloads.proofs.Lines.{at-kind, at-none}
+use Rattle.payloads.specs.Payloads.{entryFor}
+use Rattle.payloads.specs.declared.Message.the-variants as M
+use Rattle.payloads.proofs.Entries as typed
+use Rattle.payloads.proofs.Agreed.{refuses, gives, at-kind, at-none}
 use Rattle.payloads.proofs.read.Statement.{statement}
 use Rattle.payloads.proofs.read.Tie as tie
 
-gps-time-requires : tie.Need-gps-time-requires
-gps-time-requires c κs = search needs
+answer-requires : tie.Need-answer-requires
+answer-requires c κs = search needs
 
-dops-requires : tie.Need-dops-requires
-dops-requires c κs = search needs
+take-gps-time-requires : tie.Need-take-gps-time-requires
+take-gps-time-requires c κs = search needs
 
-pos-ecef-requires : tie.Need-pos-ecef-requires
-pos-ecef-requires c κs = search needs
+take-dops-requires : tie.Need-take-dops-requires
+take-dops-requires c κs = search needs
 
-pos-llh-requires : tie.Need-pos-llh-requires
-pos-llh-requires c κs = search needs
+take-pos-ecef-requires : tie.Need-take-pos-ecef-requires
+take-pos-ecef-requires c κs = search needs
 
-baseline-ecef-requires : tie.Need-baseline-ecef-requires
-baseline-ecef-requires c κs = search needs
+take-pos-llh-requires : tie.Need-take-pos-llh-requires
+take-pos-llh-requires c κs = search needs
 
-vel-ecef-requires : tie.Need-vel-ecef-requires
-vel-ecef-requires c κs = search needs
+take-ecef-requires : tie.Need-take-ecef-requires
+take-ecef-requires c κs = search needs
 
-baseline-ned-requires : tie.Need-baseline-ned-requires
-baseline-ned-requires c κs = search needs
+take-ecef-requires-2 : tie.Need-take-ecef-requires-2
+take-ecef-requires-2 c κs = search needs
 
-vel-ned-requires : tie.Need-vel-ned-requires
-vel-ned-requires c κs = search needs
+take-ned-requires : tie.Need-take-ned-requires
+take-ned-requires c κs = search needs
 
-baseline-heading-requires : tie.Need-baseline-heading-requires
-baseline-heading-requires c κs = search needs
+take-ned-requires-2 : tie.Need-take-ned-requires-2
+take-ned-requires-2 c κs = search needs
 
-base-pos-llh-requires : tie.Need-base-pos-llh-requires
-base-pos-llh-requires c κs = search needs
+take-baseline-heading-requires : tie.Need-take-baseline-heading-requires
+take-baseline-heading-requires c κs = search needs
 
-base-pos-ecef-requires : tie.Need-base-pos-ecef-requires
-base-pos-ecef-requires c κs = search needs
+take-base-pos-llh-requires : tie.Need-take-base-pos-llh-requires
+take-base-pos-llh-requires c κs = search needs
+
+take-base-pos-ecef-requires : tie.Need-take-base-pos-ecef-requires
+take-base-pos-ecef-requires c κs = search needs
+
+take-read-by-index-req-requires : tie.Need-take-read-by-index-req-requires
+take-read-by-index-req-requires c κs = search needs
+
+take-startup-requires : tie.Need-take-startup-requires
+take-startup-requires c κs = search needs
+
+take-heartbeat-requires : tie.Need-take-heartbeat-requires
+take-heartbeat-requires c κs = search needs
 
 obs-requires : tie.Need-obs-requires
 obs-requires c κs = search needs
@@ -45,80 +59,81 @@ obs-requires c κs = search needs
 log-requires : tie.Need-log-requires
 log-requires c κs = search needs
 
-settings-save-requires : tie.Need-settings-save-requires
-settings-save-requires c κs = search needs
-
-read-by-index-done-requires : tie.Need-read-by-index-done-requires
-read-by-index-done-requires c κs = search needs
-
-read-by-index-req-requires : tie.Need-read-by-index-req-requires
-read-by-index-req-requires c κs = search needs
-
-startup-requires : tie.Need-startup-requires
-startup-requires c κs = search needs
-
-heartbeat-requires : tie.Need-heartbeat-requires
-heartbeat-requires c κs = search needs
-
 returns : tie.Need-returns
-returns c = let s = c .before .before .before .args .payload .now in at-kind s (typed.gps-time s) (c .gps-time .ensures) (c .before .match .keys1)
+returns c = let a = c .before .before .before .args in refuses (a .kind) (a .payload .now) (c .before .answer .ensures) (c .if1 .taken)
 
 returns-2 : tie.Need-returns-2
-returns-2 c = let s = c .before .before .before .args .payload .now in at-kind s (typed.dilutions s) (c .dops .ensures) (c .before .match .keys2)
+unfolding entryFor
+returns-2 c = let w = c .before .before in let a = w .before .before .before .args in gives (a .kind) (a .payload .now) (w .before .answer .ensures) (w .if1 .left) (c .before .match .keys1) (ap (λ r. M.GpsTime r) (c .take-gps-time .ensures))
 
 returns-3 : tie.Need-returns-3
-returns-3 c = let s = c .before .before .before .args .payload .now in at-kind s (typed.pos-ecef s) (c .pos-ecef .ensures) (c .before .match .keys3)
+unfolding entryFor
+returns-3 c = let w = c .before .before in let a = w .before .before .before .args in gives (a .kind) (a .payload .now) (w .before .answer .ensures) (w .if1 .left) (c .before .match .keys2) (ap (λ r. M.Dops r) (c .take-dops .ensures))
 
 returns-4 : tie.Need-returns-4
-returns-4 c = let s = c .before .before .before .args .payload .now in at-kind s (typed.pos-llh s) (c .pos-llh .ensures) (c .before .match .keys4)
+unfolding entryFor
+returns-4 c = let w = c .before .before in let a = w .before .before .before .args in gives (a .kind) (a .payload .now) (w .before .answer .ensures) (w .if1 .left) (c .before .match .keys3) (ap (λ r. M.PosEcef r) (c .take-pos-ecef .ensures))
 
 returns-5 : tie.Need-returns-5
-returns-5 c = let s = c .before .before .before .args .payload .now in at-kind s (typed.baseline-ecef s) (c .baseline-ecef .ensures) (c .before .match .keys5)
+unfolding entryFor
+returns-5 c = let w = c .before .before in let a = w .before .before .before .args in gives (a .kind) (a .payload .now) (w .before .answer .ensures) (w .if1 .left) (c .before .match .keys4) (ap (λ r. M.PosLlh r) (c .take-pos-llh .ensures))
 
 returns-6 : tie.Need-returns-6
-returns-6 c = let s = c .before .before .before .args .payload .now in at-kind s (typed.vel-ecef s) (c .vel-ecef .ensures) (c .before .match .keys6)
+unfolding entryFor
+returns-6 c = let w = c .before .before in let a = w .before .before .before .args in gives (a .kind) (a .payload .now) (w .before .answer .ensures) (w .if1 .left) (c .before .match .keys5) (ap (λ r. M.BaselineEcef r) (c .take-ecef .ensures))
 
 returns-7 : tie.Need-returns-7
-returns-7 c = let s = c .before .before .before .args .payload .now in at-kind s (typed.baseline-ned s) (c .baseline-ned .ensures) (c .before .match .keys7)
+unfolding entryFor
+returns-7 c = let w = c .before .before in let a = w .before .before .before .args in gives (a .kind) (a .payload .now) (w .before .answer .ensures) (w .if1 .left) (c .before .match .keys6) (ap (λ r. M.VelEcef r) (c .take-ecef2 .ensures))
 
 returns-8 : tie.Need-returns-8
-returns-8 c = let s = c .before .before .before .args .payload .now in at-kind s (typed.vel-ned s) (c .vel-ned .ensures) (c .before .match .keys8)
+unfolding entryFor
+returns-8 c = let w = c .before .before in let a = w .before .before .before .args in gives (a .kind) (a .payload .now) (w .before .answer .ensures) (w .if1 .left) (c .before .match .keys7) (ap (λ r. M.BaselineNed r) (c .take-ned .ensures))
 
 returns-9 : tie.Need-returns-9
-returns-9 c = let s = c .before .before .before .args .payload .now in at-kind s (typed.baseline-heading s) (c .baseline-heading .ensures) (c .before .match .keys9)
+unfolding entryFor
+returns-9 c = let w = c .before .before in let a = w .before .before .before .args in gives (a .kind) (a .payload .now) (w .before .answer .ensures) (w .if1 .left) (c .before .match .keys8) (ap (λ r. M.VelNed r) (c .take-ned2 .ensures))
 
 returns-10 : tie.Need-returns-10
-returns-10 c = let s = c .before .before .before .args .payload .now in at-kind s (typed.base-pos-llh s) (c .base-pos-llh .ensures) (c .before .match .keys10)
+unfolding entryFor
+returns-10 c = let w = c .before .before in let a = w .before .before .before .args in gives (a .kind) (a .payload .now) (w .before .answer .ensures) (w .if1 .left) (c .before .match .keys9) (ap (λ r. M.BaselineHeading r) (c .take-baseline-heading .ensures))
 
 returns-11 : tie.Need-returns-11
-returns-11 c = let s = c .before .before .before .args .payload .now in at-kind s (typed.base-pos-ecef s) (c .base-pos-ecef .ensures) (c .before .match .keys11)
+unfolding entryFor
+returns-11 c = let w = c .before .before in let a = w .before .before .before .args in gives (a .kind) (a .payload .now) (w .before .answer .ensures) (w .if1 .left) (c .before .match .keys10) (ap (λ r. M.BasePosLlh r) (c .take-base-pos-llh .ensures))
 
 returns-12 : tie.Need-returns-12
-returns-12 c = let s = c .before .before .before .args .payload .now in at-kind s (typed.obs s) (c .obs .ensures) (c .before .match .keys12)
+unfolding entryFor
+returns-12 c = let w = c .before .before in let a = w .before .before .before .args in gives (a .kind) (a .payload .now) (w .before .answer .ensures) (w .if1 .left) (c .before .match .keys11) (ap (λ r. M.BasePosEcef r) (c .take-base-pos-ecef .ensures))
 
 returns-13 : tie.Need-returns-13
-returns-13 c = let s = c .before .before .before .args .payload .now in at-kind s (typed.log s) (c .log .ensures) (c .before .match .keys13)
+unfolding entryFor
+returns-13 c = let w = c .before in let a = w .before .before .before .args in gives (a .kind) (a .payload .now) (w .before .answer .ensures) (w .if1 .left) (c .match .keys12) refl
 
 returns-14 : tie.Need-returns-14
-returns-14 c = let s = c .before .before .before .args .payload .now in at-kind s (typed.settings-save s) (c .settings-save .ensures) (c .before .match .keys14)
+unfolding entryFor
+returns-14 c = let w = c .before in let a = w .before .before .before .args in gives (a .kind) (a .payload .now) (w .before .answer .ensures) (w .if1 .left) (c .match .keys13) refl
 
 returns-15 : tie.Need-returns-15
-returns-15 c = let s = c .before .before .before .args .payload .now in at-kind s (typed.read-by-index-done s) (c .read-by-index-done .ensures) (c .before .match .keys15)
+unfolding entryFor
+returns-15 c = let w = c .before .before in let a = w .before .before .before .args in gives (a .kind) (a .payload .now) (w .before .answer .ensures) (w .if1 .left) (c .before .match .keys14) (ap (λ r. M.ReadByIndexReq r) (c .take-read-by-index-req .ensures))
 
 returns-16 : tie.Need-returns-16
-returns-16 c = let s = c .before .before .before .args .payload .now in at-kind s (typed.read-by-index-req s) (c .read-by-index-req .ensures) (c .before .match .keys16)
+unfolding entryFor
+returns-16 c = let w = c .before .before in let a = w .before .before .before .args in gives (a .kind) (a .payload .now) (w .before .answer .ensures) (w .if1 .left) (c .before .match .keys15) (ap (λ r. M.Startup r) (c .take-startup .ensures))
 
 returns-17 : tie.Need-returns-17
-returns-17 c = let s = c .before .before .before .args .payload .now in at-kind s (typed.start-up s) (c .startup .ensures) (c .before .match .keys17)
+unfolding entryFor
+returns-17 c = let w = c .before .before in let a = w .before .before .before .args in gives (a .kind) (a .payload .now) (w .before .answer .ensures) (w .if1 .left) (c .before .match .keys16) (ap (λ r. M.Heartbeat r) (c .take-heartbeat .ensures))
 
 returns-18 : tie.Need-returns-18
-returns-18 c = let s = c .before .before .before .args .payload .now in at-kind s (typed.heart-beat s) (c .heartbeat .ensures) (c .before .match .keys18)
+returns-18 c = let a = c .before .before .before .before .before .args in at-kind (a .kind) (a .payload .now) (typed.obs (a .payload .now)) (c .obs .ensures) (c .before .match .keys17)
 
 returns-19 : tie.Need-returns-19
-returns-19 c =
-    let rest = c .match .rest in
-    at-none table (c .before .before .args .kind) (c .before .before .args .payload .now)
-    (rest .0 .0 .0 .0 .0 .0 .0 .0 .0 .0 .0 .0 .0 .0 .0 .0 .0 .1, (rest .0 .0 .0 .0 .0 .0 .0 .0 .0 .0 .0 .0 .0 .0 .0 .0 .1, (rest .0 .0 .0 .0 .0 .0 .0 .0 .0 .0 .0 .0 .0 .0 .0 .1, (rest .0 .0 .0 .0 .0 .0 .0 .0 .0 .0 .0 .0 .0 .0 .1, (rest .0 .0 .0 .0 .0 .0 .0 .0 .0 .0 .0 .0 .0 .1, (rest .0 .0 .0 .0 .0 .0 .0 .0 .0 .0 .0 .0 .1, (rest .0 .0 .0 .0 .0 .0 .0 .0 .0 .0 .0 .1, (rest .0 .0 .0 .0 .0 .0 .0 .0 .0 .0 .1, (rest .0 .0 .0 .0 .0 .0 .0 .0 .0 .1, (rest .0 .0 .0 .0 .0 .0 .0 .0 .1, (rest .0 .0 .0 .0 .0 .0 .0 .1, (rest .0 .0 .0 .0 .0 .0 .1, (rest .0 .0 .0 .0 .0 .1, (rest .0 .0 .0 .0 .1, (rest .0 .0 .0 .1, (rest .0 .0 .1, (rest .0 .1, (rest .1, tt))))))))))))))))))
+returns-19 c = let a = c .before .before .before .before .before .args in at-kind (a .kind) (a .payload .now) (typed.log (a .payload .now)) (c .log .ensures) (c .before .match .keys18)
+
+returns-20 : tie.Need-returns-20
+returns-20 c = let a = c .before .before .before .before .args in at-none (a .kind) (a .payload .now) (c .match .rest)
 
 pub read-spec : {M : Type 1} → statement M
-read-spec = tie.close (tie.spec gps-time-requires dops-requires pos-ecef-requires pos-llh-requires baseline-ecef-requires vel-ecef-requires baseline-ned-requires vel-ned-requires baseline-heading-requires base-pos-llh-requires base-pos-ecef-requires obs-requires log-requires settings-save-requires read-by-index-done-requires read-by-index-req-requires startup-requires heartbeat-requires returns returns-2 returns-3 returns-4 returns-5 returns-6 returns-7 returns-8 returns-9 returns-10 returns-11 returns-12 returns-13 returns-14 returns-15 returns-16 returns-17 returns-18 returns-19)
+read-spec = tie.close (tie.spec answer-requires returns take-gps-time-requires take-dops-requires take-pos-ecef-requires take-pos-llh-requires take-ecef-requires take-ecef-requires-2 take-ned-requires take-ned-requires-2 take-baseline-heading-requires take-base-pos-llh-requires take-base-pos-ecef-requires take-read-by-index-req-requires take-startup-requires take-heartbeat-requires obs-requires log-requires returns-2 returns-3 returns-4 returns-5 returns-6 returns-7 returns-8 returns-9 returns-10 returns-11 returns-12 returns-13 returns-14 returns-15 returns-16 returns-17 returns-18 returns-19 returns-20)

@@ -4,7 +4,7 @@ use mathlib.Core.Path.{_≡_, refl, ap, _∙_}
 use Prim.Native.Nat.{_≤_, _-_}
 use native.Mathlib.Omega.{arith}
 use borrow.Author.Needs.{needs}
-use Rattle.epochs.proofs.Rosters.{filled, filled-on, filled-end}
+use Rattle.epochs.proofs.Searches.{filled, filled-on, filled-end}
 use Rattle.epochs.proofs.collating.seats.Statement.{statement}
 use Rattle.epochs.proofs.collating.seats.Tie as tie
 

@@ -9,11 +9,11 @@ use Rattle.navigation.proofs.dops.read_dops.Tie as tie
 returns : tie.Need-returns
 returns c = gives-22 dops (c .before .before .args .s .now) (c .if1 .taken)
 
-take-requires : tie.Need-take-requires
-take-requires c κs = search needs
+take-dops-requires : tie.Need-take-dops-requires
+take-dops-requires c κs = search needs
 
 returns-2 : tie.Need-returns-2
-returns-2 c = gives dops (c .before .before .before .args .s .now) (c .take .result) (c .before .if1 .left) (c .take .ensures) refl
+returns-2 c = gives dops (c .before .before .before .args .s .now) (c .take-dops .result) (c .before .if1 .left) (c .take-dops .ensures) refl
 
 pub read-dops-spec : {M : Type 1} → statement M
-read-dops-spec = tie.close (tie.spec returns take-requires returns-2)
+read-dops-spec = tie.close (tie.spec returns take-dops-requires returns-2)

@@ -9,8 +9,8 @@ use Rattle.navigation.proofs.ecef.read_baseline_ecef.Tie as tie
 returns : tie.Need-returns
 returns c = gives-22 baselineEcef (c .before .before .args .s .now) (c .if1 .taken)
 
-take-requires : tie.Need-take-requires
-take-requires c κs = search needs
+take-ecef-requires : tie.Need-take-ecef-requires
+take-ecef-requires c κs = search needs
 
 allowed-requires : tie.Need-allowed-requires
 allowed-requires c κs = search needs
@@ -18,12 +18,12 @@ allowed-requires c κs = search needs
 returns-2 : tie.Need-returns-2
 returns-2 c =
     let t = c .before .before in
-    gives baselineEcef (t .before .before .before .args .s .now) (t .take .result) (t .before .if1 .left) (t .take .ensures) (sym (c .before .allowed .ensures) ∙ c .if2 .taken)
+    gives baselineEcef (t .before .before .before .args .s .now) (t .take-ecef .result) (t .before .if1 .left) (t .take-ecef .ensures) (sym (c .before .allowed .ensures) ∙ c .if2 .taken)
 
 returns-3 : tie.Need-returns-3
 returns-3 c =
     let t = c .before .before in
-    gives-23 baselineEcef (t .before .before .before .args .s .now) (t .take .result) (t .before .if1 .left) (t .take .ensures) (sym (c .before .allowed .ensures) ∙ c .if2 .left)
+    gives-23 baselineEcef (t .before .before .before .args .s .now) (t .take-ecef .result) (t .before .if1 .left) (t .take-ecef .ensures) (sym (c .before .allowed .ensures) ∙ c .if2 .left)
 
 pub read-baseline-ecef-spec : {M : Type 1} → statement M
-read-baseline-ecef-spec = tie.close (tie.spec returns take-requires allowed-requires returns-2 returns-3)
+read-baseline-ecef-spec = tie.close (tie.spec returns take-ecef-requires allowed-requires returns-2 returns-3)

@@ -9,11 +9,11 @@ use Rattle.navigation.proofs.ecef.read_vel_ecef.Tie as tie
 returns : tie.Need-returns
 returns c = gives-22 velEcef (c .before .before .args .s .now) (c .if1 .taken)
 
-take-requires : tie.Need-take-requires
-take-requires c κs = search needs
+take-ecef-requires : tie.Need-take-ecef-requires
+take-ecef-requires c κs = search needs
 
 returns-2 : tie.Need-returns-2
-returns-2 c = gives velEcef (c .before .before .before .args .s .now) (c .take .result) (c .before .if1 .left) (c .take .ensures) refl
+returns-2 c = gives velEcef (c .before .before .before .args .s .now) (c .take-ecef .result) (c .before .if1 .left) (c .take-ecef .ensures) refl
 
 pub read-vel-ecef-spec : {M : Type 1} → statement M
-read-vel-ecef-spec = tie.close (tie.spec returns take-requires returns-2)
+read-vel-ecef-spec = tie.close (tie.spec returns take-ecef-requires returns-2)

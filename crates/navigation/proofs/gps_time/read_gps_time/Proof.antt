@@ -9,8 +9,8 @@ use Rattle.navigation.proofs.gps_time.read_gps_time.Tie as tie
 returns : tie.Need-returns
 returns c = gives-22 gpsTime (c .before .before .args .s .now) (c .if1 .taken)
 
-take-requires : tie.Need-take-requires
-take-requires c κs = search needs
+take-gps-time-requires : tie.Need-take-gps-time-requires
+take-gps-time-requires c κs = search needs
 
 allowed-requires : tie.Need-allowed-requires
 allowed-requires c κs = search needs
@@ -18,12 +18,12 @@ allowed-requires c κs = search needs
 returns-2 : tie.Need-returns-2
 returns-2 c =
     let t = c .before .before in
-    gives gpsTime (t .before .before .before .args .s .now) (t .take .result) (t .before .if1 .left) (t .take .ensures) (sym (c .before .allowed .ensures) ∙ c .if2 .taken)
+    gives gpsTime (t .before .before .before .args .s .now) (t .take-gps-time .result) (t .before .if1 .left) (t .take-gps-time .ensures) (sym (c .before .allowed .ensures) ∙ c .if2 .taken)
 
 returns-3 : tie.Need-returns-3
 returns-3 c =
     let t = c .before .before in
-    gives-23 gpsTime (t .before .before .before .args .s .now) (t .take .result) (t .before .if1 .left) (t .take .ensures) (sym (c .before .allowed .ensures) ∙ c .if2 .left)
+    gives-23 gpsTime (t .before .before .before .args .s .now) (t .take-gps-time .result) (t .before .if1 .left) (t .take-gps-time .ensures) (sym (c .before .allowed .ensures) ∙ c .if2 .left)
 
 pub read-gps-time-spec : {M : Type 1} → statement M
-read-gps-time-spec = tie.close (tie.spec returns take-requires allowed-requires returns-2 returns-3)
+read-gps-time-spec = tie.close (tie.spec returns take-gps-time-requires allowed-requires returns-2 returns-3)

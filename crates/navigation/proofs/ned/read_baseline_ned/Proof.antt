@@ -9,8 +9,8 @@ use Rattle.navigation.proofs.ned.read_baseline_ned.Tie as tie
 returns : tie.Need-returns
 returns c = gives-22 baselineNed (c .before .before .args .s .now) (c .if1 .taken)
 
-take-requires : tie.Need-take-requires
-take-requires c κs = search needs
+take-ned-requires : tie.Need-take-ned-requires
+take-ned-requires c κs = search needs
 
 allowed-requires : tie.Need-allowed-requires
 allowed-requires c κs = search needs
@@ -18,12 +18,12 @@ allowed-requires c κs = search needs
 returns-2 : tie.Need-returns-2
 returns-2 c =
     let t = c .before .before in
-    gives baselineNed (t .before .before .before .args .s .now) (t .take .result) (t .before .if1 .left) (t .take .ensures) (sym (c .before .allowed .ensures) ∙ c .if2 .taken)
+    gives baselineNed (t .before .before .before .args .s .now) (t .take-ned .result) (t .before .if1 .left) (t .take-ned .ensures) (sym (c .before .allowed .ensures) ∙ c .if2 .taken)
 
 returns-3 : tie.Need-returns-3
 returns-3 c =
     let t = c .before .before in
-    gives-23 baselineNed (t .before .before .before .args .s .now) (t .take .result) (t .before .if1 .left) (t .take .ensures) (sym (c .before .allowed .ensures) ∙ c .if2 .left)
+    gives-23 baselineNed (t .before .before .before .args .s .now) (t .take-ned .result) (t .before .if1 .left) (t .take-ned .ensures) (sym (c .before .allowed .ensures) ∙ c .if2 .left)
 
 pub read-baseline-ned-spec : {M : Type 1} → statement M
-read-baseline-ned-spec = tie.close (tie.spec returns take-requires allowed-requires returns-2 returns-3)
+read-baseline-ned-spec = tie.close (tie.spec returns take-ned-requires allowed-requires returns-2 returns-3)

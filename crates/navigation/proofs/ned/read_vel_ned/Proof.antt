@@ -9,11 +9,11 @@ use Rattle.navigation.proofs.ned.read_vel_ned.Tie as tie
 returns : tie.Need-returns
 returns c = gives-22 velNed (c .before .before .args .s .now) (c .if1 .taken)
 
-take-requires : tie.Need-take-requires
-take-requires c κs = search needs
+take-ned-requires : tie.Need-take-ned-requires
+take-ned-requires c κs = search needs
 
 returns-2 : tie.Need-returns-2
-returns-2 c = gives velNed (c .before .before .before .args .s .now) (c .take .result) (c .before .if1 .left) (c .take .ensures) refl
+returns-2 c = gives velNed (c .before .before .before .args .s .now) (c .take-ned .result) (c .before .if1 .left) (c .take-ned .ensures) refl
 
 pub read-vel-ned-spec : {M : Type 1} → statement M
-read-vel-ned-spec = tie.close (tie.spec returns take-requires returns-2)
+read-vel-ned-spec = tie.close (tie.spec returns take-ned-requires returns-2)

@@ -9,8 +9,8 @@ use Rattle.navigation.proofs.pos_llh.read_pos_llh.Tie as tie
 returns : tie.Need-returns
 returns c = gives-22 posLlh (c .before .before .args .s .now) (c .if1 .taken)
 
-take-requires : tie.Need-take-requires
-take-requires c κs = search needs
+take-pos-llh-requires : tie.Need-take-pos-llh-requires
+take-pos-llh-requires c κs = search needs
 
 allowed-requires : tie.Need-allowed-requires
 allowed-requires c κs = search needs
@@ -18,12 +18,12 @@ allowed-requires c κs = search needs
 returns-2 : tie.Need-returns-2
 returns-2 c =
     let t = c .before .before in
-    gives posLlh (t .before .before .before .args .s .now) (t .take .result) (t .before .if1 .left) (t .take .ensures) (sym (c .before .allowed .ensures) ∙ c .if2 .taken)
+    gives posLlh (t .before .before .before .args .s .now) (t .take-pos-llh .result) (t .before .if1 .left) (t .take-pos-llh .ensures) (sym (c .before .allowed .ensures) ∙ c .if2 .taken)
 
 returns-3 : tie.Need-returns-3
 returns-3 c =
     let t = c .before .before in
-    gives-23 posLlh (t .before .before .before .args .s .now) (t .take .result) (t .before .if1 .left) (t .take .ensures) (sym (c .before .allowed .ensures) ∙ c .if2 .left)
+    gives-23 posLlh (t .before .before .before .args .s .now) (t .take-pos-llh .result) (t .before .if1 .left) (t .take-pos-llh .ensures) (sym (c .before .allowed .ensures) ∙ c .if2 .left)
 
 pub read-pos-llh-spec : {M : Type 1} → statement M
-read-pos-llh-spec = tie.close (tie.spec returns take-requires allowed-requires returns-2 returns-3)
+read-pos-llh-spec = tie.close (tie.spec returns take-pos-llh-requires allowed-requires returns-2 returns-3)

@@ -9,11 +9,11 @@ use Rattle.observation.proofs.base_pos_ecef.read_base_pos_ecef.Tie as t
 returns : tie.Need-returns
 returns c = gives-22 basePosEcef (c .before .before .args .s .now) (c .if1 .taken)
 
-take-requires : tie.Need-take-requires
-take-requires c κs = search needs
+take-base-pos-ecef-requires : tie.Need-take-base-pos-ecef-requires
+take-base-pos-ecef-requires c κs = search needs
 
 returns-2 : tie.Need-returns-2
-returns-2 c = gives basePosEcef (c .before .before .before .args .s .now) (c .take .result) (c .before .if1 .left) (c .take .ensures) refl
+returns-2 c = gives basePosEcef (c .before .before .before .args .s .now) (c .take-base-pos-ecef .result) (c .before .if1 .left) (c .take-base-pos-ecef .ensures) refl
 
 pub read-base-pos-ecef-spec : {M : Type 1} → statement M
-read-base-pos-ecef-spec = tie.close (tie.spec returns take-requires returns-2)
+read-base-pos-ecef-spec = tie.close (tie.spec returns take-base-pos-ecef-requires returns-2)

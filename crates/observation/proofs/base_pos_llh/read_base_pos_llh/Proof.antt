@@ -9,11 +9,11 @@ use Rattle.observation.proofs.base_pos_llh.read_base_pos_llh.Tie as tie
 returns : tie.Need-returns
 returns c = gives-22 basePosLlh (c .before .before .args .s .now) (c .if1 .taken)
 
-take-requires : tie.Need-take-requires
-take-requires c κs = search needs
+take-base-pos-llh-requires : tie.Need-take-base-pos-llh-requires
+take-base-pos-llh-requires c κs = search needs
 
 returns-2 : tie.Need-returns-2
-returns-2 c = gives basePosLlh (c .before .before .before .args .s .now) (c .take .result) (c .before .if1 .left) (c .take .ensures) refl
+returns-2 c = gives basePosLlh (c .before .before .before .args .s .now) (c .take-base-pos-llh .result) (c .before .if1 .left) (c .take-base-pos-llh .ensures) refl
 
 pub read-base-pos-llh-spec : {M : Type 1} → statement M
-read-base-pos-llh-spec = tie.close (tie.spec returns take-requires returns-2)
+read-base-pos-llh-spec = tie.close (tie.spec returns take-base-pos-llh-requires returns-2)

@@ -9,11 +9,11 @@ use Rattle.system.proofs.heartbeat.read_heartbeat.Tie as tie
 returns : tie.Need-returns
 returns c = gives-22 heartbeat (c .before .before .args .s .now) (c .if1 .taken)
 
-take-requires : tie.Need-take-requires
-take-requires c κs = search needs
+take-heartbeat-requires : tie.Need-take-heartbeat-requires
+take-heartbeat-requires c κs = search needs
 
 returns-2 : tie.Need-returns-2
-returns-2 c = gives heartbeat (c .before .before .before .args .s .now) (c .take .result) (c .before .if1 .left) (c .take .ensures) refl
+returns-2 c = gives heartbeat (c .before .before .before .args .s .now) (c .take-heartbeat .result) (c .before .if1 .left) (c .take-heartbeat .ensures) refl
 
 pub read-heartbeat-spec : {M : Type 1} → statement M
-read-heartbeat-spec = tie.close (tie.spec returns take-requires returns-2)
+read-heartbeat-spec = tie.close (tie.spec returns take-heartbeat-requires returns-2)

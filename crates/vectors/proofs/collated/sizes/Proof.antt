@@ -11,8 +11,8 @@ Inv-loop c₀ n₀ c n = n ≤ 16
 abbrev μ-loop : tie.MeasureT-loop
 μ-loop c₀ n₀ c n = 16 - n
 
-listed-requires : tie.Need-listed-requires Inv-loop μ-loop
-listed-requires c κs = search needs
+three-requires : tie.Need-three-requires Inv-loop μ-loop
+three-requires c κs = search needs
 
 loop-holds : tie.Need-loop-holds Inv-loop μ-loop
 loop-holds c = omega arith
@@ -38,7 +38,7 @@ sizes-spec =
     (tie.spec
     Inv-loop
     μ-loop
-    listed-requires
+    three-requires
     loop-holds
     whole-requires
     add-n

@@ -11,8 +11,8 @@ Inv-loop t₀ e₀ t3 t e = e ≤ 400
 abbrev μ-loop : tie.MeasureT-loop
 μ-loop t₀ e₀ t3 t e = 400 - e
 
-listed-requires : tie.Need-listed-requires Inv-loop μ-loop
-listed-requires c κs = search needs
+three-requires : tie.Need-three-requires Inv-loop μ-loop
+three-requires c κs = search needs
 
 loop-holds : tie.Need-loop-holds Inv-loop μ-loop
 loop-holds c = omega arith
@@ -53,7 +53,7 @@ ticket-spec =
     (tie.spec
     Inv-loop
     μ-loop
-    listed-requires
+    three-requires
     loop-holds
     both-requires
     add-e

@@ -1,0 +1,43 @@
+-- `epochs::seating::seat_of` meets its contract.
+-- Assumes nothing.
+use mathlib.Core.Path.{_≡_, sym, ap, _∙_}
+use mathlib.Core.List.{List}
+use Prim.Native.Nat.{ℕ, min, _≤_}
+use native.Mathlib.Omega.{arith}
+use borrow.Author.Needs.{needs}
+use lib.ListN.{length, take}
+use lib.Seq.{length-take-le}
+use Rattle.epochs.specs.Search.{seatOf}
+use Rattle.epochs.proofs.Searches.{take-eight}
+use Rattle.epochs.proofs.seating.seat_of.Statement.{statement}
+use Rattle.epochs.proofs.seating.seat_of.Tie as tie
+
+seats-listed-requires : tie.Need-seats-listed-requires
+seats-listed-requires c κs = search needs
+
+array-share-prefix-roster : tie.Need-array-share-prefix-roster
+array-share-prefix-roster c = search needs
+
+slice-aggregate-search : tie.Need-slice-aggregate-search
+slice-aggregate-search c =
+    let size : length (c .before .before .args .t1) ≡ 8 = search needs in
+    sym (length-take-le (c .before .seats-listed .result) (c .before .before .args .t1) (omega (arith, c .before .seats-listed .ensures)))
+
+search-requires : tie.Need-search-requires
+search-requires c κs = search needs
+
+returns : tie.Need-returns
+returns c =
+    let a = c .before .before .before .args in
+    let size : length (a .t1) ≡ 8 = search needs in
+    c .search .ensures ∙ ap (λ (xs : List ℕ). seatOf xs (a .sender) 0) (ap (λ (n : ℕ). take n (a .t1)) (c .before .before .seats-listed .ensures) ∙ take-eight (a .count) (a .t1) size)
+
+pub seat-of-spec : {M : Type 1} → statement M
+seat-of-spec =
+    tie.close
+    (tie.spec
+    seats-listed-requires
+    array-share-prefix-roster
+    slice-aggregate-search
+    search-requires
+    returns)

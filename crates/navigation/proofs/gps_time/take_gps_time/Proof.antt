@@ -1,0 +1,29 @@
+-- `navigation::gps_time::take_gps_time` meets its contract, field by field.
+use borrow.Author.Needs.{needs}
+use mir.Syntax.{w32}
+use Rattle.wire.proofs.Signed.{came-back}
+use Rattle.navigation.proofs.gps_time.take_gps_time.Statement.{statement}
+use Rattle.navigation.proofs.gps_time.take_gps_time.Tie as tie
+
+read-u16-requires : tie.Need-read-u16-requires
+read-u16-requires c κs = search needs
+
+read-u32-requires : tie.Need-read-u32-requires
+read-u32-requires c κs = search needs
+
+read-s32-requires : tie.Need-read-s32-requires
+read-s32-requires c κs = search needs
+
+read-u8-requires : tie.Need-read-u8-requires
+read-u8-requires c κs = search needs
+
+returns : tie.Need-returns
+returns c = λ i. record {
+  wn = c .before .before .before .read-u16 .ensures i;
+  tow = c .before .before .read-u32 .ensures i;
+  ns = came-back w32 (c .before .read-s32 .ok) (c .before .read-s32 .ensures) i;
+  flags = c .read-u8 .ensures i;
+}
+
+pub take-gps-time-spec : {M : Type 1} → statement M
+take-gps-time-spec = tie.close (tie.spec read-u16-requires read-u32-requires read-s32-requires read-u8-requires returns)

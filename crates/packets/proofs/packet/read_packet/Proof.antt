@@ -1,0 +1,57 @@
+-- `packets::packet::read_packet` meets its contract.
+-- Assumes nothing.
+use mathlib.Core.Path.{sym, ap, _∙_}
+use Rattle.observation.specs.Obs.{obsAnswer}
+use Rattle.wire.specs.Refusals.{given}
+use Rattle.packets.specs.Packet.{packetOf}
+use Rattle.packets.proofs.Joined.{mapped}
+use Rattle.packets.proofs.Recognitions.{read-46, read-obs}
+use borrow.Author.Needs.{needs}
+use Rattle.packets.proofs.packet.read_packet.Statement.{statement}
+use Rattle.packets.proofs.packet.read_packet.Tie as tie
+
+is-obs-requires : tie.Need-is-obs-requires
+is-obs-requires c κs = search needs
+
+read-obs-requires : tie.Need-read-obs-requires
+read-obs-requires c κs = search needs
+
+enum-known-read : tie.Need-enum-known-read
+enum-known-read c = search needs
+
+returns : tie.Need-returns
+returns c =
+    let a = c .before .before .before .before .before .before .before .args in
+    let obs = sym (c .before .before .before .before .before .is-obs .ensures) ∙ c .before .before .before .before .if1 .taken in
+    ap (mapped packetOf) (ap obsAnswer (sym (c .before .read .given .1)) ∙ c .before .before .before .read-obs .ensures) ∙ read-obs (a .kind) (a .payload .now) obs
+
+enum-known-read-2 : tie.Need-enum-known-read-2
+enum-known-read-2 c = search needs
+
+packet-of-requires : tie.Need-packet-of-requires
+packet-of-requires c κs = search needs
+
+returns-2 : tie.Need-returns-2
+returns-2 c =
+    let a = c .before .before .before .before .before .before .before .before .args in
+    let obs = sym (c .before .before .before .before .before .before .is-obs .ensures) ∙ c .before .before .before .before .before .if1 .taken in
+    let read = ap obsAnswer (sym (c .before .before .read2 .given .1)) ∙ c .before .before .before .before .read-obs .ensures in
+    ap given (c .packet-of .ensures) ∙ ap (mapped packetOf) read ∙ read-obs (a .kind) (a .payload .now) obs
+
+returns-3 : tie.Need-returns-3
+returns-3 c =
+    let a = c .before .before .before .args in
+    read-46 (a .kind) (a .payload .now) (sym (c .before .is-obs .ensures) ∙ c .if1 .left)
+
+pub read-packet-spec : {M : Type 1} → statement M
+read-packet-spec =
+    tie.close
+    (tie.spec
+    is-obs-requires
+    read-obs-requires
+    enum-known-read
+    returns
+    enum-known-read-2
+    packet-of-requires
+    returns-2
+    returns-3)

@@ -1,0 +1,98 @@
+-- Every message is found under its own type number and read as its own reader reads it, once for the whole list: the numbers differ.
+-- Assumes nothing.
+use mathlib.Core.Path.{_≡_, refl, sym, ap, _∙_, subst}
+use mathlib.Core.Bool.{Bool, true, false, _&&_, not, cond, false≢true}
+use mathlib.Core.List.{List, [], _∷_, _++_, map, append-assoc}
+use Prim.Native.Nat.{ℕ, _<_}
+use lib.Dec.{eqb, ltb}
+use borrow.Author.Tests.{eq-eqb, ne-eqb, ltb-true}
+use Rattle.wire.specs.Description.{readAs, reading, inside}
+use Rattle.wire.specs.Refusals.{refused, Answer, Tests, ordered}
+use Rattle.frames.proofs.Promised.{faithful}
+use Rattle.observation.specs.Edition.{first}
+use Rattle.observation.specs.Obs.{readingObs, obsIn, readObs}
+use Rattle.system.specs.Log.{logKind, logIn, readLog}
+use Rattle.payloads.specs.Payloads.{Named, messages, Entry, readIn, entryOf, obsEntry, logEntry, noEntry, table, entryFor, readingLog, testsOf, readFor, named, Typed, TypedIn, PromisedIn, Promised, AllOf}
+use Rattle.payloads.specs.declared.Message.{Message}
+use Rattle.payloads.specs.declared.Message.the-variants as M
+
+-- ---- a name inside or outside of the tests
+
+named-ordered : {R : Type 0} (name : R → Message) (ts : Tests) (r : R) → ordered ts (name r) ≡ named name (ordered ts r)
+named-ordered name [] r = refl
+named-ordered name (t ∷ ts) r = by (t .0) (named-ordered name ts r)
+  where
+    by : (b : Bool) → ordered ts (name r) ≡ named name (ordered ts r) → cond b (ordered ts (name r)) (refused (t .1)) ≡ named name (cond b (ordered ts r) (refused (t .1)))
+    by true rest = rest
+    by false rest = refl
+
+-- e is what a reader returned, and x the case of it that was met
+pub under-name : {R E : Type 0} (name : R → Message) (answer : E → Answer R) {e x : E} {a : Answer R} → answer e ≡ a → e ≡ x → named name (answer x) ≡ named name a
+under-name name answer p q = ap (named name) (sym (ap answer q) ∙ p)
+
+-- ---- the entry of a type
+
+-- the type is none of these: as a `match` keeps it, what was known before and then one after the other
+abbrev pub Absent : Type 0 → List ℕ → ℕ → Type 0
+Absent P [] kind = P
+Absent P (k ∷ ks) kind = Absent (P × (kind ≡ k → ⊥)) ks kind
+
+pub no-entry : {P : Type 0} (es : List Entry) (kind : ℕ) → Absent P (map (λ (e : Entry). e .kind) es) kind → P × (entryFor es kind ≡ noEntry kind)
+unfolding entryFor
+no-entry [] kind h = (h, refl)
+no-entry (e ∷ es) kind h = let rest = no-entry es kind h in (rest .0 .0, rw (ne-eqb kind (e .kind) (rest .0 .1)) (rest .1))
+
+-- no entry has that type
+abbrev lacks : List Entry → ℕ → Bool
+lacks [] kind = true
+lacks (e ∷ es) kind = not (eqb kind (e .kind)) && lacks es kind
+
+pub both : (t u : Bool) → (t && u) ≡ true → (t ≡ true) × (u ≡ true)
+both true u h = (refl, h)
+both false u h = absurd (false≢true h)
+
+own : (before : List Entry) (e : Entry) (after : List Entry) → lacks before (e .kind) ≡ true → entryFor (before ++ (e ∷ after)) (e .kind) ≡ e
+unfolding entryFor
+own [] e after h = rw (eq-eqb (e .kind) (e .kind) refl)
+own (b ∷ bs) e after h = let k = both (not (eqb (e .kind) (b .kind))) (lacks bs (e .kind)) h in by (eqb (e .kind) (b .kind)) (k .0) (own bs e after (k .1))
+  where
+    by : (t : Bool) → not t ≡ true → entryFor (bs ++ (e ∷ after)) (e .kind) ≡ e → cond t b (entryFor (bs ++ (e ∷ after)) (e .kind)) ≡ e
+    by true h rest = absurd (false≢true h)
+    by false h rest = rest
+
+-- ---- every message
+
+-- its type is a u16, and no message before it has it
+abbrev distinct : List Entry → List Named → Bool
+distinct before [] = true
+distinct before (m ∷ ms) = lacks before (m .description .kind) && (ltb (m .description .kind) 65536 && distinct (before ++ (entryOf m ∷ [])) ms)
+
+-- payloads of its type read as its reader reads them, where its entry is found
+module _ (m : Named) (es : List Entry) (found : entryFor es (m .description .kind) ≡ entryOf m) where
+  read-own : TypedIn es (m .description .kind) (m .name) (readAs (m .description))
+  unfolding readAs
+  read-own s = ap (λ (e : Entry). ordered (testsOf e s) (e .holds s)) found ∙ named-ordered (m .name) (reading (m .description) s) (inside (m .description) s)
+
+all-promised : (before : List Entry) (ms : List Named) (after : List Entry) → distinct before ms ≡ true → AllOf (PromisedIn (before ++ (map entryOf ms ++ after))) ms
+all-promised before [] after h = tt
+all-promised before (m ∷ ms) after h =
+    let d = m .description in
+    let new = both (lacks before (d .kind)) (ltb (d .kind) 65536 && distinct (before ++ (entryOf m ∷ [])) ms) h in
+    let small = both (ltb (d .kind) 65536) (distinct (before ++ (entryOf m ∷ [])) ms) (new .1) in
+    let es = map entryOf ms ++ after in (
+      (faithful d (ltb-true (d .kind) 65536 (small .0)) ?, read-own m (before ++ (entryOf m ∷ es)) (own before (entryOf m) es (new .0))),
+      subst (λ (all : List Entry). AllOf (PromisedIn all) ms) (append-assoc before (entryOf m ∷ []) es) (all-promised (before ++ (entryOf m ∷ [])) ms after (small .1)),
+    )
+
+pub promised : AllOf Promised messages
+promised = all-promised [] messages (obsEntry ∷ logEntry ∷ []) refl
+
+-- ---- OBS, and LOG
+
+pub obs : Typed (first .kind) (λ r. M.Obs r) readObs
+unfolding entryFor readObs
+obs s = named-ordered (λ r. M.Obs r) (readingObs first s) (obsIn s)
+
+pub log : Typed logKind (λ r. M.Log r) readLog
+unfolding entryFor readLog
+log s = named-ordered (λ r. M.Log r) (readingLog s) (logIn s)

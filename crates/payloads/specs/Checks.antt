@@ -1,0 +1,73 @@
+-- Document 01's columns Type and Length, and its ranges, as numbers: what a payload is tested for before it is read. That the descriptions say
+-- the same is proved (proofs/Agreed.antt).
+-- Assumes nothing.
+use Prim.Native.Nat.{ℕ}
+use mathlib.Core.Path.{_≡_}
+use mathlib.Core.Bool.{Bool, true, false, cond}
+use mathlib.Core.List.{List, [], _∷_}
+use lib.Dec.{eqb}
+use lib.ListN.{length}
+use Rattle.wire.specs.Field.{valueAt, u8, s32}
+use Rattle.wire.specs.Refusals.{Tests, ordered}
+use Rattle.navigation.specs.Range.{inNs, fixUpTo}
+use Rattle.observation.specs.Edition.{first}
+use Rattle.observation.specs.Obs.{readingObs}
+use Rattle.payloads.specs.Payloads.{Entry, table, readingLog, testsOf, numberOf}
+use Rattle.payloads.specs.declared.check.Check.{Check}
+use Rattle.payloads.specs.declared.check.Check.the-variants.{Unknown, Length, Ns, Fix, Obs, Log}
+
+-- each type with its length; ns or flags stand at an offset, and the fix mode goes up to the last
+abbrev pub document : List (ℕ × Check)
+document =
+    (0x0100, Ns 11 6) ∷
+    (0x0206, Length 14) ∷
+    (0x0200, Fix 32 31 2) ∷
+    (0x0201, Fix 34 33 2) ∷
+    (0x0202, Fix 20 19 1) ∷
+    (0x0204, Length 20) ∷
+    (0x0203, Fix 22 21 1) ∷
+    (0x0205, Length 22) ∷
+    (0x0207, Fix 10 9 1) ∷
+    (0x0044, Length 24) ∷
+    (0x0048, Length 24) ∷
+    (0x00a1, Length 0) ∷
+    (0x00a6, Length 0) ∷
+    (0x00a2, Length 2) ∷
+    (0xff00, Length 4) ∷
+    (0xffff, Length 4) ∷
+    (0x0049, Obs) ∷
+    (0x0401, Log) ∷
+    []
+
+unfoldable pub checkIn : List (ℕ × Check) → ℕ → Check
+checkIn [] kind = Unknown
+checkIn (d ∷ ds) kind = cond (eqb kind (d .0)) (d .1) (checkIn ds kind)
+
+abbrev pub checkFor : ℕ → Check
+checkFor kind = checkIn document kind
+
+-- the tests of a payload of a known type: its length, its range
+abbrev pub tests : Bool → Bool → Tests
+tests fits inside = (true, 21) ∷ (fits, 22) ∷ (inside, 23) ∷ []
+
+abbrev pub testsBy : Check → List ℕ → Tests
+testsBy Unknown s = (false, 21) ∷ []
+testsBy (Length n) s = tests (eqb (length s) n) true
+testsBy (Ns n at) s = tests (eqb (length s) n) (inNs (valueAt s32 s at))
+testsBy (Fix n at last) s = tests (eqb (length s) n) (fixUpTo last (valueAt u8 s at))
+testsBy Obs s = (true, 21) ∷ readingObs first s
+testsBy Log s = (true, 21) ∷ readingLog s
+
+-- the number of the first that fails, or 0
+abbrev pub numberBy : Tests → ℕ
+numberBy ts = numberOf (ordered {A = Unit {0}} ts tt)
+
+-- entry by entry the types are these, and the tests of the descriptions are these
+abbrev pub Agrees : List Entry → List (ℕ × Check) → Type 0
+Agrees [] [] = Unit {0}
+Agrees [] (d ∷ ds) = ⊥
+Agrees (e ∷ es) [] = ⊥
+Agrees (e ∷ es) (d ∷ ds) = (e .kind ≡ d .0) × ((s : List ℕ) → testsOf e s ≡ testsBy (d .1) s) × Agrees es ds
+
+abbrev pub AsInDocument : Type 0
+AsInDocument = Agrees table document

@@ -1,0 +1,149 @@
+-- What a type number means: the messages, each with its description, and the answer to any type and payload by its ordered tests.
+-- A new message is one line here. specs/Checks.antt has document 01's numbers.
+-- Assumes nothing.
+use Prim.Native.Nat.{ℕ}
+use mathlib.Core.Path.{_≡_}
+use mathlib.Core.Bool.{Bool, true, false, cond}
+use mathlib.Core.List.{List, [], _∷_, _++_, map}
+use lib.Dec.{eqb}
+use lib.ListN.{length}
+use Rattle.wire.specs.Description.{Description, inside, reading, readAs}
+use Rattle.wire.specs.Refusals.{refused, given, Answer, Tests, ordered}
+use Rattle.frames.specs.Faithful.{Faithful}
+use Rattle.navigation.specs.Dops.{dops}
+use Rattle.navigation.specs.Ecef.{baselineEcef, velEcef}
+use Rattle.navigation.specs.GpsTime.{gpsTime}
+use Rattle.navigation.specs.Heading.{baselineHeading}
+use Rattle.navigation.specs.Ned.{baselineNed, velNed}
+use Rattle.navigation.specs.PosEcef.{posEcef}
+use Rattle.navigation.specs.PosLlh.{posLlh}
+use Rattle.observation.specs.BasePosEcef.{basePosEcef}
+use Rattle.observation.specs.BasePosLlh.{basePosLlh}
+use Rattle.observation.specs.Edition.{first}
+use Rattle.observation.specs.Obs.{readingObs, obsIn}
+use Rattle.system.specs.Empty.{settingsSave, readByIndexDone}
+use Rattle.system.specs.Heartbeat.{heartbeat}
+use Rattle.system.specs.Log.{logKind, logLength, logIn}
+use Rattle.system.specs.ReadByIndexReq.{readByIndexReq}
+use Rattle.system.specs.Startup.{startup}
+use Rattle.payloads.specs.declared.Message.{Message}
+use Rattle.payloads.specs.declared.Message.the-variants as M
+use Rattle.payloads.specs.declared.Reading.{Reading}
+use Rattle.payloads.specs.declared.Reading.the-variants.{Record, Refused}
+
+abbrev pub readingAnswer : Reading → Answer Message
+readingAnswer (Record m) = given m
+readingAnswer (Refused n) = refused n
+
+-- ---- the messages
+
+-- what a description describes, under its name
+pub record Named : Type 1 where
+  pub Of : Type 0
+  pub description : Description Of
+  pub name : Of → Message
+
+abbrev pub under : {R : Type 0} → Description R → (R → Message) → Named
+under {R} d name = record { Of = R; description = d; name = name }
+
+-- every message whose payloads have one length
+abbrev pub messages : List Named
+messages =
+    under gpsTime (λ r. M.GpsTime r) ∷
+    under dops (λ r. M.Dops r) ∷
+    under posEcef (λ r. M.PosEcef r) ∷
+    under posLlh (λ r. M.PosLlh r) ∷
+    under baselineEcef (λ r. M.BaselineEcef r) ∷
+    under velEcef (λ r. M.VelEcef r) ∷
+    under baselineNed (λ r. M.BaselineNed r) ∷
+    under velNed (λ r. M.VelNed r) ∷
+    under baselineHeading (λ r. M.BaselineHeading r) ∷
+    under basePosLlh (λ r. M.BasePosLlh r) ∷
+    under basePosEcef (λ r. M.BasePosEcef r) ∷
+    under settingsSave (λ r. M.SettingsSave) ∷
+    under readByIndexDone (λ r. M.ReadByIndexDone) ∷
+    under readByIndexReq (λ r. M.ReadByIndexReq r) ∷
+    under startup (λ r. M.Startup r) ∷
+    under heartbeat (λ r. M.Heartbeat r) ∷
+    []
+
+-- ---- the table
+
+abbrev pub readingLog : List ℕ → Tests
+readingLog s = (logLength (length s), 22) ∷ []
+
+-- a row of it: a type, whether it has a reading, its reader's tests, and what a payload that passes them holds
+pub record Entry : Type 0 where
+  pub kind : ℕ
+  pub known : Bool
+  pub tests : List ℕ → Tests
+  pub holds : List ℕ → Message
+
+-- all of it as the description says
+abbrev pub entryOf : Named → Entry
+entryOf m = let d = m .description in record { kind = d .kind; known = true; tests = reading d; holds = λ s. m .name (inside d s) }
+
+abbrev pub obsEntry : Entry
+obsEntry = record { kind = first .kind; known = true; tests = readingObs first; holds = λ s. M.Obs (obsIn s) }
+
+abbrev pub logEntry : Entry
+logEntry = record { kind = logKind; known = true; tests = readingLog; holds = λ s. M.Log (logIn s) }
+
+-- of a type without a reading: 21, so what it holds is never given
+abbrev pub noEntry : ℕ → Entry
+noEntry kind = record { kind = kind; known = false; tests = λ s. []; holds = λ s. M.SettingsSave }
+
+abbrev pub table : List Entry
+table = map entryOf messages ++ (obsEntry ∷ logEntry ∷ [])
+
+unfoldable pub entryFor : List Entry → ℕ → Entry
+entryFor [] kind = noEntry kind
+entryFor (e ∷ es) kind = cond (eqb kind (e .kind)) e (entryFor es kind)
+
+-- ---- the answer to any type and payload
+
+-- "Reading: 21, 22, 23.": 21, then the tests of the message's own reader
+abbrev pub testsOf : Entry → List ℕ → Tests
+testsOf e s = (e .known, 21) ∷ e .tests s
+
+abbrev pub readingAny : ℕ → List ℕ → Tests
+readingAny kind s = testsOf (entryFor table kind) s
+
+abbrev pub readIn : List Entry → ℕ → List ℕ → Answer Message
+readIn es kind s = ordered (testsOf (entryFor es kind) s) (entryFor es kind .holds s)
+
+abbrev pub readFor : ℕ → List ℕ → Answer Message
+readFor kind s = ordered (readingAny kind s) (entryFor table kind .holds s)
+
+-- 0 for a record, and a refusal's number
+abbrev pub numberOf : {A : Type 0} → Answer A → ℕ
+numberOf (given x) = 0
+numberOf (refused n) = n
+
+abbrev pub answerFor : ℕ → List ℕ → ℕ
+answerFor kind s = numberOf (readFor kind s)
+
+-- ---- what is promised of every message
+
+-- a record under its message's name, or the refusal
+abbrev pub named : {R : Type 0} → (R → Message) → Answer R → Answer Message
+named name (given r) = given (name r)
+named name (refused n) = refused n
+
+-- payloads of a type read as one reader reads them
+abbrev pub TypedIn : {R : Type 0} → List Entry → ℕ → (R → Message) → (List ℕ → Answer R) → Type 0
+TypedIn es kind name reads = (s : List ℕ) → readIn es kind s ≡ named name (reads s)
+
+abbrev pub Typed : {R : Type 0} → ℕ → (R → Message) → (List ℕ → Answer R) → Type 0
+Typed = TypedIn table
+
+-- a message keeps its promise, and under the number by which it is written its own reader reads it
+abbrev pub PromisedIn : List Entry → Named → Type 0
+PromisedIn es m = let d = m .description in Faithful d × TypedIn es (d .kind) (m .name) (readAs d)
+
+abbrev pub Promised : Named → Type 0
+Promised = PromisedIn table
+
+abbrev pub AllOf : (Named → Type 0) → List Named → Type 0
+AllOf P [] = Unit {0}
+AllOf P (m ∷ ms) = P m × AllOf P ms

@@ -1,0 +1,80 @@
+#!/usr/bin/env python3
+"""Tests the twins and holds them against each other; its last line is 'N passed, M failed'.
+
+The Rust twin's tests, the C twin's, and the listings of all three on generated captures. usage: twins.py [SEED [COUNT]]
+"""
+import os
+import subprocess
+import sys
+import tempfile
+
+ROOT = os.path.dirname(os.path.dirname(os.path.abspath(__file__)))
+RUST, C = os.path.join(ROOT, "twins", "rust"), os.path.join(ROOT, "twins", "c")
+sys.dont_write_bytecode = True
+sys.path.insert(0, os.path.join(ROOT, "twins", "python"))
+import twin
+
+
+def cargo(word):
+    return subprocess.run(["cargo", word, "--offline", "--release", "--quiet"], cwd=RUST).returncode == 0
+
+
+def compiled(work, name):
+    """The C twin with one of its programs, or None."""
+    made = os.path.join(work, name)
+    words = ["gcc", "-std=c11", "-O3", "-Wall", "-Wextra", "-Werror", "-o", made, name + ".c", "fast.c"]
+    return made if subprocess.run(words, cwd=C).returncode == 0 else None
+
+
+def released(name):
+    return os.path.join(RUST, "target", "release", name)
+
+
+def captures(seed, count):
+    stream = subprocess.run([released("twingen"), str(seed), str(count)], stdout=subprocess.PIPE, check=True).stdout
+    while stream:
+        end = 4 + int.from_bytes(stream[:4], "little")
+        yield stream[4:end]
+        stream = stream[end:]
+
+
+def printed(program, data):
+    return subprocess.run([program], input=data, stdout=subprocess.PIPE).stdout.decode()
+
+
+def agreed(clist, seed, count):
+    """Whether all three list a capture alike, for each capture."""
+    for at, data in enumerate(captures(seed, count)):
+        listings = {"Rust": printed(released("twinlist"), data), "C": printed(clist, data), "Python": twin.listing(data)}
+        same = len(set(listings.values())) == 1
+        if not same:
+            print("seed %d: %s" % (seed + at, listings))
+        yield same
+
+
+def results(seed, count):
+    with tempfile.TemporaryDirectory() as work:
+        built = cargo("build")
+        yield built
+        yield cargo("test")
+        ccheck, clist = compiled(work, "ccheck"), compiled(work, "clist")
+        yield ccheck is not None and subprocess.run([ccheck]).returncode == 0
+        if built and clist is not None:
+            yield from agreed(clist, seed, count)
+        else:
+            yield False
+
+
+def main():
+    seed, count = [int(word) for word in sys.argv[1:]] + [1, 400][len(sys.argv) - 1:]
+    try:
+        held = list(results(seed, count))
+    except FileNotFoundError as missing:
+        print("missing here: %s" % missing.filename)
+        held = [False]
+    print("%d passed, %d failed" % (sum(held), len(held) - sum(held)))
+    return 0 if all(held) else 1
+
+
+if __name__ == "__main__":
+    sys.exit(main())

@@ -1,0 +1,248 @@
+#!/usr/bin/env python3
+"""Works out what vectors must print, by the twin beside it and Python's own codecs.
+
+usage: answers.py > crates/vectors/stdout
+"""
+import binascii
+import struct
+
+from twin import FIX_MODES, FLAGS, HEARTBEAT_FLAGS, MESSAGES, OBS, Sorter, answer, frame, is_obs, made, obs, reading, row
+
+# type through payload of the example frame of 003, section 4, and the fields that table 4.0.2 reads in it
+EXAMPLE = bytes.fromhex("0202cc0414703dd018cfefffffefe8fffff018000000000500")
+FIELDS = dict(tow=416300400, x=-4145, y=-5905, z=6384, accuracy=0, n_sats=5, flags=0)
+
+
+def checksums():
+    for name, data in ("nothing", b""), ("123456789", b"123456789"), ("example-frame", EXAMPLE):
+        yield "crc %s %04x" % (name, binascii.crc_hqx(data, 0))
+
+
+def numbers():
+    data = bytes([1, 2, 3, 4, 0x85, 0x86, 0x87, 0x88])
+    for name, at in ("0", 0), ("4", 4), ("7", 7), ("8", 8), ("greatest", 2**64 - 1):
+        read = [int.from_bytes((data[at:at + w] + bytes(8))[:w], "little") for w in (1, 2, 4, 8)]
+        yield "read-at %s %d %d %d %d" % (name, *read)
+    ends = ("least-16", "00800000"), ("greatest-16", "ff7f0000"), ("least-32", "00000080"), ("greatest-32", "ffffff7f"), ("minus-one", "ffffffff")
+    for name, text in ends:
+        raw = bytes.fromhex(text)
+        yield "signed %s %d %d %s" % (name, *struct.unpack("<h", raw[:2]), *struct.unpack("<i", raw), (raw[:2] + raw).hex())
+    for name, at in ("0", 0), ("3", 3), ("5", 5), ("7", 7), ("9", 9), ("greatest", 2**64 - 1):
+        buf, line = bytearray([0x11] * 9), "store-at " + name
+        for w, value in (1, 0xA1), (2, 0xB2B1), (4, 0xC4C3C2C1), (8, 0xD8D7D6D5D4D3D2D1):
+            if at + w <= len(buf):
+                buf[at:at + w] = value.to_bytes(w, "little")
+            line += " " + buf.hex()
+        yield line
+
+
+def doubles():
+    patterns = (
+        ("zero", 0x0000000000000000), ("minus-zero", 0x8000000000000000), ("one", 0x3FF0000000000000),
+        ("least-subnormal", 0x0000000000000001), ("greatest-subnormal", 0x000FFFFFFFFFFFFF),
+        ("least-normal", 0x0010000000000000), ("greatest", 0x7FEFFFFFFFFFFFFF),
+        ("infinity", 0x7FF0000000000000), ("minus-infinity", 0xFFF0000000000000),
+        ("signalling-nan", 0x7FF0000000000001), ("quiet-nan", 0x7FF8000000000000),
+        ("quiet-nan-with-payload", 0x7FF8DEADBEEF0001), ("minus-signalling-nan", 0xFFF4000000000000),
+        ("minus-quiet-nan", 0xFFFFFFFFFFFFFFFF))
+    for name, bits in patterns:
+        value = struct.unpack("<d", bits.to_bytes(8, "little"))[0]
+        nan = value != value
+        yield "double %s %016x %d %016x %016x" % (name, bits, nan, bits if nan else 0, bits)
+    yield "double nan-without-pattern 7ff8000000000000"
+    yield "double one-with-pattern 3ff0000000000000"
+
+
+def captures():
+    example = frame(0x0202, 1228, EXAMPLE[5:])
+    inside = bytes.fromhex("5501010202085500000000000000aabb")
+    cases = (
+        ("example", example), ("example-damaged", example[:-1] + b"\x95"), ("all-zero-frame", b"\x55" + bytes(7)), ("nothing", b""),
+        ("five-bytes", b"\x55" + bytes(4)), ("frame-inside-a-bad-one", inside), ("preamble-in-a-payload", frame(0x1234, 0x5678, b"\x55\x55")),
+        ("noise-around", b"\x01\x55" + bytes(7) + b"\x02\x03\x55"))
+    for name, data in cases:
+        for mode in "open", "closed":
+            found, counts, need = reading(data, mode == "open")
+            line = "%s %s" % (mode, name)
+            for at, kind, sender, payload in found:
+                line += " frame %d %d %d %d %s" % (at, kind, sender, len(payload), payload.hex())
+            yield line + (" end " if need is None else " needs %d " % need) + row(counts)
+        yield "totals %s %s" % (name, row(reading(data, False)[1]))
+        if name == "example":
+            yield "baseline-ecef %s %s" % (" ".join("%d" % v for v in FIELDS.values()), frame(0x0202, 0x0201, EXAMPLE[5:]).hex())
+
+
+def mixed(seed, step, size):
+    return bytes((seed + step * i) % 256 for i in range(size))
+
+
+def written():
+    for n in range(256):
+        data = frame(0x1234, 0x5678, mixed(n, 3, n))
+        yield "length %d %d %04x ee %d" % (n, n + 8, struct.unpack("<H", data[-2:])[0], n)
+    data = frame(0x1234, 0x42, mixed(255, 3, 255))
+    yield "write 255-into-263 263"
+    for n in range(264):
+        found, _, need = reading(data[:n], True)
+        outcome = "frame %d" % found[0][2] if found else "end" if need is None else "needs %d" % need
+        yield "cut %d %s %s" % (n, outcome, row(reading(data[:n], False)[1]))
+    untouched = "11" * 12
+    yield "write 5-into-12 refused 32 " + untouched
+    yield "write 256-into-12 refused 31 " + untouched
+    yield "write 3-into-12 11 " + frame(0x0102, 0x42, mixed(7, 3, 3)).hex() + "11"
+
+
+def message(name, payload):
+    kind, layout, _ = MESSAGES[name]
+    refused = answer(kind, payload)
+    if refused:
+        return "%s refused %d" % (name, refused)
+    fields = struct.unpack("<" + layout.replace("d", "Q"), payload)
+    shown = ["%016x" % v if c == "d" else "%d" % v for c, v in zip(layout, fields)]
+    return " ".join([name, *shown, frame(kind, 0x0201, payload).hex()])
+
+
+def each():
+    for seed in 0, 5:
+        for off in -1, 0, 1:
+            for name, (_, layout, _) in MESSAGES.items():
+                if layout:
+                    yield message(name, mixed(seed, 37, struct.calcsize("<" + layout) + off))
+    for ns in 500000, 500001, -500000, -500001:
+        yield message("gps-time", struct.pack("<HIiB", 0, 0, ns, 0))
+    for bits in 0x8000000000000000, 0x7FF0000000000001, 0xFFF8000000000123, 0x7FFFFFFFFFFFFFFF:
+        payload = struct.pack("<IQQQHHBB", 0, bits, bits, bits, 0, 0, 0, 0)
+        yield message("pos-llh", payload)
+        yield message("pos-ecef", payload[:32])
+        yield message("base-pos-llh", payload[4:28])
+        yield message("base-pos-ecef", payload[4:28])
+    for name in "settings-save", "read-by-index-done":
+        for size in 0, 1:
+            yield message(name, bytes(size))
+
+
+def flags():
+    """A flags byte at all values: each ranged message's answer and its fix mode, then the single flags; and HEARTBEAT's, bit by bit."""
+    for flags in range(256):
+        ends = lambda name: bytes(struct.calcsize("<" + MESSAGES[name][1]) - 1) + bytes([flags])
+        line = "flags %d" % flags
+        for name, table in ("pos-ecef", "pos-ecef"), ("pos-llh", "pos-llh"), ("baseline-ecef", "baseline"):
+            line += " %d %s" % (answer(MESSAGES[name][0], ends(name)), FIX_MODES[table].get(flags % 8, "reserved"))
+        for name in "baseline-ned", "baseline-heading":
+            line += " %d" % answer(MESSAGES[name][0], ends(name))
+        yield line + bits(flags, FLAGS)
+    for flags in 0, *(1 << k for k in range(32)), 2**32 - 1:
+        yield "heartbeat-flags %08x%s" % (flags, bits(flags, HEARTBEAT_FLAGS))
+
+
+def bits(flags, table):
+    return "".join(" %d" % (flags >> k & 1) for k in table.values())
+
+
+def entry(payload, i):
+    if not is_obs(len(payload)):
+        return "refused 22"
+    if i >= (len(payload) - 7) // 16:
+        return "refused 25"
+    return "%d %d %d %d %d %d %d %d" % struct.unpack_from("<IiBBHHBB", payload, 7 + 16 * i)
+
+
+def observations():
+    data = mixed(3, 37, 300)
+    for size in 6, 7, 8, 39, 247, 263:
+        payload = data[:size]
+        yield "obs %d %s" % (size, "%d %d %d %d" % (*struct.unpack_from("<IHB", payload), (size - 7) // 16) if is_obs(size) else "refused 22")
+        for i in 0, 1, 2, 15:
+            yield "observation %d %s" % (i, entry(payload, i))
+    for count in 2, 15, 16:
+        whole = data[:39] + bytes(16 * (count - 2))
+        yield "write-obs " + (frame(OBS, 0, whole).hex() if count <= 15 else "refused 31")
+    for size in 0, 1, 9, 255, 256:
+        outcome = "%d %d %s" % (data[0], size - 1, data[1:size].hex()) if 1 <= size <= 255 else "refused 22"
+        yield "log %d %s" % (size, outcome)
+    buf = b""
+    for size, room in (0, 9), (5, 14), (5, 13), (254, 264), (255, 264):
+        buf = buf if len(buf) == room else b"\xee" * room
+        refusal = 31 if size > 254 else 32 if room < size + 9 else 0
+        if not refusal:
+            made = frame(0x0401, 0x42, b"\x06" + data[:size])
+            buf = made + buf[len(made):]
+        yield "write-log %d %s %s" % (size, "refused %d" % refusal if refusal else "%d" % (size + 9), buf.hex())
+    for whole, part in (-3, 128), (-1, 255), (0, 0), (-2**31, 0), (2**31 - 1, 255):
+        yield "phase %d %d %d" % (whole, part, 256 * whole + part)
+    for z in -640, -1, 0, 255, 256, -256, -257, 2**39 - 1, 2**39, -2**39, -2**39 - 1, -2**63:
+        yield "parts %d %s" % (z, "%d %d" % (z // 256, z % 256) if -2**39 <= z < 2**39 else "refused 33")
+
+
+def walks():
+    """A reader over each of the rover's payloads, asked five times: it goes on after an observation, and stays at a refusal."""
+    s, t = mixed(3, 37, 300), mixed(9, 41, 300)
+    for payload in s[:39], s[:8], s[:7], t[:55]:
+        place, line = 0, "walk %d" % len(payload)
+        for _ in range(5):
+            outcome = entry(payload, place)
+            place += not outcome.startswith("refused")
+            line += " %s at %d" % (outcome, place)
+        yield line
+
+
+def types():
+    sizes = {kind: [struct.calcsize("<" + layout)] for kind, layout, _ in MESSAGES.values()}
+    sizes.update({OBS: range(7, 248, 16), 0x0401: range(1, 256)})
+    order = (0x0100, 0x0206, 0x0200, 0x0201, 0x0202, 0x0204, 0x0203, 0x0205, 0x0207, 0x0044, 0x0048, 0x0049, 0x0401, 0x00A1, 0x00A6, 0x00A2, 0xFF00, 0xFFFF)
+    for kind in order:
+        yield "lengths %04x %s" % (kind, " ".join("%d" % n for n in sizes[kind]))
+    yield "types %d %d" % (65536 - len(order), sum(0 not in sizes[kind] for kind in order))
+
+
+def fed(name, sorter, *packets):
+    return name + "".join(sorter.feed(OBS, sender, obs(*packet)) for sender, *packet in packets)
+
+
+def replayed(name, data):
+    sorter = Sorter(1228, 0)
+    outcome = [sorter.feed(kind, sender, payload) for _, kind, sender, payload in reading(data, False)[0]]
+    epochs = [t for t in outcome if t.startswith(" epoch")]
+    yield name + "".join(epochs)
+    yield "%s 0 %d %d" % (name, *(sum(t.startswith(" epoch %d " % s) for t in epochs) for s in (1228, 0)))
+
+
+def collated():
+    rosters = (), (7,), (0, 65535), range(1, 9), range(1, 10), (5, 6, 5), (1, 1, 3, 4, 5, 6, 7, 8, 9)
+    yield "rosters" + "".join(" %d" % made(roster) for roster in rosters)
+    three = 1228, 0, 65535
+    yield fed("halves", Sorter(*three), (0, 1, 2, 0x00, 0), (0, 1, 2, 0x11, 0), (0, 1, 2, 0x10, 3), (0, 1, 2, 0x02, 0), (0, 1, 2, 0x10, 15), (65535, 9, 8, 0x10, 0))
+    c, zeros = Sorter(*three), obs(1, 2, 0, 1)
+    yield (fed("refusals", c, (0, 5, 6, 0x20, 1)) + c.feed(0x004A, 9, zeros[:8]) + c.feed(OBS, 9, zeros[:8]) + c.feed(OBS, 9, zeros[:7])
+           + c.feed(OBS, 0, zeros[:7]) + fed("", c, (0, 5, 6, 0x12, 1), (1228, 5, 6, 0x21, 1), (0, 5, 6, 0x21, 2)))
+    c = Sorter(*three)
+    yield fed("repeated", c, (0, 5, 6, 0x30, 1), (0, 5, 6, 0x31, 1), (0, 5, 6, 0x31, 1), (0, 5, 6, 0x32, 1))
+    yield fed("begun-again", c, (0, 5, 6, 0x30, 1), (0, 5, 6, 0x31, 1), (0, 5, 6, 0x30, 4), (0, 5, 6, 0x31, 5), (0, 5, 6, 0x32, 6), (0, 5, 6, 0x32, 6))
+    yield fed("other-week", c, (0, 5, 6, 0x20, 1), (0, 5, 7, 0x21, 1), (0, 5, 6, 0x21, 1))
+    yield fed("other-time-and-size", c, (0, 5, 6, 0x20, 1), (0, 4, 6, 0x21, 1), (0, 5, 6, 0x20, 1), (0, 5, 6, 0x31, 1))
+    yield fed("two-senders-one-time", c, (0, 5, 6, 0x20, 1), (1228, 5, 6, 0x20, 10), (0, 5, 6, 0x21, 2), (1228, 5, 6, 0x21, 5))
+    for n in range(1, 16):
+        yield fed("packets %d" % n, c, *((65535, 100, 1900, 16 * n + i, 15) for i in range(n)))
+    each_once = [(sender, 5, 6, n_obs, count) for n_obs in (0x20, 0x21) for sender, count in zip((65535, 6, 5, 4, 3, 2, 1, 0, 7), (7, 6, 5, 4, 3, 2, 1, 0, 8))]
+    yield fed("eight-senders", Sorter(0, 1, 2, 3, 4, 5, 6, 65535), *each_once)
+    c, outcome = Sorter(*three), ""
+    for tow in range(400):
+        packets = (1228, 0x30, 12), (0, 0x20, 9), (77, 0x21, 9), (1228, 0x31, 12), (0, 0x00, 1), (0, 0x21, 4), (1228, 0x32, 1)
+        outcome += fed("", c, *((sender, tow, 1900, n_obs, count) for sender, n_obs, count in packets))
+    yield "ticket %d %d" % (outcome.count(" epoch 1228 "), outcome.count(" epoch 0 "))
+    base = (1228, 10, 1900, 0x20, 1), (1228, 10, 1900, 0x21, 2), (1228, 20, 1900, 0x10, 3)
+    rover = (0, 10, 1900, 0x20, 2), (0, 10, 1900, 0x21, 1), (0, 20, 1900, 0x20, 1)
+    stranger = 77, 10, 1900, 0x21, 1
+    in_a_row = lambda *packets: b"".join(frame(OBS, sender, obs(*packet)) for sender, *packet in packets)
+    yield from replayed("ordered", in_a_row(*base, *rover))
+    yield from replayed("shuffled", bytes(3) + in_a_row(rover[0], base[0], stranger, base[1]) + bytes(5) + in_a_row(*rover[1:], base[2]))
+
+
+def lines():
+    for part in checksums, numbers, doubles, captures, written, each, flags, observations, walks, types, collated:
+        yield from part()
+
+
+if __name__ == "__main__":
+    for line in lines():
+        print(line)

@@ -1,0 +1,136 @@
+"""A twin in Python, by the words of documents 01 and 003 and with Python's own codecs: frames, payload answers, flags, epochs, the listing.
+
+It has none of our code and looks at none.
+"""
+import binascii
+import struct
+
+OBS = 0x0049
+
+# name: type, struct format (d: a double), and the last fix mode that flags may have
+MESSAGES = {
+    "gps-time": (0x0100, "HIiB", None), "dops": (0x0206, "IHHHHH", None), "pos-ecef": (0x0200, "IdddHBB", 2), "pos-llh": (0x0201, "IdddHHBB", 2),
+    "baseline-ecef": (0x0202, "IiiiHBB", 1), "vel-ecef": (0x0204, "IiiiHBB", None), "baseline-ned": (0x0203, "IiiiHHBB", 1),
+    "vel-ned": (0x0205, "IiiiHHBB", None), "baseline-heading": (0x0207, "IIBB", 1), "base-pos-llh": (0x0044, "ddd", None),
+    "base-pos-ecef": (0x0048, "ddd", None), "read-by-index-req": (0x00A2, "H", None),
+    "startup": (0xFF00, "I", None), "heartbeat": (0xFFFF, "I", None), "settings-save": (0x00A1, "", None), "read-by-index-done": (0x00A6, "", None)}
+NAMES = {kind: name for name, (kind, _, _) in MESSAGES.items()}
+
+# 003's tables of fix modes, flags[0:2]: 6.2.4, 6.2.8, and 6.2.13 (6.2.17 and 6.2.23 are the same)
+FIX_MODES = {
+    "pos-ecef": {0: "single", 1: "float", 2: "fixed"},
+    "pos-llh": {0: "single", 1: "fixed", 2: "float"},
+    "baseline": {0: "float", 1: "fixed"}}
+
+# 003's tables of single flags: the bit that each is about
+FLAGS = {
+    "raim available": 3,  # 6.2.5, 6.2.14, 6.2.18, 6.2.24
+    "raim repair": 4,  # 6.2.6, 6.2.15, 6.2.19, 6.2.25
+    "pos-llh height above mean sea level": 3,  # 6.2.9
+    "pos-llh raim available": 4,  # 6.2.10
+    "pos-llh raim repair": 5}  # 6.2.11
+HEARTBEAT_FLAGS = {
+    "system error": 0,  # 6.5.3
+    "io error": 1,  # 6.5.4
+    "swiftnap error": 2,  # 6.5.5
+    "external antenna": 31}  # 6.5.6
+
+
+def frame(kind, sender, payload):
+    body = struct.pack("<HHB", kind, sender, len(payload)) + payload
+    return b"\x55" + body + struct.pack("<H", binascii.crc_hqx(body, 0))
+
+
+def reading(data, opened):
+    """Document 01's five lines: the frames, the four counts, and how many bytes an open reading asks for (None: it ended)."""
+    p, found, counts = 0, [], dict(framed=0, junk=0, bad=0, short=0)
+    while p < len(data):
+        left = len(data) - p
+        need = 6 if left < 6 else data[p + 5] + 8
+        if data[p] != 0x55:
+            kind, step = "junk", 1
+        elif left < need:
+            if opened:
+                return found, counts, need
+            kind, step = "short", 1
+        elif binascii.crc_hqx(data[p + 1:p + need - 2], 0) != struct.unpack("<H", data[p + need - 2:p + need])[0]:
+            kind, step = "bad", 1
+        else:
+            found.append((p, *struct.unpack("<HH", data[p + 1:p + 5]), data[p + 6:p + need - 2]))
+            kind, step = "framed", need
+        counts[kind] += step
+        p += step
+    return found, counts, None
+
+
+def row(counts):
+    return "%(framed)d %(junk)d %(bad)d %(short)d" % counts
+
+
+def is_obs(size):
+    return size in range(7, 248, 16)
+
+
+def answer(kind, payload):
+    """0, 21, 22 or 23."""
+    if kind == OBS:
+        return 0 if is_obs(len(payload)) else 22
+    if kind == 0x0401:
+        return 0 if 1 <= len(payload) <= 255 else 22
+    if kind not in NAMES:
+        return 21
+    _, layout, last = MESSAGES[NAMES[kind]]
+    if len(payload) != struct.calcsize("<" + layout):
+        return 22
+    if NAMES[kind] == "gps-time" and not -500000 <= struct.unpack("<" + layout, payload)[2] <= 500000:
+        return 23
+    return 23 if last is not None and payload[-1] % 8 > last else 0
+
+
+def obs(tow, wn, n_obs, count):
+    return struct.pack("<IHB", tow, wn, n_obs) + bytes(16 * count)
+
+
+def made(roster):
+    return 41 if not 1 <= len(roster) <= 8 else 42 if len(set(roster)) < len(roster) else 0
+
+
+class Sorter:
+    """Document 01's epochs by their meaning: the well-formed frames of each listed sender, and whether the last n of them are one."""
+
+    def __init__(self, *roster):
+        self.own = {sender: [] for sender in roster}
+
+    def feed(self, kind, sender, payload):
+        if kind != OBS:
+            return " refused 46"
+        if not is_obs(len(payload)):
+            return " refused 22"
+        if sender not in self.own:
+            return " refused 43"
+        tow, wn, n_obs = struct.unpack_from("<IHB", payload)
+        n, i = divmod(n_obs, 16)
+        if not i < n:
+            return " refused %d" % (45 if n else 44)
+        own = self.own[sender]
+        own.append((tow, wn, n, i, (len(payload) - 7) // 16))
+        run = own[-n:]
+        if [packet[:4] for packet in run] != [(tow, wn, n, k) for k in range(n)]:
+            return " taken"
+        return " epoch %d %d %d %d %d" % (sender, wn, tow, n, sum(packet[4] for packet in run))
+
+
+def listing(data):
+    """What sbplist prints."""
+    if len(data) > 65536:
+        return "R 11\n"
+    found, counts, _ = reading(data, False)
+    senders = list(dict.fromkeys(sender for _, kind, sender, _ in found if kind == OBS))
+    sorter, lines = Sorter(*senders[:8]), []
+    for at, kind, sender, payload in found:
+        lines.append("F %d %d %d %d %d" % (at, kind, sender, len(payload), answer(kind, payload)))
+        outcome = sorter.feed(kind, sender, payload)
+        if outcome.startswith(" epoch"):
+            lines.append("E" + outcome[len(" epoch"):])
+    lines.append("T %d %s" % (len(data), row(counts)))
+    return "\n".join(lines) + "\n"
