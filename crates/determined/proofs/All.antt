@@ -39,6 +39,12 @@ module _ {M : Type 1} (𝓤 : URA M) (H : Heap 𝓤) (A : Atoms 𝓤) (mem : Mem
   pub payloads : public.Payloads 𝓤 H A mem run
   payloads = search determinations
 
+  pub packets : public.Packets 𝓤 H A mem run
+  packets = search determinations
+
+  pub runs : public.Runs 𝓤 H A mem run
+  runs = search determinations
+
   pub epochs : public.Epochs 𝓤 H A mem run
   epochs = search determinations
 
