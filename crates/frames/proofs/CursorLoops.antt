@@ -7,11 +7,11 @@ use Prim.Native.Nat.{ℕ, _^_, _<_}
 use native.Mathlib.Omega.{arith}
 use lib.ListN.{length}
 use Rattle.frames.specs.Reading.{closedSteps, framesOf, countsOf}
-use Rattle.frames.specs.Cursors.{begun, countsIn, nextOf, remaining}
+use Rattle.frames.specs.Cursors.{begun, countsIn, nextOf, remaining, Honest}
 use Rattle.frames.specs.declared.step.Frame.{Frame}
 use Rattle.frames.specs.declared.cursor.Cursor.{Cursor}
 use Rattle.frames.specs.declared.cursor.Next as Next
-use Rattle.frames.proofs.GoingOn.{Honest, honest-begun}
+use Rattle.frames.proofs.GoingOn.{honest-begun}
 use Rattle.frames.proofs.NextAnswers.{said, honest-end}
 
 -- the frames that a cursor of a closed reading has left

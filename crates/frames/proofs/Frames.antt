@@ -17,8 +17,8 @@ use Rattle.frames.specs.Frame.{covered, frameBytes}
 use Rattle.frames.specs.Step.{stepAt, payloadIn}
 use Rattle.frames.specs.declared.step.Frame.{Frame}
 use Rattle.frames.specs.declared.step.Step.the-variants.{Found}
-use Rattle.frames.proofs.Steps.{decided}
 use Rattle.frames.specs.Decides.{found, frame, sent, sum, size, left, Decides}
+use Rattle.frames.proofs.Steps.{decided}
 
 take-cut : (n : ℕ) (t : List ℕ) → take (min n (length t)) t ≡ take n t
 take-cut zero t = rw zero-min

@@ -9,7 +9,7 @@ use native.Mathlib.Omega.{arith}
 use lib.ListN.{length}
 use Rattle.frames.specs.Step.{stepAt, passed, ends}
 use Rattle.frames.specs.Reading.{Positioned, stops, steps, counted, countsOf, sumOf, added}
-use Rattle.frames.specs.Cursors.{begun, countsIn, plus, over, passes, ended, answer, nextOf}
+use Rattle.frames.specs.Cursors.{begun, countsIn, plus, over, passes, ended, answer, nextOf, Honest}
 use Rattle.frames.specs.declared.step.Step.{Step}
 use Rattle.frames.specs.declared.step.Step.the-variants.{Finished, Junk, Short, Bad, Found}
 use Rattle.frames.specs.declared.cursor.Counts.{Counts}
@@ -26,13 +26,6 @@ here s c = stepAt s (c .at)
 pub data Answered (opened : Bool) (s : List ℕ) : Cursor → Next.Next → Type 0 where
   pass : {c : Cursor} {n : Next.Next} → passes opened (here s c) ≡ true → Answered opened s (over c (here s c)) n → Answered opened s c n
   end : {c : Cursor} → passes opened (here s c) ≡ false → Answered opened s c (ended c (here s c))
-
--- a cursor that stands in the capture; its counts are those of the bytes behind it, and with those of the steps left they make the reading's
-pub record Honest (opened : Bool) (s : List ℕ) (c : Cursor) : Type 0 where
-  pub mode : c .opened ≡ opened
-  pub inside : c .at ≤ length s
-  pub every : sumOf (countsIn c) ≡ c .at
-  pub whole : added (countsIn c) (countsOf (steps opened s (c .at))) ≡ countsOf (steps opened s 0)
 
 -- ---- past a step
 

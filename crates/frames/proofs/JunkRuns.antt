@@ -10,14 +10,14 @@ use lib.ListN.{length, getD, drop, length-drop}
 use lib.Seq.{drop-drop, drop-cons, getD-drop}
 use borrow.Author.Tests.{ne-eqb, eqb-true, eqb-false, le-leb, lt-leb, leb-true, leb-false}
 use Rattle.frames.specs.Reading.{stops}
-use Rattle.frames.specs.Cursors.{plus, over, passes, nextOf}
+use Rattle.frames.specs.Cursors.{plus, over, passes, nextOf, Honest}
 use Rattle.frames.specs.Junk.{junkRun, overJunk, pastJunk}
 use Rattle.frames.specs.declared.step.Step.{Step}
 use Rattle.frames.specs.declared.step.Step.the-variants.{Junk}
 use Rattle.frames.specs.declared.cursor.Cursor.{Cursor}
-use Rattle.frames.proofs.Steps.{only}
 use Rattle.frames.specs.Decides.{junk}
-use Rattle.frames.proofs.GoingOn.{here, Honest, next-over, honest-over}
+use Rattle.frames.proofs.Steps.{only}
+use Rattle.frames.proofs.GoingOn.{here, next-over, honest-over}
 
 -- ---- how long a run is
 

@@ -9,7 +9,7 @@ use lib.ListN.{length}
 use borrow.Author.Tests.{not-false}
 use Rattle.frames.specs.Step.{ends}
 use Rattle.frames.specs.Reading.{stops, steps, framesIn, framesOf, countsOf}
-use Rattle.frames.specs.Cursors.{countsIn, over, passes, ended, nextOf, after, remaining, Says, Led, start, more}
+use Rattle.frames.specs.Cursors.{countsIn, over, passes, ended, nextOf, after, remaining, Says, Led, start, more, Honest}
 use Rattle.frames.specs.declared.step.Step.{Step}
 use Rattle.frames.specs.declared.step.Step.the-variants.{Finished, Junk, Short, Bad, Found}
 use Rattle.frames.specs.declared.step.Frame.{Frame}
@@ -17,7 +17,7 @@ use Rattle.frames.specs.declared.cursor.Cursor.{Cursor}
 use Rattle.frames.specs.declared.cursor.Next as Next
 use Rattle.frames.proofs.Steps.{at-end, past-end}
 use Rattle.frames.proofs.Readings.{steps-stop, steps-go}
-use Rattle.frames.proofs.GoingOn.{here, Answered, pass, end, Honest, passed-on, over-ends, over-further, answered, honest-begun, honest-over, honest-counts}
+use Rattle.frames.proofs.GoingOn.{here, Answered, pass, end, passed-on, over-ends, over-further, answered, honest-begun, honest-over, honest-counts}
 
 passed-no-frame : (opened : Bool) (x : Step) (fs : List Frame) → passes opened x ≡ true → framesIn x fs ≡ fs
 passed-no-frame opened Finished fs e = refl

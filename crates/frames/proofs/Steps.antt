@@ -44,9 +44,9 @@ module _ (s : List ℕ) (p : ℕ) where
   abbrev marked : Step
   marked = cond (not (eqb (getD s p 0) 0x55)) Junk (cond (ltb (left s p) 6) (Short 6) sized)
 
-  in-place : stepAt s p ≡ cond (eqb (left s p) 0) Finished marked
+  from-start : stepAt s p ≡ cond (eqb (left s p) 0) Finished marked
   unfolding stepOf
-  in-place = simp (length-drop, number-from, number-one, getD-drop, drop-drop, add-zero, ← add-assoc)
+  from-start = simp (length-drop, number-from, number-one, getD-drop, drop-drop, add-zero, ← add-assoc)
 
   -- the bytes that the CRC covers, as `step_by` lends them: from first to end
   abbrev part : List ℕ
@@ -60,7 +60,7 @@ module _ (s : List ℕ) (p : ℕ) where
       ∙ ap (λ (n : ℕ). crcFrom 0 (take n (drop (p + 1) s))) n
 
   left-over : p < length s → stepAt s p ≡ marked
-  left-over h = in-place ∙ rw (ne-eqb (left s p) 0 (omega arith))
+  left-over h = from-start ∙ rw (ne-eqb (left s p) 0 (omega arith))
 
   headed : getD s p 0 ≡ 0x55 → 6 ≤ left s p → stepAt s p ≡ sized
   headed b h = left-over (omega arith) ∙ rw (eq-eqb (getD s p 0) 0x55 b, le-ltb (left s p) 6 h)
@@ -70,7 +70,7 @@ module _ (s : List ℕ) (p : ℕ) where
 
   -- what a line decides is the step
   pub only : {x : Step} → Decides s p x → x ≡ stepAt s p
-  only (finished e) = sym (in-place ∙ rw (eq-eqb (left s p) 0 (omega arith)))
+  only (finished e) = sym (from-start ∙ rw (eq-eqb (left s p) 0 (omega arith)))
   only (junk h b) = sym (left-over h ∙ rw (ne-eqb (getD s p 0) 0x55 b))
   only (headless h b l) = sym (left-over h ∙ rw (eq-eqb (getD s p 0) 0x55 b, lt-ltb (left s p) 6 l))
   only (cut b h l) = sym (headed b h ∙ rw (lt-ltb (left s p) (size s p + 8) l))

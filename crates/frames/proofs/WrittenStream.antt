@@ -54,9 +54,9 @@ payloads-from : (before : List ℕ) (ms : List Content) → map (payloadIn (befo
 unfolding stream foundFrom framesOf
 payloads-from before [] = refl
 payloads-from before (m ∷ ms) =
-    let place : length before + (length (m .payload) + 8) ≡ length (before ++ frameOf m) = rw (length-append, length-frame) in
+    let next : length before + (length (m .payload) + 8) ≡ length (before ++ frameOf m) = rw (length-append, length-frame) in
     ap₂ (λ (x : List ℕ) (xs : List (List ℕ)). x ∷ xs) (payload-back-at (m .kind) (m .sender) (m .payload) (stream ms) before)
-    (ap₂ (λ (s : List ℕ) (q : ℕ). map (payloadIn s) (framesOf (foundFrom q ms))) (sym (append-assoc before (frameOf m) (stream ms))) place ∙ payloads-from (before ++ frameOf m) ms)
+    (ap₂ (λ (s : List ℕ) (q : ℕ). map (payloadIn s) (framesOf (foundFrom q ms))) (sym (append-assoc before (frameOf m) (stream ms))) next ∙ payloads-from (before ++ frameOf m) ms)
 
 pub stream-payloads : (ms : List Content) → AllSendable ms → map (payloadIn (stream ms)) (framesOf (closedSteps (stream ms))) ≡ map (λ (m : Content). m .payload) ms
 stream-payloads ms h = ap (λ (xs : List Positioned). map (payloadIn (stream ms)) (framesOf xs)) (closed-stream ms h) ∙ payloads-from [] ms

@@ -1,11 +1,11 @@
 -- What a cursor answers, and what that tells of the whole reading. Assumes nothing.
-use Prim.Native.Nat.{ℕ, _+_, _%_, _^_}
+use Prim.Native.Nat.{ℕ, _+_, _%_, _^_, _≤_}
 use mathlib.Core.Path.{_≡_}
 use mathlib.Core.Bool.{Bool, true, false, not, cond}
 use mathlib.Core.List.{List, [], _∷_, _++_}
 use lib.ListN.{length}
 use Rattle.frames.specs.Step.{stepAt, passed}
-use Rattle.frames.specs.Reading.{Positioned, readFrom, steps, framesOf, counted}
+use Rattle.frames.specs.Reading.{Positioned, readFrom, steps, framesOf, counted, countsOf, added, sumOf}
 use Rattle.frames.specs.declared.step.Frame.{Frame}
 use Rattle.frames.specs.declared.step.Step.{Step}
 use Rattle.frames.specs.declared.step.Step.the-variants.{Finished, Junk, Short, Bad, Found}
@@ -74,6 +74,13 @@ abbrev pub Says : Bool → List ℕ → List Frame → Next.Next → Type 0
 Says opened s fs (Next.the-variants.Frame f c) = fs ≡ f ∷ remaining opened s c
 Says opened s fs (Next.the-variants.End c) = (fs ≡ []) × (c .at ≡ length s)
 Says opened s fs (Next.the-variants.Needs n c) = (fs ≡ []) × (stepAt s (c .at) ≡ Short n) × (opened ≡ true)
+
+-- a cursor that stands in the capture; its counts are those of the bytes behind it, and with those of the steps left they make the reading's
+pub record Honest (opened : Bool) (s : List ℕ) (c : Cursor) : Type 0 where
+  pub mode : c .opened ≡ opened
+  pub inside : c .at ≤ length s
+  pub every : sumOf (countsIn c) ≡ c .at
+  pub whole : added (countsIn c) (countsOf (steps opened s (c .at))) ≡ countsOf (steps opened s 0)
 
 -- calls of next from the start on have handed out the frames fs, and led to the cursor c
 pub data Led (opened : Bool) (s : List ℕ) : List Frame → Cursor → Type 0 where

@@ -48,7 +48,7 @@ openSteps s = steps true s 0
 abbrev pub positioned : List ℕ → ℕ → Positioned
 positioned s p = record { at = p; step = stepAt s p }
 
--- steps that follow one another from p to e: each is the capture's own at its place, and the next begins where it ends
+-- steps that follow one another from p to e: each is the capture's own at its position, and the next begins where it ends
 pub data Tiled (s : List ℕ) : ℕ → ℕ → List Positioned → Type 0 where
   done : {p : ℕ} → Tiled s p p []
   then : {p e : ℕ} {xs : List Positioned} → p < e → Tiled s (ends s p) e xs → Tiled s p e (positioned s p ∷ xs)

@@ -18,7 +18,7 @@ pub struct Counts {
     pub short: usize,
 }
 
-// A place in a reading, open or closed, with the counts so far.
+// A position in a reading, open or closed, with the counts so far.
 pub struct Cursor {
     pub at: usize,
     pub opened: bool,
@@ -28,7 +28,7 @@ pub struct Cursor {
     pub short: usize,
 }
 
-// What comes next: a frame, the end of the capture, or (open) a place from which so many bytes are needed.
+// What comes next: a frame, the end of the capture, or (open) a position from which so many bytes are needed.
 pub enum Next {
     Frame(Frame, Cursor),
     End(Cursor),

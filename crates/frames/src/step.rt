@@ -4,7 +4,7 @@ ghost use Prim.Native.Nat.{_+_, min};
 ghost use Rattle.crc.specs.Table.{Rule};
 ghost use Rattle.frames.specs.Step.{stepAt, payloadIn};
 
-// A frame that was found: its place, type, sender and payload length. Its payload starts at + 6.
+// A frame that was found: its position, type, sender and payload length. Its payload starts at + 6.
 pub struct Frame {
     pub at: usize,
     pub kind: u16,

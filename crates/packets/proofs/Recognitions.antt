@@ -10,10 +10,9 @@ use Rattle.wire.specs.Number.{Bytes}
 use Rattle.wire.specs.Refusals.{refused, given, Answer}
 use Rattle.wire.proofs.Numbers.{number-lt}
 use Rattle.wire.proofs.Ordered.{exactly-all}
-use Rattle.observation.specs.Edition.{isObs}
-use Rattle.observation.specs.Layout.{first, fitting}
+use Rattle.observation.specs.Edition.{fitting, first, isObs}
 use Rattle.observation.specs.Obs.{obsIn, readObs}
-use Rattle.observation.proofs.Layouts.{whole}
+use Rattle.observation.proofs.Editions.{whole}
 use Rattle.packets.specs.Packet.{packetOf, packetIn, shape, numbering, readPacket, numbered, recognised, Formed}
 use Rattle.packets.specs.declared.packet.Packet.{Packet}
 use Rattle.packets.proofs.Joined.{mapped, ordered-mapped, andThen, ordered-joined}

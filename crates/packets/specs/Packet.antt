@@ -6,8 +6,7 @@ use mathlib.Core.List.{List, [], _∷_, _++_}
 use lib.Dec.{eqb, ltb}
 use lib.ListN.{length}
 use Rattle.wire.specs.Refusals.{refused, given, Answer, Tests, ordered}
-use Rattle.observation.specs.Edition.{isObs}
-use Rattle.observation.specs.Layout.{first, fitting}
+use Rattle.observation.specs.Edition.{fitting, first, isObs}
 use Rattle.observation.specs.Obs.{obsIn}
 use Rattle.observation.specs.declared.obs.Obs.{Obs}
 use Rattle.packets.specs.declared.packet.Key.{Key}

@@ -1,11 +1,11 @@
--- Answers told apart, and answers behind a test. Assumes nothing.
+-- Answers that differ, and answers behind a test. Assumes nothing.
 use mathlib.Core.Path.{_≡_}
 use mathlib.Core.Bool.{Bool, true, false, cond}
 use Prim.Native.Nat.{ℕ}
 use native.Mathlib.Omega.{arith}
 use Rattle.wire.specs.Refusals.{refused, given, Answer}
 
--- ---- told apart
+-- ---- that differ
 
 pub same-given : {A : Type 0} {o : Answer A} {x y : A} → o ≡ given x → o ≡ given y → x ≡ y
 same-given p q = cc

@@ -21,23 +21,23 @@ use Rattle.wire.proofs.Doubles.{bits-doubleOf, doubleBits-lt}
 
 -- ---- one value
 
-places : (w : Width) → 2 ^ bits w ≡ 256 ^ (bits w / 8)
-places w8 = refl
-places w16 = refl
-places w32 = refl
-places w64 = refl
-places w128 = refl
+digits : (w : Width) → 2 ^ bits w ≡ 256 ^ (bits w / 8)
+digits w8 = refl
+digits w16 = refl
+digits w32 = refl
+digits w64 = refl
+digits w128 = refl
 
 -- a value's bits fit its bytes
 bits-lt : (k : Format) (v : Value k) → Held k v → bitsOf k v < 256 ^ width k
-bits-lt (unsigned w) n h = rw (← places w) (h .fits)
-bits-lt (signed w) z h = rw (← places w) (ofZ-fits w z h .fits)
+bits-lt (unsigned w) n h = rw (← digits w) (h .fits)
+bits-lt (signed w) z h = rw (← digits w) (ofZ-fits w z h .fits)
 bits-lt double d h = doubleBits-lt d (h .0) (h .1)
 
 -- bits that are read come back
 bits-value : (k : Format) (n : ℕ) → n < 256 ^ width k → bitsOf k (valueOf k n) ≡ n
 bits-value (unsigned w) n h = refl
-bits-value (signed w) n h = ofZ-toZ w n (record { fits = rw places h })
+bits-value (signed w) n h = ofZ-toZ w n (record { fits = rw digits h })
 bits-value double n h = bits-doubleOf n h
 
 -- whole numbers are settled, unsigned ones by computation, and so is whatever is read

@@ -24,15 +24,15 @@ bytes-take (suc n) (b ∷ s) h (suc i) = bytes-take n s (λ j. h (suc j)) i
 pub bytes-drop : (n : ℕ) (s : List ℕ) → Bytes s → Bytes (drop n s)
 bytes-drop n s h i = rw getD-drop (h (n + i))
 
-places-pos : (w : ℕ) → 0 < 256 ^ w
-places-pos zero = lit< tt
-places-pos (suc w) = let before : 0 < 256 ^ w = places-pos w in rw pow-succ' (omega arith)
+digits-pos : (w : ℕ) → 0 < 256 ^ w
+digits-pos zero = lit< tt
+digits-pos (suc w) = let before : 0 < 256 ^ w = digits-pos w in rw pow-succ' (omega arith)
 
 -- ---- reading
 
--- one place more, in front of another factor
-next-place : (a r : ℕ) → 256 ^ suc a * r ≡ 256 * (256 ^ a * r)
-next-place a r = ap (λ (x : ℕ). x * r) (pow-succ' 256 a) ∙ mul-assoc 256 (256 ^ a) r
+-- one digit more, in front of another factor
+next-digit : (a r : ℕ) → 256 ^ suc a * r ≡ 256 * (256 ^ a * r)
+next-digit a r = ap (λ (x : ℕ). x * r) (pow-succ' 256 a) ∙ mul-assoc 256 (256 ^ a) r
 
 nothing-read : (w : ℕ) → little (take w []) ≡ 0
 unfolding little
@@ -46,7 +46,7 @@ little-halves (suc a) b [] =
     nothing-read (suc a + b) ∙ sym (ap (λ (x : ℕ). 0 + x) none)
 little-halves (suc a) b (x ∷ t) =
     let halves : little (take (a + b) t) ≡ little (take a t) + 256 ^ a * little (take b (drop a t)) = little-halves a b t in
-    let place : 256 ^ suc a * little (take b (drop a t)) ≡ 256 * (256 ^ a * little (take b (drop a t))) = next-place a _ in
+    let digit : 256 ^ suc a * little (take b (drop a t)) ≡ 256 * (256 ^ a * little (take b (drop a t))) = next-digit a _ in
     rw suc-add (omega arith)
 
 pub number-byte : (s : List ℕ) (at : ℕ) → at < length s → getD s at 0 ≡ numberAt 1 s at
@@ -64,7 +64,7 @@ number-past w s at h = ap (λ (t : List ℕ). little (take w t)) (drop-of-length
 pub little-lt : (w : ℕ) (t : List ℕ) → Bytes t → little (take w t) < 256 ^ w
 unfolding little
 little-lt zero t h = lit< tt
-little-lt (suc w) [] h = places-pos (suc w)
+little-lt (suc w) [] h = digits-pos (suc w)
 little-lt (suc w) (b ∷ t) h =
     let byte : b < 256 = h 0 in
     let rest : little (take w t) < 256 ^ w = little-lt w t (λ i. h (suc i)) in
@@ -85,15 +85,15 @@ bytes-halves : (a b n : ℕ) → bytesOf (a + b) n ≡ bytesOf a n ++ bytesOf b 
 unfolding bytesOf
 bytes-halves zero b n = rw (zero-add, div-one)
 bytes-halves (suc a) b n =
-    let places : n / 256 / 256 ^ a ≡ n / 256 ^ suc a = div-div-eq-div-mul n 256 (256 ^ a) ∙ ap (λ (x : ℕ). n / x) (sym (pow-succ' 256 a)) in
-    rw suc-add (ap (λ (t : List ℕ). n % 256 ∷ t) (bytes-halves a b (n / 256) ∙ ap (λ (x : ℕ). bytesOf a (n / 256) ++ bytesOf b x) places))
+    let digits : n / 256 / 256 ^ a ≡ n / 256 ^ suc a = div-div-eq-div-mul n 256 (256 ^ a) ∙ ap (λ (x : ℕ). n / x) (sym (pow-succ' 256 a)) in
+    rw suc-add (ap (λ (t : List ℕ). n % 256 ∷ t) (bytes-halves a b (n / 256) ∙ ap (λ (x : ℕ). bytesOf a (n / 256) ++ bytesOf b x) digits))
 
--- only the lowest w places of the number count
+-- only the lowest w digits of the number count
 bytes-mod : (w n : ℕ) → bytesOf w (n % 256 ^ w) ≡ bytesOf w n
 unfolding bytesOf
 bytes-mod zero n = refl
 bytes-mod (suc w) n =
-    let split : n % 256 ^ suc w ≡ (n / 256 % 256 ^ w) * 256 + n % 256 = ap (λ (x : ℕ). n % x) (pow-suc 256 w) ∙ mod-mul n (places-pos w) (lit< tt) in
+    let split : n % 256 ^ suc w ≡ (n / 256 % 256 ^ w) * 256 + n % 256 = ap (λ (x : ℕ). n % x) (pow-suc 256 w) ∙ mod-mul n (digits-pos w) (lit< tt) in
     let low : n % 256 ^ suc w % 256 ≡ n % 256 = omega arith in
     let high : n % 256 ^ suc w / 256 ≡ n / 256 % 256 ^ w = omega arith in
     ap₂ (λ (x : ℕ) (t : List ℕ). x ∷ t) low (ap (bytesOf w) high ∙ bytes-mod w (n / 256))
@@ -104,7 +104,7 @@ pub little-bytesOf : (w n : ℕ) → n < 256 ^ w → little (bytesOf w n) ≡ n
 unfolding little bytesOf
 little-bytesOf zero n h = omega arith
 little-bytesOf (suc w) n h =
-    let place : 256 ^ suc w ≡ 256 * 256 ^ w = pow-succ' 256 w in
+    let digit : 256 ^ suc w ≡ 256 * 256 ^ w = pow-succ' 256 w in
     let back : little (bytesOf w (n / 256)) ≡ n / 256 = little-bytesOf w (n / 256) (omega arith) in
     omega arith
 
@@ -127,7 +127,7 @@ pub stored-sets : (w n : ℕ) (s : List ℕ) (at : ℕ) → at + w ≤ length s 
 unfolding storedAt
 stored-sets w n s at h = rw (le-leb (at + w) (length s) h)
 
--- one byte stored, or nothing where there is no such place
+-- one byte stored, or nothing where there is no such byte
 pub set-byte : (v : ℕ) (s : List ℕ) (at : ℕ) → v < 256 → storedAt 1 v s at ≡ set s at v
 unfolding bytesOf
 set-byte v s at b = go (leb (at + 1) (length s)) refl

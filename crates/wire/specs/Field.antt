@@ -1,4 +1,4 @@
--- The description of fields: kinds of values, a list of fields, a row of their values, and both ways between a row and bytes.
+-- Fields: formats of values, runs of fields, a row of their values, and both ways between a row and bytes.
 -- Assumes nothing.
 use Prim.Native.Nat.{ℕ, _+_, _/_, _^_, _<_}
 use mathlib.Core.Path.{_≡_}
@@ -37,7 +37,7 @@ s16 = signed w16
 abbrev pub s32 : Format
 s32 = signed w32
 
--- how many bytes a kind takes
+-- how many bytes a format takes
 abbrev pub width : Format → ℕ
 width (unsigned w) = bits w / 8
 width (signed w) = bits w / 8
@@ -78,7 +78,7 @@ valueStored k v s at = storedAt (width k) (bitsOf k v) s at
 
 -- ---- a row of values
 
--- a field takes any value of its kind, or a whole number that passes a range test
+-- a field takes any value of its format, or a whole number that passes a range test
 pub data Field : Type 0 where
   any : Format → Field
   ranged : Width → (ℕ → Bool) → Field

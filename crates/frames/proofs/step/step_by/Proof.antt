@@ -6,8 +6,8 @@ use native.Mathlib.Omega.{arith}
 use borrow.Author.Needs.{needs}
 use Rattle.wire.specs.Number.{Bytes}
 use Rattle.frames.specs.declared.step.Step.the-variants.{Found}
-use Rattle.frames.proofs.Steps.{only, summed}
 use Rattle.frames.specs.Decides.{found, bad, cut, headless, junk, finished, size}
+use Rattle.frames.proofs.Steps.{only, summed}
 use Rattle.frames.proofs.step.step_by.Statement.{statement}
 use Rattle.frames.proofs.step.step_by.Tie as tie
 
