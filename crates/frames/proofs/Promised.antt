@@ -2,9 +2,9 @@
 -- trips through the frame. Assumes nothing.
 use mathlib.Core.Path.{_≡_, sym, ap, ap₂, _∙_}
 use mathlib.Core.Bool.{true, false}
-use mathlib.Core.List.{List, _++_}
+use mathlib.Core.List.{List}
 use Prim.Native.Nat.{ℕ, _+_, _≤_, _<_}
-use lib.ListN.{length, drop}
+use lib.ListN.{length}
 use borrow.Author.Tests.{leb-true}
 use Rattle.wire.specs.Number.{Bytes}
 use Rattle.wire.specs.Layout.{Body, HeldBody, SettledBody, allowedBody, fewEnough, bodyBits, bodySize, encodeBody, bodyStored, Sound}
@@ -15,7 +15,7 @@ use Rattle.wire.proofs.Ordered.{exactly-all}
 use Rattle.wire.proofs.Descriptions.{writes-back, reads-back, reads-same, exactly-22, exactly-23, read-settled}
 use Rattle.frames.specs.Frame.{frameBytes}
 use Rattle.frames.specs.Step.{stepAt, payloadIn}
-use Rattle.frames.specs.Writer.{planned, sealed, withFrame}
+use Rattle.frames.specs.Writer.{planned, startingWith, sealed, withFrame}
 use Rattle.frames.specs.Faithful.{writing, writeAnswer, writtenAs, frameWritten, Faithful}
 use Rattle.frames.specs.declared.step.Step.the-variants.{Found}
 use Rattle.frames.proofs.Written.{writes-body}
@@ -55,9 +55,8 @@ module _ {R : Type 0} (d : Description R) (sender : ℕ) (r : R) (buf : List ℕ
     pub as-framed : writtenAs d sender r buf ≡ withFrame (d .kind) sender (encodeBody (d .layout) v) buf
     unfolding writtenAs withFrame
     as-framed =
-        let bs = encodeBody (d .layout) v in
-        ap (λ (a : Answer ℕ). leaves a (frameBytes (d .kind) sender bs ++ drop (bodySize (d .layout) v + 8) buf) buf) as-planned
-        ∙ ap (λ (n : ℕ). leaves (planned n (length buf)) (frameBytes (d .kind) sender bs ++ drop (n + 8) buf) buf) (sym (length-encode-body (d .layout) v))
+        ap (λ (a : Answer ℕ). leaves (startingWith (frameBytes (d .kind) sender (encodeBody (d .layout) v))) a buf)
+        (as-planned ∙ ap (λ (n : ℕ). planned n (length buf)) (sym (length-encode-body (d .layout) v)))
 
     module _ {a : Answer ℕ} (plan : a ≡ planned (bodySize (d .layout) v) (length buf)) where
       -- the frame has no room

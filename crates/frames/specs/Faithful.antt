@@ -3,16 +3,16 @@
 use Prim.Native.Nat.{ℕ, _+_, _<_}
 use mathlib.Core.Path.{_≡_}
 use mathlib.Core.Bool.{false}
-use mathlib.Core.List.{List, _∷_, _++_}
+use mathlib.Core.List.{List, _∷_}
 use mathlib.Core.Logic.{_↔_}
-use lib.ListN.{length, drop}
+use lib.ListN.{length}
 use Rattle.wire.specs.Number.{Bytes}
 use Rattle.wire.specs.Layout.{HeldBody, SettledBody, allowedBody, fewEnough, bodyBits, bodySize, LengthOf, encodeBody, decodeBody}
 use Rattle.wire.specs.Description.{Description, readAs}
 use Rattle.wire.specs.Refusals.{refused, given, Answer, Tests, ordered, leaves}
 use Rattle.frames.specs.Frame.{frameBytes}
 use Rattle.frames.specs.Step.{stepAt, payloadIn}
-use Rattle.frames.specs.Writer.{writingFrame, withFrame}
+use Rattle.frames.specs.Writer.{writingFrame, startingWith, withFrame}
 use Rattle.frames.specs.declared.step.Frame.{Frame}
 use Rattle.frames.specs.declared.step.Step.the-variants.{Found}
 
@@ -26,8 +26,7 @@ writeAnswer d r room = ordered (writing d r room) (bodySize (d .layout) (d .row 
 
 -- the buffer after it: the frame and the bytes after it as they were, or all as it was
 unfoldable pub writtenAs : {R : Type 0} → Description R → ℕ → R → List ℕ → List ℕ
-writtenAs d sender r buf =
-    leaves (writeAnswer d r (length buf)) (frameBytes (d .kind) sender (encodeBody (d .layout) (d .row r)) ++ drop (bodySize (d .layout) (d .row r) + 8) buf) buf
+writtenAs d sender r buf = leaves (startingWith (frameBytes (d .kind) sender (encodeBody (d .layout) (d .row r)))) (writeAnswer d r (length buf)) buf
 
 -- the frame of a record at the start of a buffer
 abbrev pub frameWritten : {R : Type 0} → Description R → ℕ → R → Frame

@@ -31,14 +31,17 @@ writingFrame n room = (leb n 255, 31) ∷ (leb (n + 8) room, 32) ∷ []
 unfoldable pub planned : ℕ → ℕ → Answer ℕ
 planned n room = ordered (writingFrame n room) (n + 8)
 
+-- a buffer whose first n bytes are replaced
+abbrev pub startingWith : List ℕ → ℕ → List ℕ → List ℕ
+startingWith bs n buf = bs ++ drop n buf
+
 -- the buffer with a frame at its start, the bytes after untouched; as it was where the frame is refused
 unfoldable pub withFrame : ℕ → ℕ → List ℕ → List ℕ → List ℕ
-withFrame kind sender payload buf =
-    leaves (planned (length payload) (length buf)) (frameBytes kind sender payload ++ drop (length payload + 8) buf) buf
+withFrame kind sender payload buf = leaves (startingWith (frameBytes kind sender payload)) (planned (length payload) (length buf)) buf
 
 -- the same, of the n payload bytes that stand in the buffer at 6
 unfoldable pub sealed : ℕ → ℕ → ℕ → List ℕ → List ℕ
-sealed kind sender n buf = leaves (planned n (length buf)) (frameBytes kind sender (take n (drop 6 buf)) ++ drop (n + 8) buf) buf
+sealed kind sender n buf = leaves (startingWith (frameBytes kind sender (take n (drop 6 buf)))) (planned n (length buf)) buf
 
 -- what stands before the payload: preamble, type, sender, payload length
 abbrev pub head : List Field

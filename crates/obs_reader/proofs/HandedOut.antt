@@ -7,11 +7,12 @@ use Prim.Native.Nat.{ℕ, zero, suc, _+_}
 use native.Mathlib.Nat.{zero-add, suc-add}
 use native.Mathlib.Omega.{arith}
 use lib.ListN.{length, replicate}
+use Rattle.wire.specs.Description.{inside, readAs}
 use Rattle.wire.specs.Refusals.{refused, given}
-use Rattle.observation.specs.Layout.{first, fitting, countIn}
-use Rattle.observation.specs.Edition.{isObs}
-use Rattle.observation.specs.Obs.{entryAt, readEntryOf, entriesFrom}
-use Rattle.observation.proofs.Payloads.{of-21, length-entries}
+use Rattle.observation.specs.Edition.{Observed, obs, fitting, countIn, Head, first, isObs}
+use Rattle.observation.specs.Obs.{entryAt, readEntryOf}
+use Rattle.observation.specs.declared.entry.Observation.{Observation}
+use Rattle.observation.proofs.ObsReading.{of-21, entriesFrom, length-entries, entries-in, read-whole}
 use Rattle.obs_reader.specs.Walk.{answers, standing, Walk, observationsIn, pastThem}
 use Rattle.obs_reader.proofs.OneQuestion.{stays, past-22, past-25, hands-out, before-the-last}
 
@@ -26,7 +27,7 @@ module _ (kind : ℕ) (s : List ℕ) where
 
   -- over an observation's payload of a right length: the n observations from i on, and then 25
   pub walk-from : isObs kind ≡ true → fitting first (length s) ≡ true → (n i : ℕ) → i + n ≡ countIn first (length s) → (more : ℕ)
-      → Walk (n + more) kind s i (map given (entriesFrom n i s) ++ replicate more (refused 25)) (countIn first (length s))
+      → Walk (n + more) kind s i (map given (entriesFrom first n i s) ++ replicate more (refused 25)) (countIn first (length s))
   unfolding answers standing
   walk-from is fits zero i e more =
       let rest = refused-again i (past-25 kind s i is fits (omega arith)) more in
@@ -34,11 +35,25 @@ module _ (kind : ℕ) (s : List ℕ) where
   walk-from is fits (suc n) i e more =
       let moved = before-the-last kind s i is fits (omega arith) in
       let rest = walk-from is fits n (suc i) (omega arith) more in
-      subst (λ (k : ℕ). Walk k kind s i (given (entryAt s i) ∷ map given (entriesFrom n (suc i) s) ++ replicate more (refused 25)) (countIn first (length s))) (sym (suc-add n more))
+      subst (λ (k : ℕ). Walk k kind s i (given (entryAt first s i) ∷ map given (entriesFrom first n (suc i) s) ++ replicate more (refused 25)) (countIn first (length s))) (sym (suc-add n more))
       (record {
         answered = ap₂ _∷_ (hands-out kind s i is fits (omega arith)) (ap (answers (n + more) kind s) moved ∙ rest .answered);
         stands = ap (standing (n + more) kind s) moved ∙ rest .stands;
       })
+
+  -- these observations are handed out in order, each once, and then 25
+  abbrev pub Handed : ℕ → List Observation → Type 0
+  Handed more os = Walk (length os + more) kind s 0 (map given os ++ replicate more (refused 25)) (length os)
+
+  -- over an observation's payload of a right length
+  whole : isObs kind ≡ true → fitting first (length s) ≡ true → (more : ℕ) → Handed more (inside (obs first) s .observations)
+  whole is fits more = subst (Handed more) (entries-in first s) (rw length-entries (walk-from is fits (countIn first (length s)) 0 (omega arith) more))
+
+  -- what is read whole is what is handed out
+  pub read-walk : isObs kind ≡ true → (r : Observed Head Observation) → readAs (obs first) s ≡ given r → (more : ℕ) → Handed more (r .observations)
+  read-walk is r g more =
+      let read = read-whole first s r g in
+      subst (λ (r : Observed Head Observation). Handed more (r .observations)) (read .1) (whole is (read .0) more)
 
   abbrev Whole : ℕ → Type 0
   Whole more = Walk (length (observationsIn kind s) + more) kind s 0 (map given (observationsIn kind s) ++ replicate more (pastThem kind s)) (length (observationsIn kind s))
@@ -50,7 +65,7 @@ module _ (kind : ℕ) (s : List ℕ) where
   whole-walk more = typed (isObs kind) refl
     where
       fits : (t : Bool) → isObs kind ≡ true → fitting first (length s) ≡ t → Whole more
-      fits true is e = rw (is, e, length-entries) (walk-from is e (countIn first (length s)) 0 (omega arith) more)
+      fits true is e = rw (is, e) (whole is e more)
       fits false is e = rw (is, e, zero-add) (refused-again 0 (past-22 kind s 0 is e) more)
 
       typed : (t : Bool) → isObs kind ≡ t → Whole more

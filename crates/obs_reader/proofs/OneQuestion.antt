@@ -11,12 +11,11 @@ use lib.ListN.{length}
 use borrow.Author.Tests.{ltb-true, ltb-false}
 use Rattle.wire.specs.Refusals.{refused, given, Answer}
 use Rattle.wire.proofs.Distinct.{never-both}
-use Rattle.observation.specs.Layout.{first, fitting, countIn}
-use Rattle.observation.specs.Edition.{isObs}
+use Rattle.observation.specs.Edition.{fitting, countIn, first, isObs}
 use Rattle.observation.specs.Obs.{entryAt, readEntryOf}
 use Rattle.observation.specs.declared.entry.Observation.{Observation}
-use Rattle.observation.proofs.Layouts.{whole}
-use Rattle.observation.proofs.Payloads.{entry-22, entry-25, entry-given, of-obs, of-21}
+use Rattle.observation.proofs.Editions.{whole}
+use Rattle.observation.proofs.ObsReading.{entry-22, entry-25, entry-given, of-obs, of-21}
 use Rattle.obs_reader.specs.Reader.{movedBy, atAfter}
 
 module _ (kind : ℕ) (s : List ℕ) (i : ℕ) where
@@ -35,13 +34,13 @@ module _ (kind : ℕ) (s : List ℕ) (i : ℕ) where
 
   module _ (is : isObs kind ≡ true) where
     pub past-22 : fitting first (length s) ≡ false → readEntryOf kind s i ≡ refused 22
-    past-22 e = of-obs s i kind is ∙ entry-22 s i e
+    past-22 e = of-obs s i kind is ∙ entry-22 first s i e
 
     pub past-25 : fitting first (length s) ≡ true → countIn first (length s) ≤ i → readEntryOf kind s i ≡ refused 25
-    past-25 e h = of-obs s i kind is ∙ entry-25 s i e h
+    past-25 e h = of-obs s i kind is ∙ entry-25 first s i e h
 
-    pub hands-out : fitting first (length s) ≡ true → i < countIn first (length s) → readEntryOf kind s i ≡ given (entryAt s i)
-    hands-out e h = of-obs s i kind is ∙ entry-given s i e h
+    pub hands-out : fitting first (length s) ≡ true → i < countIn first (length s) → readEntryOf kind s i ≡ given (entryAt first s i)
+    hands-out e h = of-obs s i kind is ∙ entry-given first s i e h
 
     pub before-the-last : fitting first (length s) ≡ true → i < countIn first (length s) → atAfter kind s i ≡ suc i
     before-the-last e h = moves-on (hands-out e h) ∙ add-one i

@@ -5,9 +5,9 @@ use mathlib.Core.Bool.{_&&_, cond}
 use mathlib.Core.List.{List, [], _∷_}
 use lib.ListN.{length}
 use Rattle.wire.specs.Refusals.{refused, Answer}
-use Rattle.observation.specs.Layout.{first, fitting, countIn}
-use Rattle.observation.specs.Edition.{isObs}
-use Rattle.observation.specs.Obs.{readEntryOf, entriesFrom}
+use Rattle.wire.specs.Description.{inside}
+use Rattle.observation.specs.Edition.{obs, fitting, first, isObs}
+use Rattle.observation.specs.Obs.{readEntryOf}
 use Rattle.observation.specs.declared.entry.Observation.{Observation}
 use Rattle.obs_reader.specs.Reader.{atAfter, asked}
 use Rattle.obs_reader.specs.declared.ObsReader.{ObsReader}
@@ -34,7 +34,7 @@ pub record Walk (n : ℕ) (kind : ℕ) (s : List ℕ) (i : ℕ) (handed : List (
 
 -- a payload's observations: none where its type is no observation's or its length is wrong
 unfoldable pub observationsIn : ℕ → List ℕ → List Observation
-observationsIn kind s = cond (isObs kind && fitting first (length s)) (entriesFrom (countIn first (length s)) 0 s) []
+observationsIn kind s = cond (isObs kind && fitting first (length s)) (inside (obs first) s .observations) []
 
 -- what a reader answers when it has handed them out: 25; over a payload of a wrong length 22, of another type 21
 unfoldable pub pastThem : ℕ → List ℕ → Answer Observation

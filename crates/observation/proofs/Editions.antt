@@ -52,7 +52,7 @@ module _ {H O : Type 0} (e : Edition H O) where
 
   -- ---- a header and the first k of some observations take as many bytes as observation k begins at
 
-  rows-counted : (os : List O) → length (rowsOf (e .row) os) ≡ length os
+  pub rows-counted : (os : List O) → length (rowsOf (e .row) os) ≡ length os
   rows-counted [] = refl
   rows-counted (o ∷ os) = ap suc (rows-counted os)
 

@@ -1,10 +1,10 @@
 -- OBS written, over the edition: the ways through the writer; and a header and the first k of enough observations are written as every message is.
 -- Assumes nothing.
-use mathlib.Core.Path.{_≡_, refl, sym, ap, ap₂, _∙_}
+use mathlib.Core.Path.{_≡_, refl, sym, ap, _∙_}
 use mathlib.Core.Bool.{true, false}
-use mathlib.Core.List.{List, _++_}
+use mathlib.Core.List.{List}
 use Prim.Native.Nat.{ℕ, _+_, _≤_, _<_}
-use lib.ListN.{length, take, drop}
+use lib.ListN.{length, take}
 use borrow.Author.Tests.{le-leb, lt-leb}
 use Rattle.wire.specs.Field.{Row, allowedRow, size, rowStored}
 use Rattle.wire.specs.Layout.{rowsStored, allowedBody, fewEnough, bodySize, encodeBody}
@@ -12,7 +12,7 @@ use Rattle.wire.specs.Description.{rowsOf}
 use Rattle.wire.specs.Refusals.{refused, given, Answer, leaves}
 use Rattle.wire.proofs.Layouts.{allowed-rows}
 use Rattle.frames.specs.Frame.{frameBytes}
-use Rattle.frames.specs.Writer.{planned, sealed}
+use Rattle.frames.specs.Writer.{planned, startingWith, sealed}
 use Rattle.frames.specs.Faithful.{writeAnswer, writtenAs}
 use Rattle.frames.proofs.Promised as promised
 use Rattle.observation.specs.Edition.{Edition, Observed, obs, startOf}
@@ -50,8 +50,7 @@ module _ {H O : Type 0} (e : Edition H O) (sender : ℕ) (h : H) (k : ℕ) (os :
     pub same-written : obsWritten e sender h k os buf ≡ writtenAs (obs e) sender r buf
     unfolding obsWritten writtenAs
     same-written =
-        ap₂ (λ (a : Answer ℕ) (n : ℕ). leaves a (frameBytes (e .kind) sender (encodeBody (obs e .layout) (obs e .row r)) ++ drop (n + 8) buf) buf)
-        (same-answer (length buf)) (sym (sized e h k os enough))
+        ap (λ (a : Answer ℕ). leaves (startingWith (frameBytes (e .kind) sender (encodeBody (obs e .layout) (obs e .row r)))) a buf) (same-answer (length buf))
 
     module _ (few : k ≤ e .most) {a : Answer ℕ} (plan : a ≡ planned (startOf e k) (length buf)) where
       few-enough : fewEnough (obs e .layout) (obs e .row r) ≡ true

@@ -1,12 +1,12 @@
 -- OBS written: a header and the first k of some observations, over the edition. Assumes nothing.
 use Prim.Native.Nat.{ℕ, _+_}
-use mathlib.Core.List.{List, _∷_, _++_}
+use mathlib.Core.List.{List, _∷_}
 use lib.Dec.{leb}
-use lib.ListN.{length, take, drop}
+use lib.ListN.{length, take}
 use Rattle.wire.specs.Layout.{encodeBody}
 use Rattle.wire.specs.Refusals.{Answer, Tests, ordered, leaves}
 use Rattle.frames.specs.Frame.{frameBytes}
-use Rattle.frames.specs.Writer.{writingFrame}
+use Rattle.frames.specs.Writer.{writingFrame, startingWith}
 use Rattle.observation.specs.Edition.{Edition, Observed, obs, startOf, Head}
 use Rattle.observation.specs.declared.obs.Obs.{Obs}
 
@@ -25,7 +25,7 @@ module _ {H O : Type 0} (e : Edition H O) where
   -- the buffer after it: the frame and the bytes after it as they were, or all as it was
   unfoldable pub obsWritten : ℕ → H → ℕ → List O → List ℕ → List ℕ
   obsWritten sender h k os buf =
-      leaves (obsWriteAnswer k (length buf)) (frameBytes (e .kind) sender (encodeBody (obs e .layout) (obs e .row (observed h k os))) ++ drop (startOf e k + 8) buf) buf
+      leaves (startingWith (frameBytes (e .kind) sender (encodeBody (obs e .layout) (obs e .row (observed h k os))))) (obsWriteAnswer k (length buf)) buf
 
 -- the header that the code's summary has
 abbrev pub headOf : Obs → Head

@@ -1,4 +1,5 @@
 pub mod Log
+pub mod LogFaithful
 pub mod Empty
 pub mod ReadByIndexReq
 pub mod Startup

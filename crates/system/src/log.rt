@@ -1,9 +1,9 @@
 // LOG, 0x0401: a level and a text.
 ghost use mathlib.Core.Path.{_≡_};
 ghost use lib.ListN.{length};
-ghost use lib.Seq.{sets};
-ghost use Rattle.frames.specs.Writer.{senderOf, writtenAnswer, planned, withFrame};
-ghost use Rattle.system.specs.Log.{logKind, readLog, logAnswer, textIn, logPayload};
+ghost use Rattle.wire.specs.Layout.{bodyStored};
+ghost use Rattle.frames.specs.Writer.{senderOf, writtenAnswer};
+ghost use Rattle.system.specs.Log.{log, readLog, logAnswer, textIn, logWriteAnswer, logWritten};
 use frames::Sender;
 use frames::Written;
 
@@ -43,23 +43,20 @@ pub fn log_text(s: &[u8]) -> &[u8]
     &s[1..]
 }
 
-// Stores a level and a text at buf[6..], as far as they go.
+// Stores a level and a text at buf[6..], one after the other.
 fn put_log(buf: &mut [u8], level: u8, text: &[u8])
-    ensures { λ _. ⌜ now (buf .exit) ≡ sets (now (buf .entry)) 6 (logPayload level (now (text .entry))) ⌝ }
+    ensures { λ _. ⌜ now (buf .exit) ≡ bodyStored (log .layout) (log .row (record { level = level; text = now (text .entry) })) (now (buf .entry)) 6 ⌝ }
 {
     wire::store_u8(buf, 6, level);
-    if 0 < buf.len() {
-        // one further on: place begins at 6
-        frames::place(&mut buf[1..], text);
-    }
+    wire::store_bytes(buf, 7, text);
 }
 
 // A LOG of a level and a text: 31 for a text over 254 bytes, then 32.
 pub fn write_log(buf: &mut [u8], sender: Sender, level: u8, text: &[u8]) -> Written
-    ensures { λ w. ⌜ writtenAnswer w ≡ planned (length (logPayload level (now (text .entry)))) (length (now (buf .entry))) ⌝ }
-    ensures { λ _. ⌜ now (buf .exit) ≡ withFrame logKind (senderOf sender) (logPayload level (now (text .entry))) (now (buf .entry)) ⌝ }
+    ensures { λ w. ⌜ writtenAnswer w ≡ logWriteAnswer (record { level = level; text = now (text .entry) }) (length (now (buf .entry))) ⌝ }
+    ensures { λ _. ⌜ now (buf .exit) ≡ logWritten (senderOf sender) (record { level = level; text = now (text .entry) }) (now (buf .entry)) ⌝ }
 {
-    let n = text.len() + 1;
+    let n = 1 + text.len();
     let answer = frames::plan(n, buf.len());
     if let Written::Bytes(_) = answer {
         put_log(buf, level, text);

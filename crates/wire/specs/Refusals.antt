@@ -21,10 +21,10 @@ abbrev pub ordered : {A : Type 0} → Tests → A → Answer A
 ordered [] x = given x
 ordered (t ∷ ts) x = cond (t .0) (ordered ts x) (refused (t .1))
 
--- what a call leaves of something lent: it made the new, or was refused and left it as it was
-abbrev pub leaves : {A B : Type 0} → Answer A → B → B → B
-leaves (given x) new old = new
-leaves (refused n) new old = old
+-- what a call leaves of what it is lent: a refusal leaves it as it was
+abbrev pub leaves : {A B : Type 0} → (A → B → B) → Answer A → B → B
+leaves put (given x) lent = put x lent
+leaves put (refused n) lent = lent
 
 -- n is the number of the first test that fails
 abbrev pub FirstFails : Tests → ℕ → Type 0

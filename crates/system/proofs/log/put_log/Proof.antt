@@ -1,10 +1,8 @@
--- `system::log::put_log` meets its contract.
+-- `system::log::put_log` meets its contract: one store after the other.
 use mathlib.Core.Path.{ap, _∙_}
 use mathlib.Core.List.{List}
 use Prim.Native.Nat.{ℕ}
-use lib.Seq.{sets}
-use Rattle.wire.proofs.Numbers.{sets-lent, set-byte}
-use Rattle.system.proofs.Logs.{stored-nowhere}
+use Rattle.wire.specs.Number.{bytesStored}
 use borrow.Author.Needs.{needs}
 use Rattle.system.proofs.log.put_log.Statement.{statement}
 use Rattle.system.proofs.log.put_log.Tie as tie
@@ -12,48 +10,17 @@ use Rattle.system.proofs.log.put_log.Tie as tie
 store-u8-requires : tie.Need-store-u8-requires
 store-u8-requires c κs = search needs
 
-sub-place : tie.Need-sub-place
-sub-place c = search needs
-
-part-place-start : tie.Need-part-place-start
-part-place-start c = search needs
-
-part-place-end : tie.Need-part-place-end
-part-place-end c = search needs
-
-place-requires : tie.Need-place-requires
-place-requires c κs = search needs
+store-bytes-requires : tie.Need-store-bytes-requires
+store-bytes-requires c κs = search needs
 
 same-length : tie.Need-same-length
 same-length c = search needs
 
 returns : tie.Need-returns
 returns c =
-    let k = c .before .before .before .before .before .before .before in
-    let a = k .before .before .before .before .args in
-    sets-lent 1 (k .store-u8 .last .0) 6 (a .text .now) (c .before .before .before .before .if1 .taken) (c .before .before .place .ensures)
-    ∙ ap (λ (t : List ℕ). sets t 7 (a .text .now)) (k .store-u8 .ensures ∙ set-byte (a .level) (a .buf .now) 6 (k .before .before .before .before .fits .level .fits))
-
-same-length-2 : tie.Need-same-length-2
-same-length-2 c = search needs
-
-returns-2 : tie.Need-returns-2
-returns-2 c =
-    let k = c .before .before .before in
-    let a = k .before .before .before .before .args in
-    stored-nowhere (k .store-u8 .last .0) 7 (a .text .now) (c .if1 .left)
-    ∙ ap (λ (t : List ℕ). sets t 7 (a .text .now)) (k .store-u8 .ensures ∙ set-byte (a .level) (a .buf .now) 6 (k .before .before .before .before .fits .level .fits))
+    let k = c .before .before in
+    let a = k .before .before .before .before .before .before .before .before .args in
+    k .store-bytes .ensures ∙ ap (λ (t : List ℕ). bytesStored (a .text .now) t 7) (k .before .before .before .before .store-u8 .ensures)
 
 pub put-log-spec : {M : Type 1} → statement M
-put-log-spec =
-    tie.close
-    (tie.spec
-    store-u8-requires
-    sub-place
-    part-place-start
-    part-place-end
-    place-requires
-    same-length
-    returns
-    same-length-2
-    returns-2)
+put-log-spec = tie.close (tie.spec store-u8-requires store-bytes-requires same-length returns)
