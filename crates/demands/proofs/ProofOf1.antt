@@ -1,32 +1,27 @@
 -- Demand 1 holds: each call is defined by its list, and the rest is citations. Assumes nothing.
 use mathlib.Core.Path.{refl, ap}
-use mathlib.Core.List.{List}
 use Prim.Native.Nat.{ℕ}
 use denote.Ref.{now}
-use lib.ListN.{length}
 use Rattle.wire.specs.Description.{readAs}
-use Rattle.wire.specs.Refusals.{Answer}
 use Rattle.wire.proofs.Ordered.{exactly-first, exactly-all}
-use Rattle.frames.specs.Writer.{planned}
-use Rattle.frames.specs.Faithful.{writeAnswer}
-use Rattle.frames.proofs.Written.{framed-unfit}
-use Rattle.frames.proofs.Promised.{left-alone}
+use Rattle.frames.specs.Writer.{planned, withFrame}
+use Rattle.frames.specs.Faithful.{writeAnswer, writtenAs}
 use Rattle.observation.specs.Obs.{readEntry, readEntryOf, readObs}
 use Rattle.observation.specs.ObsWriter.{obsWriteAnswer, obsWritten}
 use Rattle.observation.specs.Phase.{readPhase}
-use Rattle.system.specs.Log.{readLog}
+use Rattle.system.specs.Log.{readLog, logWriteAnswer, logWritten}
 use Rattle.obs_reader.specs.declared.ObsReader.{ObsReader}
 use Rattle.obs_reader.proofs.OneQuestion.{stays}
 use Rattle.epochs.specs.Collator.{forPlace, fedFrame, made}
 use Rattle.epochs.proofs.Feeding.{refused-keeps}
 use Rattle.epochs.proofs.Captures.{collated-refused}
 use Rattle.text.proofs.Pending.{laid-unfit}
-use Rattle.listing.specs.Listing.{listAnswer, listedAs}
+use Rattle.listing.specs.Listing.{listAnswer}
 use Rattle.demands.specs.Demand1.{RefusedByNumber, WritesNothing, MovesNoState, Demand1}
 use Rattle.demands.proofs.Nobody.{nobody-listed}
 
 refused-by-number : RefusedByNumber
-unfolding readAs planned writeAnswer readEntry readEntryOf readObs obsWriteAnswer readPhase readLog forPlace fedFrame made listAnswer
+unfolding readAs planned writeAnswer readEntry readEntryOf readObs obsWriteAnswer readPhase readLog logWriteAnswer forPlace fedFrame made listAnswer
 refused-by-number = record {
   in-order = λ A x ts. (exactly-first x ts, exactly-all x ts);
   payload = λ kind s. refl;
@@ -37,6 +32,7 @@ refused-by-number = record {
   reader-index = λ kind s i. refl;
   record-buffer = λ R d r room. refl;
   obs-buffer = λ k room. refl;
+  log-buffer = λ r room. refl;
   bytes-buffer = λ n room. refl;
   capture = λ s room. refl;
   phase = λ z. refl;
@@ -45,12 +41,13 @@ refused-by-number = record {
 }
 
 writes-nothing : WritesNothing
-unfolding obsWritten
+unfolding withFrame writtenAs obsWritten logWritten
 writes-nothing = record {
-  refused-record = λ R d sender r buf n e. left-alone d sender r buf e;
-  refused-obs = λ sender h k entries buf n e. ap (λ (a : Answer ℕ). leaves a _ buf) e;
-  refused-bytes = λ kind sender payload buf n e. framed-unfit kind sender payload buf e;
-  refused-listing = λ s buf n e. ap (λ (a : Answer ℕ). listedAs a s buf) e;
+  refused-record = λ R d sender r buf n e. rw e;
+  refused-obs = λ sender h k entries buf n e. rw e;
+  refused-log = λ sender r buf n e. rw e;
+  refused-bytes = λ kind sender payload buf n e. rw e;
+  refused-listing = λ s buf n e. rw e;
   unfit-line = laid-unfit;
 }
 
