@@ -1,18 +1,25 @@
 -- The demands hold of the functions that C and Rust link, all of it by citations. Assumes nothing.
-use mathlib.Core.Path.{sym, ap, _∙_, subst}
+use mathlib.Core.Path.{refl, sym, ap, _∙_, subst}
 use Prim.Native.Nat.{ℕ, _<_}
 use Rattle.wire.specs.Field.{Row}
 use Rattle.epochs.proofs.Searches.{seat-listed, seat-named}
 use Rattle.epochs.proofs.Making.{seated}
 use Rattle.epochs.proofs.Collations.{same-state}
-use Rattle.exports.specs.Feed.{reportFields}
+use Rattle.exports.specs.Found.{nextFrom}
+use Rattle.exports.specs.Totals.{totalsFor}
+use Rattle.exports.specs.Feed.{madeIn, reportFields, forPlaceIn}
 use Rattle.exports.proofs.LentRows.{next-left}
 use Rattle.exports.proofs.Lives.{stands, one-epoch, epoch-row}
 use Rattle.exports.proofs.Untouched.{next-keeps, totals-keeps, list-keeps, collator-keeps, feed-keeps}
-use Rattle.demands.specs.Exported.{Exported}
+use Rattle.demands.specs.Exported.{ByNumber, Exported}
+
+by-number : ByNumber
+unfolding nextFrom totalsFor madeIn forPlaceIn
+by-number = record { next = λ s at opened room. refl; totals = λ s room. refl; collator = λ roster room. refl; feed = λ state room x. refl }
 
 pub exported : Exported
 exported = record {
+  by-number = by-number;
   kept = record { next = next-keeps; totals = totals-keeps; list = list-keeps; collator = collator-keeps; feed = feed-keeps };
   frames-left = next-left;
   epochs-answered = λ roster s report xs f x byte lent enough. one-epoch roster (f .taken) (f .senders) s report (f .long) (f .room) xs (f .bytes) x byte lent enough;

@@ -7,15 +7,18 @@ use mathlib.Core.Logic.{_↔_}
 use Prim.Native.Nat.{ℕ, _^_, _≤_, _<_}
 use lib.ListN.{length}
 use Rattle.wire.specs.Number.{Bytes, numberAt}
+use Rattle.wire.specs.Refusals.{ordered}
 use Rattle.frames.specs.Frame.{Content}
-use Rattle.frames.specs.Reading.{steps, framesOf}
+use Rattle.frames.specs.Reading.{steps, closedSteps, framesOf, countsOf}
 use Rattle.frames.specs.Cursors.{nextOf, Says}
+use Rattle.epochs.specs.Collator.{ownPlace, rosterOf, fresh}
 use Rattle.epochs.specs.Epoch.{SameFrames, EndsEpoch}
 use Rattle.epochs.specs.declared.collating.Report.{Report}
 use Rattle.exports.specs.Claims.{Kept, Filled}
-use Rattle.exports.specs.Found.{startAt}
+use Rattle.exports.specs.Found.{startAt, finding, nextFrom}
+use Rattle.exports.specs.Totals.{totalling, totalsFor}
 use Rattle.exports.specs.State.{stateIn}
-use Rattle.exports.specs.Feed.{reportSize, madeStored, fedIn, afterIn}
+use Rattle.exports.specs.Feed.{making, madeIn, madeStored, reportSize, feedingIn, forPlaceIn, fedIn, afterIn}
 
 -- an epoch's numbers in a row of bytes, each where the C header has it
 pub record Shown (row : List ℕ) (e : Report) : Type 0 where
@@ -25,7 +28,16 @@ pub record Shown (row : List ℕ) (e : Report) : Type 0 where
   pub packets : numberAt 1 row 8 ≡ e .n
   pub observations : numberAt 2 row 9 ≡ e .observations
 
+-- demand 1: "refused by number". The number handed back is read off an answer by the call's own list; what that comes to is `in-order` there.
+-- `sbp_list` answers by demand 1's list for a capture, `sbp_answer` by that for a payload
+pub record ByNumber : Type 0 where
+  pub next : (s : List ℕ) (at : ℕ) (opened : Bool) (room : ℕ) → nextFrom s at opened room ≡ ordered (finding room) (nextOf s (startAt at opened))
+  pub totals : (s : List ℕ) (room : ℕ) → totalsFor s room ≡ ordered (totalling room) (countsOf (closedSteps s))
+  pub collator : (roster : List ℕ) (room : ℕ) → madeIn roster room ≡ ordered (making roster room) (fresh roster)
+  pub feed : (state : List ℕ) (room : ℕ) (x : Content) → forPlaceIn state room x ≡ ordered (feedingIn state room x) (ownPlace (rosterOf (stateIn state)) x)
+
 pub record Exported : Type 0 where
+  pub by-number : ByNumber
   -- demand 1: "and a refusal writes nothing and moves no state"
   pub kept : Kept
   -- demand 2: from a position on `sbp_next` shows the first frame left of the reading there, and where the others are left, or that there is none
