@@ -1,23 +1,18 @@
 -- Demand 3: "Senders don't mix. Read two complete captures and feed each in order to a fresh collator of one roster. If for every listed
 -- sender the two hold the same frames in the same order, then each sender gets the same epoch reports in the same order and the two end states
 -- are equal, however frames of different senders are shuffled and whatever noise or unlisted senders stand between. The epochs are those of
--- demand 2." The statement first, then its proof, all of it citations. Assumes nothing.
-use mathlib.Core.Path.{_≡_, sym, ap, _∙_}
-use mathlib.Core.Bool.{true, false, true≢false}
+-- demand 2." Assumes nothing.
+use mathlib.Core.Path.{_≡_}
+use mathlib.Core.Bool.{true, false}
 use mathlib.Core.List.{List, [], _∷_, _++_}
 use Prim.Native.Nat.{ℕ}
-use Rattle.epochs.specs.Collator.{names, made}
-use Rattle.epochs.specs.Epoch.{after, reports, reportsOf, SameFrames, contentsOf}
+use Rattle.epochs.specs.Search.{names}
+use Rattle.epochs.specs.Collator.{made}
+use Rattle.epochs.specs.Epoch.{after, reports, reportsOf, Epochs, SameFrames, contentsOf}
 use Rattle.frames.specs.Frame.{Content}
 use Rattle.epochs.specs.Capture.{collated}
 use Rattle.epochs.specs.declared.collating.Report.{Report}
-use Rattle.epochs.proofs.Collations.{same-captures}
-use Rattle.epochs.proofs.Captures.{collated-state}
 use Rattle.demands.specs.Noise.{Piece, AllFit, captureOf, sentIn}
-use Rattle.demands.specs.Reported.{Epochs}
-use Rattle.demands.proofs.Noise.{sent}
-use Rattle.demands.proofs.Reported.{only-reported}
-use Rattle.demands.proofs.Shuffled.{change-places, nobodys}
 
 -- what two captures come to, es and fs being their epochs by demand 2
 pub record Unmixed (roster a b : List ℕ) (es fs : List Report) : Type 0 where
@@ -41,24 +36,3 @@ pub record Demand3 : Type 0 where
   pub noise : (xs : List Piece) → AllFit xs → contentsOf (captureOf xs) ≡ sentIn xs
   -- "or unlisted senders stand between": a frame of an unlisted sender is nobody's
   pub unlisted : (roster : List ℕ) (xs : List Content) (x : Content) (ys : List Content) → names roster (x .sender) ≡ false → SameFrames roster (xs ++ x ∷ ys) (xs ++ ys)
-
--- ---- the proof
-
-pub demand-3 : Demand3
-unfolding after
-demand-3 = record {
-  unmixed = λ roster ok a b es fs first second same.
-      let all = same-captures roster ok a b same in
-      let told-a = only-reported roster ok first in
-      let told-b = only-reported roster ok second in
-      record {
-        first-reported = told-a;
-        second-reported = told-b;
-        same-reports = λ sender n. ap (reportsOf sender) told-a ∙ all .1 sender n ∙ sym (ap (reportsOf sender) told-b);
-        same-state = all .0;
-        same-collated = collated-state a roster ok ∙ all .0 ∙ sym (collated-state b roster ok);
-      };
-  shuffled = λ roster xs x y ys other s n. change-places s xs x y ys other;
-  noise = sent;
-  unlisted = λ roster xs x ys off s n. nobodys s xs x ys (λ e. true≢false (sym n ∙ ap (names roster) (sym e) ∙ off));
-}

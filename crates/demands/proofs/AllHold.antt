@@ -6,14 +6,16 @@ use Rattle.frames.specs.Step.{stepOf, payloadIn}
 use Rattle.frames.specs.Reading.{readFrom, countsOf}
 use Rattle.frames.specs.Cursors.{nextOf}
 use Rattle.navigation.specs.Range.{fixUpTo}
-use Rattle.observation.specs.Obs.{readObs}
+use Rattle.observation.specs.Edition.{isObs}
 use Rattle.observation.specs.Phase.{readPhase}
-use Rattle.payloads.specs.Table.{lookUp}
-use Rattle.epochs.specs.Packet.{judged}
-use Rattle.epochs.specs.Collator.{stepped, fed, repeats, made}
+use Rattle.payloads.specs.Payloads.{entryFor}
+use Rattle.packets.specs.Packet.{packetIn, shape, numbering}
+use Rattle.runs.specs.Run.{stepped}
+use Rattle.epochs.specs.Search.{repeats}
+use Rattle.epochs.specs.Collator.{forPlace, fedFrame, made}
 use Rattle.demands.specs.Examples.{AllHold, table}
 
 pub all-hold : AllHold table
-unfolding numberAt bitStep bitSteps byteStep crcFrom stepOf payloadIn readFrom countsOf nextOf fixUpTo readObs readPhase lookUp judged stepped fed repeats made
+unfolding numberAt bitStep bitSteps byteStep crcFrom stepOf payloadIn readFrom countsOf nextOf fixUpTo isObs readPhase entryFor packetIn shape numbering stepped repeats forPlace fedFrame made
 all-hold =
     (refl, (refl, ((refl, refl), (refl, ((refl, refl), ((refl, refl), (refl, ((refl, refl), (refl, (refl, (refl, (refl, (refl, (refl, (refl, ((refl, refl), ((refl, refl), tt)))))))))))))))))
