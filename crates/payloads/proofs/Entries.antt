@@ -101,8 +101,7 @@ all-promised before (m ∷ ms) after h =
     let new = both (lacks before (d .kind)) (ltb (d .kind) 65536 && (sound (d .layout) && distinct more ms)) h in
     let small = both (ltb (d .kind) 65536) (sound (d .layout) && distinct more ms) (new .1) in
     let rest = both (sound (d .layout)) (distinct more ms) (small .1) in
-    let es = map entryOf ms ++ after in
-    (
+    let es = map entryOf ms ++ after in (
       (faithful d (ltb-true (d .kind) 65536 (small .0)) (sound-layout (d .layout) (rest .0)), read-own m (before ++ (entryOf m ∷ es)) (own before (entryOf m) es (new .0))),
       subst (λ (all : List Entry). AllOf (PromisedIn all) ms) (append-assoc before (entryOf m ∷ []) es) (all-promised more ms after (rest .1)),
     )
