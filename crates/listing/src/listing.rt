@@ -6,8 +6,7 @@ ghost use lib.ListN.{length};
 ghost use lib.Seq.{sets};
 ghost use Rattle.frames.specs.Writer.{writtenAnswer};
 ghost use Rattle.text.specs.Line.{laid};
-ghost use Rattle.listing.specs.Listing.{frameShown, totalsShown, told, textOf, listAnswer, listed};
-use crate::rostering::enlisted;
+ghost use Rattle.listing.specs.Listing.{frameShown, totalsShown, epochPart, textOf, mostListed, listAnswer, withListing};
 use epochs::Collator;
 use epochs::Happened;
 use frames::Counts;
@@ -36,9 +35,9 @@ fn put_frame(buf: &mut [u8], at: usize, f: Frame, answer: u8) -> usize
 }
 
 // `E` sender wn tow n observations, where an epoch was reported
-fn put_told(buf: &mut [u8], at: usize, happened: Happened) -> usize
-    ensures { λ r. ⌜ r ≡ (at + length (told happened)) % 2 ^ 64 ⌝ }
-    ensures { λ _. ⌜ now (buf .exit) ≡ laid (now (buf .entry)) at (told happened) ⌝ }
+fn put_epoch(buf: &mut [u8], at: usize, happened: Happened) -> usize
+    ensures { λ r. ⌜ r ≡ (at + length (epochPart happened)) % 2 ^ 64 ⌝ }
+    ensures { λ _. ⌜ now (buf .exit) ≡ laid (now (buf .entry)) at (epochPart happened) ⌝ }
 {
     match happened {
         Happened::Refused(_) => at,
@@ -96,10 +95,10 @@ fn put_text(s: &[u8], buf: &mut [u8]) -> usize
             Next::Frame(frame, rest) => {
                 let payload = frames::payload(s, frame);
                 at = put_frame(buf, at, frame, payloads::answer(frame.kind, payload));
-                let seated = enlisted(collator, frame);
+                let seated = enlisting::enlist(collator, frame.kind, frame.sender);
                 let fed = seated.feed(frame.kind, frame.sender, payload);
                 let happened = fed.happened;
-                at = put_told(buf, at, happened);
+                at = put_epoch(buf, at, happened);
                 collator = fed.collator;
                 cursor = rest;
             }
@@ -115,7 +114,7 @@ fn put_text(s: &[u8], buf: &mut [u8]) -> usize
 
 // Whether the text has room. A buffer of eight bytes for each of the capture's and 32 more has it always.
 fn fits(s: &[u8], room: usize) -> bool
-    requires { ⌜ length (now s) ≤ 65536 ⌝ }
+    requires { ⌜ length (now s) ≤ mostListed ⌝ }
     ensures { λ r. ⌜ r ≡ leb (length (textOf (now (s .entry)))) room ⌝ }
 {
     if s.len() * 8 + 32 <= room {
@@ -128,7 +127,7 @@ fn fits(s: &[u8], room: usize) -> bool
 // The listing of a capture: 11 for one over 65536 bytes, then 32.
 pub fn list(s: &[u8], buf: &mut [u8]) -> Written
     ensures { λ w. ⌜ writtenAnswer w ≡ listAnswer (now (s .entry)) (length (now (buf .entry))) ⌝ }
-    ensures { λ _. ⌜ now (buf .exit) ≡ listed (now (s .entry)) (now (buf .entry)) ⌝ }
+    ensures { λ _. ⌜ now (buf .exit) ≡ withListing (now (s .entry)) (now (buf .entry)) ⌝ }
 {
     if 65536 < s.len() {
         return Written::Refused(11);

@@ -5,16 +5,18 @@ use mathlib.Core.List.{List, [], _∷_, map}
 use Prim.Native.Nat.{ℕ, _<_}
 use native.Mathlib.Omega.{arith}
 use lib.Dec.{eqb, ltb}
+use lib.ListN.{length}
 use borrow.Author.Tests.{ne-eqb, ltb-true}
 use Rattle.wire.specs.Field.{valueAt, u8, s32}
 use Rattle.wire.specs.Refusals.{refused, given, Answer, Tests, ordered}
+use Rattle.observation.specs.Edition.{fitting, first}
 use Rattle.navigation.specs.Range.{inNs, fixUpTo}
 use Rattle.payloads.specs.Payloads.{Entry, table, entryFor, testsOf, readingAny, readFor, numberOf, answerFor}
 use Rattle.payloads.specs.Checks.{document, checkIn, checkFor, tests, testsBy, numberBy, Agrees, AsInDocument}
 use Rattle.payloads.specs.declared.Message.{Message}
 use Rattle.payloads.specs.declared.check.Check.{Check}
 use Rattle.payloads.specs.declared.check.Check.the-variants.{Unknown, Length, Ns, Fix, Obs, Log}
-use Rattle.payloads.proofs.Entries.{both, Absent, no-entry}
+use Rattle.payloads.proofs.Entries.{obs-allowed, both, Absent, no-entry}
 
 -- a range that stands last in its row
 last : (fits inside : Bool) → tests fits (inside && true) ≡ tests fits inside
@@ -22,7 +24,7 @@ last fits inside = rw (and-true inside)
 
 pub agreed : AsInDocument
 agreed =
-    (refl, λ s. last _ _, (refl, λ s. refl, (refl, λ s. last _ _, (refl, λ s. last _ _, (refl, λ s. last _ _, (refl, λ s. refl, (refl, λ s. last _ _, (refl, λ s. refl, (refl, λ s. last _ _, (refl, λ s. refl, (refl, λ s. refl, (refl, λ s. refl, (refl, λ s. refl, (refl, λ s. refl, (refl, λ s. refl, (refl, λ s. refl, (refl, λ s. refl, (refl, λ s. refl, tt))))))))))))))))))
+    (refl, λ s. last _ _, (refl, λ s. refl, (refl, λ s. last _ _, (refl, λ s. last _ _, (refl, λ s. last _ _, (refl, λ s. refl, (refl, λ s. last _ _, (refl, λ s. refl, (refl, λ s. last _ _, (refl, λ s. refl, (refl, λ s. refl, (refl, λ s. refl, (refl, λ s. refl, (refl, λ s. refl, (refl, λ s. refl, (refl, λ s. refl, (refl, λ s. ap (tests (fitting first (length s))) (obs-allowed s), (refl, λ s. refl, tt))))))))))))))))))
 
 -- ---- of any type
 

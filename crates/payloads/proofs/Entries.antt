@@ -1,19 +1,25 @@
 -- Every message is found under its own type number and read as its own reader reads it, once for the whole list: the numbers differ.
 -- Assumes nothing.
-use mathlib.Core.Path.{_≡_, refl, sym, ap, _∙_, subst}
+use mathlib.Core.Path.{_≡_, refl, sym, ap, ap₂, _∙_, subst}
 use mathlib.Core.Bool.{Bool, true, false, _&&_, not, cond, false≢true}
 use mathlib.Core.List.{List, [], _∷_, _++_, map, append-assoc}
 use Prim.Native.Nat.{ℕ, _<_}
-use lib.Dec.{eqb, ltb}
-use borrow.Author.Tests.{eq-eqb, ne-eqb, ltb-true}
+use lib.Dec.{eqb, leb, ltb}
+use lib.ListN.{length, length-drop}
+use borrow.Author.Tests.{eq-eqb, ne-eqb, leb-true, ltb-true}
+use Rattle.wire.specs.Number.{numberAt}
+use Rattle.wire.specs.Field.{size}
+use Rattle.wire.specs.Layout.{Layout, run, then, bytes, rows, Sound, allowedBody, decodeBody}
 use Rattle.wire.specs.Description.{readAs, reading, inside}
 use Rattle.wire.specs.Refusals.{refused, Answer, Tests, ordered}
 use Rattle.frames.proofs.Promised.{faithful}
-use Rattle.observation.specs.Edition.{first}
+use Rattle.observation.specs.Edition.{fitting, obs, first}
 use Rattle.observation.specs.Obs.{readingObs, obsIn, readObs}
+use Rattle.observation.specs.declared.obs.Obs.{Obs}
+use Rattle.observation.proofs.ObsReading.{allowed, obs-shown}
 use Rattle.system.specs.Log as system
-use Rattle.system.specs.Log.{logIn, readingLog, readLog}
-use Rattle.payloads.specs.Payloads.{Named, messages, Entry, readIn, entryOf, obsEntry, logEntry, noEntry, table, entryFor, testsOf, readFor, named, Typed, TypedIn, PromisedIn, Promised, AllOf}
+use Rattle.system.specs.Log.{logLength, readingLog, logIn, readLog}
+use Rattle.payloads.specs.Payloads.{Named, messages, Entry, readIn, entryOf, noEntry, table, entryFor, testsOf, readFor, named, Typed, TypedIn, PromisedIn, Promised, AllOf}
 use Rattle.payloads.specs.declared.Message.{Message}
 use Rattle.payloads.specs.declared.Message.the-variants as M
 
@@ -63,10 +69,25 @@ own (b ∷ bs) e after h = let k = both (not (eqb (e .kind) (b .kind))) (lacks b
 
 -- ---- every message
 
+-- rows take some bytes each
+abbrev sound : Layout → Bool
+sound (run fs) = true
+sound (then fs l) = sound l
+sound (bytes most) = true
+sound (rows fs most) = leb 1 (size fs)
+
+sound-layout : (l : Layout) → sound l ≡ true → Sound l
+sound-layout (run fs) h = tt
+sound-layout (then fs l) h = sound-layout l h
+sound-layout (bytes most) h = tt
+sound-layout (rows fs most) h = leb-true 1 (size fs) h
+
 -- its type is a u16, and no message before it has it
 abbrev distinct : List Entry → List Named → Bool
 distinct before [] = true
-distinct before (m ∷ ms) = lacks before (m .description .kind) && (ltb (m .description .kind) 65536 && distinct (before ++ (entryOf m ∷ [])) ms)
+distinct before (m ∷ ms) =
+    let d = m .description in
+    lacks before (d .kind) && (ltb (d .kind) 65536 && (sound (d .layout) && distinct (before ++ (entryOf m ∷ [])) ms))
 
 -- payloads of its type read as its reader reads them, where its entry is found
 module _ (m : Named) (es : List Entry) (found : entryFor es (m .description .kind) ≡ entryOf m) where
@@ -74,26 +95,36 @@ module _ (m : Named) (es : List Entry) (found : entryFor es (m .description .kin
   unfolding readAs
   read-own s = ap (λ (e : Entry). ordered (testsOf e s) (e .holds s)) found ∙ named-ordered (m .name) (reading (m .description) s) (inside (m .description) s)
 
-all-promised : (before : List Entry) (ms : List Named) (after : List Entry) → distinct before ms ≡ true → AllOf (PromisedIn (before ++ (map entryOf ms ++ after))) ms
-all-promised before [] after h = tt
-all-promised before (m ∷ ms) after h =
+all-promised : (before : List Entry) (ms : List Named) → distinct before ms ≡ true → AllOf (PromisedIn (before ++ map entryOf ms)) ms
+all-promised before [] h = tt
+all-promised before (m ∷ ms) h =
     let d = m .description in
-    let new = both (lacks before (d .kind)) (ltb (d .kind) 65536 && distinct (before ++ (entryOf m ∷ [])) ms) h in
-    let small = both (ltb (d .kind) 65536) (distinct (before ++ (entryOf m ∷ [])) ms) (new .1) in
-    let es = map entryOf ms ++ after in (
-      (faithful d (ltb-true (d .kind) 65536 (small .0)) ?, read-own m (before ++ (entryOf m ∷ es)) (own before (entryOf m) es (new .0))),
-      subst (λ (all : List Entry). AllOf (PromisedIn all) ms) (append-assoc before (entryOf m ∷ []) es) (all-promised (before ++ (entryOf m ∷ [])) ms after (small .1)),
+    let more = before ++ (entryOf m ∷ []) in
+    let new = both (lacks before (d .kind)) (ltb (d .kind) 65536 && (sound (d .layout) && distinct more ms)) h in
+    let small = both (ltb (d .kind) 65536) (sound (d .layout) && distinct more ms) (new .1) in
+    let rest = both (sound (d .layout)) (distinct more ms) (small .1) in
+    let es = map entryOf ms in (
+      (faithful d (ltb-true (d .kind) 65536 (small .0)) (sound-layout (d .layout) (rest .0)), read-own m (before ++ (entryOf m ∷ es)) (own before (entryOf m) es (new .0))),
+      subst (λ (all : List Entry). AllOf (PromisedIn all) ms) (append-assoc before (entryOf m ∷ []) es) (all-promised more ms (rest .1)),
     )
 
 pub promised : AllOf Promised messages
-promised = all-promised [] messages (obsEntry ∷ logEntry ∷ []) refl
+promised = all-promised [] messages refl
 
 -- ---- OBS, and LOG
 
-pub obs : Typed (first .kind) (λ r. M.Obs r) readObs
-unfolding entryFor readObs
-obs s = named-ordered (λ r. M.Obs r) (readingObs first s) (obsIn s)
+-- an OBS passes its ranges, which it has none of
+pub obs-allowed : (s : List ℕ) → allowedBody (obs first .layout) (decodeBody (obs first .layout) s) ≡ true
+obs-allowed s = allowed first s (λ v. refl) (λ v. refl)
 
-pub log : Typed (system.log .kind) (λ r. M.Log r) readLog
+pub obs-read : Typed (first .kind) (λ r. M.Obs r) readObs
+unfolding entryFor readObs
+obs-read s =
+    ap₂ (λ (t : Bool) (o : Obs). ordered ((fitting first (length s), 22) ∷ (t, 23) ∷ []) (M.Obs o)) (obs-allowed s) (sym (obs-shown s))
+    ∙ named-ordered (λ r. M.Obs r) (readingObs first s) (obsIn s)
+
+pub log-read : Typed (system.log .kind) (λ r. M.Log r) readLog
 unfolding entryFor readLog
-log s = named-ordered (λ r. M.Log r) (readingLog s) (logIn s)
+log-read s =
+    ap (λ (k : ℕ). ordered ((logLength (length s), 22) ∷ []) (M.Log (record { level = numberAt 1 s 0; length = k }))) (length-drop 1 s)
+    ∙ named-ordered (λ r. M.Log r) (readingLog s) (logIn s)

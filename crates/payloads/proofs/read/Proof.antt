@@ -127,10 +127,10 @@ unfolding entryFor
 returns-17 c = let w = c .before .before in let a = w .before .before .before .args in gives (a .kind) (a .payload .now) (w .before .answer .ensures) (w .if1 .left) (c .before .match .keys16) (ap (λ r. M.Heartbeat r) (c .take-heartbeat .ensures))
 
 returns-18 : tie.Need-returns-18
-returns-18 c = let a = c .before .before .before .before .before .args in at-kind (a .kind) (a .payload .now) (typed.obs (a .payload .now)) (c .obs .ensures) (c .before .match .keys17)
+returns-18 c = let a = c .before .before .before .before .before .args in at-kind (a .kind) (a .payload .now) (typed.obs-read (a .payload .now)) (c .obs .ensures) (c .before .match .keys17)
 
 returns-19 : tie.Need-returns-19
-returns-19 c = let a = c .before .before .before .before .before .args in at-kind (a .kind) (a .payload .now) (typed.log (a .payload .now)) (c .log .ensures) (c .before .match .keys18)
+returns-19 c = let a = c .before .before .before .before .before .args in at-kind (a .kind) (a .payload .now) (typed.log-read (a .payload .now)) (c .log .ensures) (c .before .match .keys18)
 
 returns-20 : tie.Need-returns-20
 returns-20 c = let a = c .before .before .before .before .args in at-none (a .kind) (a .payload .now) (c .match .rest)

@@ -1,9 +1,9 @@
--- `listing::rostering::joined` meets its contract.
+-- `enlisting::joined` meets its contract.
 use mathlib.Core.Path.{sym, _∙_}
-use Rattle.listing.proofs.Seats.{joins-listed, joins-full, joins-last}
+use Rattle.enlisting.proofs.Seating.{joins-listed, joins-full, joins-last}
 use borrow.Author.Needs.{needs}
-use Rattle.listing.proofs.rostering.joined.Statement.{statement}
-use Rattle.listing.proofs.rostering.joined.Tie as tie
+use Rattle.enlisting.proofs.joined.Statement.{statement}
+use Rattle.enlisting.proofs.joined.Tie as tie
 
 seat-of-requires : tie.Need-seat-of-requires
 seat-of-requires c κs = search needs

@@ -1,10 +1,10 @@
--- `listing::listing::put_told` meets its contract.
+-- `listing::listing::put_epoch` meets its contract.
 use mathlib.Core.Path.{ap}
-use Rattle.listing.specs.Listing.{told}
-use Rattle.listing.proofs.Texts.{tells-nothing, tells}
+use Rattle.listing.specs.Listing.{epochPart}
+use Rattle.listing.proofs.Texts.{puts-nothing, puts}
 use borrow.Author.Needs.{needs}
-use Rattle.listing.proofs.listing.put_told.Statement.{statement}
-use Rattle.listing.proofs.listing.put_told.Tie as tie
+use Rattle.listing.proofs.listing.put_epoch.Statement.{statement}
+use Rattle.listing.proofs.listing.put_epoch.Tie as tie
 
 enum-told : tie.Need-enum-told
 enum-told c = search needs
@@ -34,10 +34,10 @@ put-line-requires : tie.Need-put-line-requires
 put-line-requires c κs = search needs
 
 returns : tie.Need-returns
-returns c = let a = c .before .before .before in tells-nothing (a .args .buf .now) (a .args .at) (a .args .happened) (a .fits .at .fits) (ap told (c .enum-told .given .1))
+returns c = let a = c .before .before .before in puts-nothing (a .args .buf .now) (a .args .at) (a .args .happened) (a .fits .at .fits) (ap epochPart (c .enum-told .given .1))
 
 returns-2 : tie.Need-returns-2
-returns-2 c = let a = c .before .before .before in tells-nothing (a .args .buf .now) (a .args .at) (a .args .happened) (a .fits .at .fits) (ap told (c .enum-told2 .given .1))
+returns-2 c = let a = c .before .before .before in puts-nothing (a .args .buf .now) (a .args .at) (a .args .happened) (a .fits .at .fits) (ap epochPart (c .enum-told2 .given .1))
 
 same-length : tie.Need-same-length
 same-length c = search needs
@@ -46,10 +46,10 @@ returns-3 : tie.Need-returns-3
 returns-3 c =
     let m = c .before .before .before .before .before .before .before .before .before .before in
     let a = m .before .before .before .args in
-    tells (a .buf .now) (a .at) (m .happened .given .1) (c .before .before .put-line .ensures .0) (c .before .before .put-line .ensures .1)
+    puts (a .buf .now) (a .at) (m .happened .given .1) (c .before .before .put-line .ensures .0) (c .before .before .put-line .ensures .1)
 
-pub put-told-spec : {M : Type 1} → statement M
-put-told-spec =
+pub put-epoch-spec : {M : Type 1} → statement M
+put-epoch-spec =
     tie.close
     (tie.spec
     enum-told

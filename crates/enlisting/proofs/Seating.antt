@@ -1,24 +1,23 @@
 -- The eight seats of a collator: what they hold of a roster, and that a sender joins them as it joins the roster. Assumes nothing.
 use mathlib.Core.Path.{_≡_, refl, sym, ap, ap₂, _∙_}
-use mathlib.Core.Bool.{Bool, true, false, cond}
+use mathlib.Core.Bool.{Bool, true, false, cond, true≢false}
 use mathlib.Core.List.{List, [], _∷_, _++_}
 use Prim.Native.Nat.{ℕ, zero, suc, _+_, _≤_, _<_}
 use native.Mathlib.Omega.{arith}
-use lib.Dec.{eqb}
 use lib.ListN.{length, set, take, replicate, length-append}
 use borrow.Author.Tests.{le-leb, lt-leb}
-use Rattle.frames.specs.declared.step.Frame.{Frame}
-use Rattle.epochs.specs.Packet.{obsKind, seatOf}
+use Rattle.frames.specs.Frame.{Content}
+use Rattle.observation.specs.Edition.{isObs}
+use Rattle.epochs.specs.Search.{seatOf, isAt, names}
 use Rattle.epochs.specs.Collator.{rosterOf}
-use Rattle.epochs.specs.declared.judging.Seat.{Seat}
-use Rattle.epochs.specs.declared.judging.Seat.the-variants.{At, Nowhere}
-use Rattle.epochs.specs.declared.placing.Place.{Place}
+use Rattle.epochs.specs.declared.seating.Seat.{Seat}
+use Rattle.epochs.specs.declared.seating.Seat.the-variants.{At, Nowhere}
+use Rattle.epochs.specs.declared.collating.Place.{Place}
 use Rattle.epochs.specs.declared.collating.Collator.{Collator}
-use Rattle.epochs.proofs.Rosters.{seat-listed, seat-unlisted}
+use Rattle.epochs.proofs.Searches.{seat-listed}
 use Rattle.epochs.proofs.Senders.{roster-kept}
-use Rattle.listing.specs.Roster.{joined, enlisted}
-use Rattle.listing.specs.Seating.{seatedIn, joinedTo, enlistedTo}
-use Rattle.listing.proofs.Rosters.{by-joining}
+use Rattle.enlisting.specs.Enlisting.{seatedIn, joinedTo, enlistedTo}
+use Rattle.enlisting.proofs.Joining.{joined, enlisted, by-joining}
 
 -- a collator of a roster, with its places in any state
 abbrev pub heldIn : List Place → List ℕ → Collator
@@ -56,13 +55,33 @@ module _ (c : Collator) (sender : ℕ) where
         let taken : seatedIn Nowhere c sender ≡ record { places = c .places; roster = set (c .roster) (c .count) sender; count = c .count + 1 } = rw (lt-leb 8 (c .count) h) in
         sym taken ∙ ap (λ (x : Seat). seatedIn x c sender) (sym e)
 
+-- ---- and the two through `enlist`
+
+module _ (c : Collator) (kind sender : ℕ) where
+  pub enlists : {d : Collator} → isObs kind ≡ true → d ≡ joinedTo c sender → d ≡ enlistedTo c kind sender
+  unfolding enlistedTo
+  enlists e q = q ∙ sym (ap (λ (t : Bool). cond t (joinedTo c sender) c) e)
+
+  pub enlists-none : isObs kind ≡ false → c ≡ enlistedTo c kind sender
+  unfolding enlistedTo
+  enlists-none e = sym (ap (λ (t : Bool). cond t (joinedTo c sender) c) e)
+
+-- a sender that is not named has no seat
+seat-unlisted : (xs : List ℕ) (sender : ℕ) → names xs sender ≡ false → seatOf xs sender 0 ≡ Nowhere
+unfolding names
+seat-unlisted xs sender n = by (seatOf xs sender 0) refl
+  where
+    by : (x : Seat) → seatOf xs sender 0 ≡ x → seatOf xs sender 0 ≡ Nowhere
+    by Nowhere e = e
+    by (At i) e = absurd (true≢false (ap isAt (sym e) ∙ n))
+
 -- ---- so a sender joins the seats as it joins the roster
 
 module _ (places : List Place) (roster : List ℕ) (few : length roster ≤ 8) where
   held-joined : (sender : ℕ) → joinedTo (heldIn places roster) sender ≡ heldIn places (joined roster sender)
   held-joined sender =
-      by-joining roster sender (λ (r : List ℕ). joinedTo c sender ≡ heldIn places r) (λ n. sym (joins-listed c sender (seat ∙ seat-listed roster sender 0 n .1)))
-      (λ n h. sym (joins-full c sender (seat ∙ seat-unlisted roster sender 0 n) h)) (λ n h. sym (joins-last c sender (seat ∙ seat-unlisted roster sender 0 n) h) ∙ last h)
+      by-joining roster sender (λ (r : List ℕ). joinedTo c sender ≡ heldIn places r) (λ n. sym (joins-listed c sender (seat ∙ seat-listed roster sender n .1)))
+      (λ n h. sym (joins-full c sender (seat ∙ seat-unlisted roster sender n) h)) (λ n h. sym (joins-last c sender (seat ∙ seat-unlisted roster sender n) h) ∙ last h)
     where
       c : Collator
       c = heldIn places roster
@@ -75,9 +94,10 @@ module _ (places : List Place) (roster : List ℕ) (few : length roster ≤ 8) w
           ap₂ {C = Collator} (λ (ss : List ℕ) (n : ℕ). record { places = places; roster = ss; count = n }) (one-more roster 8 8 sender h (omega arith))
           (sym (length-append roster (sender ∷ [])))
 
-  pub held-enlisted : (f : Frame) → enlistedTo (heldIn places roster) f ≡ heldIn places (enlisted roster f)
-  held-enlisted f = by (eqb (f .kind) obsKind)
+  pub held-enlisted : (x : Content) → enlistedTo (heldIn places roster) (x .kind) (x .sender) ≡ heldIn places (enlisted roster x)
+  unfolding enlistedTo
+  held-enlisted x = by (isObs (x .kind))
     where
-      by : (t : Bool) → cond t (joinedTo (heldIn places roster) (f .sender)) (heldIn places roster) ≡ heldIn places (cond t (joined roster (f .sender)) roster)
-      by true = held-joined (f .sender)
+      by : (t : Bool) → cond t (joinedTo (heldIn places roster) (x .sender)) (heldIn places roster) ≡ heldIn places (cond t (joined roster (x .sender)) roster)
+      by true = held-joined (x .sender)
       by false = refl
