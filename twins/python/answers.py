@@ -178,11 +178,11 @@ def walks():
     """A reader over each of the rover's payloads, asked five times: it goes on after an observation, and stays at a refusal."""
     s, t = mixed(3, 37, 300), mixed(9, 41, 300)
     for payload in s[:39], s[:8], s[:7], t[:55]:
-        place, line = 0, "walk %d" % len(payload)
+        at, line = 0, "walk %d" % len(payload)
         for _ in range(5):
-            outcome = entry(payload, place)
-            place += not outcome.startswith("refused")
-            line += " %s at %d" % (outcome, place)
+            outcome = entry(payload, at)
+            at += not outcome.startswith("refused")
+            line += " %s at %d" % (outcome, at)
         yield line
 
 
@@ -201,10 +201,10 @@ def fed(name, sorter, *packets):
 
 def replayed(name, data):
     sorter = Sorter(1228, 0)
-    outcome = [sorter.feed(kind, sender, payload) for _, kind, sender, payload in reading(data, False)[0]]
-    epochs = [t for t in outcome if t.startswith(" epoch")]
+    outcomes = [sorter.feed(kind, sender, payload) for _, kind, sender, payload in reading(data, False)[0]]
+    epochs = [outcome for outcome in outcomes if outcome.startswith(" epoch")]
     yield name + "".join(epochs)
-    yield "%s 0 %d %d" % (name, *(sum(t.startswith(" epoch %d " % s) for t in epochs) for s in (1228, 0)))
+    yield "%s 0 %d %d" % (name, *(sum(epoch.startswith(" epoch %d " % s) for epoch in epochs) for s in (1228, 0)))
 
 
 def collated():

@@ -1,7 +1,7 @@
 // BASELINE_ECEF, 0x0202, in mm, and VEL_ECEF, 0x0204, in mm/s: one layout, two meanings.
 ghost use mathlib.Core.Path.{_≡_};
 ghost use lib.ListN.{length};
-ghost use Rattle.wire.specs.Layout.{allowedBody, bodyStored};
+ghost use Rattle.wire.specs.Layout.{bodyStored};
 ghost use Rattle.wire.specs.Description.{inside, readAs};
 ghost use Rattle.frames.specs.Writer.{senderOf, writtenAnswer};
 ghost use Rattle.frames.specs.Faithful.{writeAnswer, writtenAs};
@@ -51,12 +51,6 @@ fn put(buf: &mut [u8], r: EcefVector)
     wire::store_u8(buf, 25, r.flags);
 }
 
-fn allowed(r: EcefVector) -> bool
-    ensures { λ b. ⌜ b ≡ allowedBody (baselineEcef .layout) (baselineEcef .row r) ⌝ }
-{
-    fix_allowed(r.flags, 1)
-}
-
 pub fn read_baseline_ecef(s: &[u8]) -> EcefVectorRead
     ensures { λ r. ⌜ answerOf r ≡ readAs baselineEcef (now (s .entry)) ⌝ }
 {
@@ -64,7 +58,7 @@ pub fn read_baseline_ecef(s: &[u8]) -> EcefVectorRead
         return EcefVectorRead::Refused(22);
     }
     let r = take_ecef(s);
-    if allowed(r) {
+    if fix_allowed(r.flags, 1) {
         return EcefVectorRead::Record(r);
     }
     EcefVectorRead::Refused(23)
@@ -74,7 +68,7 @@ pub fn write_baseline_ecef(buf: &mut [u8], sender: Sender, r: EcefVector) -> Wri
     ensures { λ w. ⌜ writtenAnswer w ≡ writeAnswer baselineEcef r (length (now (buf .entry))) ⌝ }
     ensures { λ _. ⌜ now (buf .exit) ≡ writtenAs baselineEcef (senderOf sender) r (now (buf .entry)) ⌝ }
 {
-    if allowed(r) {
+    if fix_allowed(r.flags, 1) {
         let answer = frames::plan(20, buf.len());
         if let Written::Bytes(_) = answer {
             put(buf, r);

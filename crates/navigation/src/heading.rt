@@ -1,7 +1,7 @@
 // BASELINE_HEADING, 0x0207: the heading from base to rover, in 1/1000 degree.
 ghost use mathlib.Core.Path.{_≡_};
 ghost use lib.ListN.{length};
-ghost use Rattle.wire.specs.Layout.{allowedBody, bodyStored};
+ghost use Rattle.wire.specs.Layout.{bodyStored};
 ghost use Rattle.wire.specs.Description.{inside, readAs};
 ghost use Rattle.frames.specs.Writer.{senderOf, writtenAnswer};
 ghost use Rattle.frames.specs.Faithful.{writeAnswer, writtenAs};
@@ -42,12 +42,6 @@ fn put(buf: &mut [u8], r: BaselineHeading)
     wire::store_u8(buf, 15, r.flags);
 }
 
-fn allowed(r: BaselineHeading) -> bool
-    ensures { λ b. ⌜ b ≡ allowedBody (baselineHeading .layout) (baselineHeading .row r) ⌝ }
-{
-    fix_allowed(r.flags, 1)
-}
-
 pub fn read_baseline_heading(s: &[u8]) -> BaselineHeadingRead
     ensures { λ r. ⌜ answerOf r ≡ readAs baselineHeading (now (s .entry)) ⌝ }
 {
@@ -55,7 +49,7 @@ pub fn read_baseline_heading(s: &[u8]) -> BaselineHeadingRead
         return BaselineHeadingRead::Refused(22);
     }
     let r = take_baseline_heading(s);
-    if allowed(r) {
+    if fix_allowed(r.flags, 1) {
         return BaselineHeadingRead::Record(r);
     }
     BaselineHeadingRead::Refused(23)
@@ -65,7 +59,7 @@ pub fn write_baseline_heading(buf: &mut [u8], sender: Sender, r: BaselineHeading
     ensures { λ w. ⌜ writtenAnswer w ≡ writeAnswer baselineHeading r (length (now (buf .entry))) ⌝ }
     ensures { λ _. ⌜ now (buf .exit) ≡ writtenAs baselineHeading (senderOf sender) r (now (buf .entry)) ⌝ }
 {
-    if allowed(r) {
+    if fix_allowed(r.flags, 1) {
         let answer = frames::plan(10, buf.len());
         if let Written::Bytes(_) = answer {
             put(buf, r);

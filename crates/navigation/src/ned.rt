@@ -1,7 +1,7 @@
 // BASELINE_NED, 0x0203, in mm, and VEL_NED, 0x0205, in mm/s: one layout, two meanings.
 ghost use mathlib.Core.Path.{_≡_};
 ghost use lib.ListN.{length};
-ghost use Rattle.wire.specs.Layout.{allowedBody, bodyStored};
+ghost use Rattle.wire.specs.Layout.{bodyStored};
 ghost use Rattle.wire.specs.Description.{inside, readAs};
 ghost use Rattle.frames.specs.Writer.{senderOf, writtenAnswer};
 ghost use Rattle.frames.specs.Faithful.{writeAnswer, writtenAs};
@@ -54,12 +54,6 @@ fn put(buf: &mut [u8], r: NedVector)
     wire::store_u8(buf, 27, r.flags);
 }
 
-fn allowed(r: NedVector) -> bool
-    ensures { λ b. ⌜ b ≡ allowedBody (baselineNed .layout) (baselineNed .row r) ⌝ }
-{
-    fix_allowed(r.flags, 1)
-}
-
 pub fn read_baseline_ned(s: &[u8]) -> NedVectorRead
     ensures { λ r. ⌜ answerOf r ≡ readAs baselineNed (now (s .entry)) ⌝ }
 {
@@ -67,7 +61,7 @@ pub fn read_baseline_ned(s: &[u8]) -> NedVectorRead
         return NedVectorRead::Refused(22);
     }
     let r = take_ned(s);
-    if allowed(r) {
+    if fix_allowed(r.flags, 1) {
         return NedVectorRead::Record(r);
     }
     NedVectorRead::Refused(23)
@@ -77,7 +71,7 @@ pub fn write_baseline_ned(buf: &mut [u8], sender: Sender, r: NedVector) -> Writt
     ensures { λ w. ⌜ writtenAnswer w ≡ writeAnswer baselineNed r (length (now (buf .entry))) ⌝ }
     ensures { λ _. ⌜ now (buf .exit) ≡ writtenAs baselineNed (senderOf sender) r (now (buf .entry)) ⌝ }
 {
-    if allowed(r) {
+    if fix_allowed(r.flags, 1) {
         let answer = frames::plan(22, buf.len());
         if let Written::Bytes(_) = answer {
             put(buf, r);

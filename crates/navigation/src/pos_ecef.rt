@@ -1,7 +1,7 @@
 // POS_ECEF, 0x0200: the position, Earth centred, in m.
 ghost use mathlib.Core.Path.{_≡_};
 ghost use lib.ListN.{length};
-ghost use Rattle.wire.specs.Layout.{allowedBody, bodyStored};
+ghost use Rattle.wire.specs.Layout.{bodyStored};
 ghost use Rattle.wire.specs.Description.{inside, readAs};
 ghost use Rattle.frames.specs.Writer.{senderOf, writtenAnswer};
 ghost use Rattle.frames.specs.Faithful.{writeAnswer, writtenAs};
@@ -52,12 +52,6 @@ fn put(buf: &mut [u8], r: PosEcef)
     wire::store_u8(buf, 37, r.flags);
 }
 
-fn allowed(r: PosEcef) -> bool
-    ensures { λ b. ⌜ b ≡ allowedBody (posEcef .layout) (posEcef .row r) ⌝ }
-{
-    fix_allowed(r.flags, 2)
-}
-
 pub fn read_pos_ecef(s: &[u8]) -> PosEcefRead
     ensures { λ r. ⌜ answerOf r ≡ readAs posEcef (now (s .entry)) ⌝ }
 {
@@ -65,7 +59,7 @@ pub fn read_pos_ecef(s: &[u8]) -> PosEcefRead
         return PosEcefRead::Refused(22);
     }
     let r = take_pos_ecef(s);
-    if allowed(r) {
+    if fix_allowed(r.flags, 2) {
         return PosEcefRead::Record(r);
     }
     PosEcefRead::Refused(23)
@@ -75,7 +69,7 @@ pub fn write_pos_ecef(buf: &mut [u8], sender: Sender, r: PosEcef) -> Written
     ensures { λ w. ⌜ writtenAnswer w ≡ writeAnswer posEcef r (length (now (buf .entry))) ⌝ }
     ensures { λ _. ⌜ now (buf .exit) ≡ writtenAs posEcef (senderOf sender) r (now (buf .entry)) ⌝ }
 {
-    if allowed(r) {
+    if fix_allowed(r.flags, 2) {
         let answer = frames::plan(32, buf.len());
         if let Written::Bytes(_) = answer {
             put(buf, r);

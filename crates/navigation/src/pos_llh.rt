@@ -1,7 +1,7 @@
 // POS_LLH, 0x0201: the geodetic position, in degrees and m.
 ghost use mathlib.Core.Path.{_≡_};
 ghost use lib.ListN.{length};
-ghost use Rattle.wire.specs.Layout.{allowedBody, bodyStored};
+ghost use Rattle.wire.specs.Layout.{bodyStored};
 ghost use Rattle.wire.specs.Description.{inside, readAs};
 ghost use Rattle.frames.specs.Writer.{senderOf, writtenAnswer};
 ghost use Rattle.frames.specs.Faithful.{writeAnswer, writtenAs};
@@ -55,12 +55,6 @@ fn put(buf: &mut [u8], r: PosLlh)
     wire::store_u8(buf, 39, r.flags);
 }
 
-fn allowed(r: PosLlh) -> bool
-    ensures { λ b. ⌜ b ≡ allowedBody (posLlh .layout) (posLlh .row r) ⌝ }
-{
-    fix_allowed(r.flags, 2)
-}
-
 pub fn read_pos_llh(s: &[u8]) -> PosLlhRead
     ensures { λ r. ⌜ answerOf r ≡ readAs posLlh (now (s .entry)) ⌝ }
 {
@@ -68,7 +62,7 @@ pub fn read_pos_llh(s: &[u8]) -> PosLlhRead
         return PosLlhRead::Refused(22);
     }
     let r = take_pos_llh(s);
-    if allowed(r) {
+    if fix_allowed(r.flags, 2) {
         return PosLlhRead::Record(r);
     }
     PosLlhRead::Refused(23)
@@ -78,7 +72,7 @@ pub fn write_pos_llh(buf: &mut [u8], sender: Sender, r: PosLlh) -> Written
     ensures { λ w. ⌜ writtenAnswer w ≡ writeAnswer posLlh r (length (now (buf .entry))) ⌝ }
     ensures { λ _. ⌜ now (buf .exit) ≡ writtenAs posLlh (senderOf sender) r (now (buf .entry)) ⌝ }
 {
-    if allowed(r) {
+    if fix_allowed(r.flags, 2) {
         let answer = frames::plan(34, buf.len());
         if let Written::Bytes(_) = answer {
             put(buf, r);

@@ -5,4 +5,3 @@ pub mod ObsWritten
 pub mod ObsThrough
 pub mod Phases
 pub mod PhaseBits
-pub mod Promises

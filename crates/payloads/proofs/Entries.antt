@@ -5,8 +5,9 @@ use mathlib.Core.Bool.{Bool, true, false, _&&_, not, cond, false≢true}
 use mathlib.Core.List.{List, [], _∷_, _++_, map, append-assoc}
 use Prim.Native.Nat.{ℕ, _<_}
 use lib.Dec.{eqb, leb, ltb}
-use lib.ListN.{length}
+use lib.ListN.{length, length-drop}
 use borrow.Author.Tests.{eq-eqb, ne-eqb, leb-true, ltb-true}
+use Rattle.wire.specs.Number.{numberAt}
 use Rattle.wire.specs.Field.{size}
 use Rattle.wire.specs.Layout.{Layout, run, then, bytes, rows, Sound, allowedBody, decodeBody}
 use Rattle.wire.specs.Description.{readAs, reading, inside}
@@ -16,8 +17,9 @@ use Rattle.observation.specs.Edition.{fitting, obs, first}
 use Rattle.observation.specs.Obs.{readingObs, obsIn, readObs}
 use Rattle.observation.specs.declared.obs.Obs.{Obs}
 use Rattle.observation.proofs.ObsReading.{allowed, obs-shown}
-use Rattle.system.specs.Log.{logKind, logIn, readLog}
-use Rattle.payloads.specs.Payloads.{Named, messages, Entry, readIn, entryOf, logEntry, noEntry, table, entryFor, readingLog, testsOf, readFor, named, Typed, TypedIn, PromisedIn, Promised, AllOf}
+use Rattle.system.specs.Log as system
+use Rattle.system.specs.Log.{logLength, readingLog, logIn, readLog}
+use Rattle.payloads.specs.Payloads.{Named, messages, Entry, readIn, entryOf, noEntry, table, entryFor, testsOf, readFor, named, Typed, TypedIn, PromisedIn, Promised, AllOf}
 use Rattle.payloads.specs.declared.Message.{Message}
 use Rattle.payloads.specs.declared.Message.the-variants as M
 
@@ -93,22 +95,21 @@ module _ (m : Named) (es : List Entry) (found : entryFor es (m .description .kin
   unfolding readAs
   read-own s = ap (λ (e : Entry). ordered (testsOf e s) (e .holds s)) found ∙ named-ordered (m .name) (reading (m .description) s) (inside (m .description) s)
 
-all-promised : (before : List Entry) (ms : List Named) (after : List Entry) → distinct before ms ≡ true → AllOf (PromisedIn (before ++ (map entryOf ms ++ after))) ms
-all-promised before [] after h = tt
-all-promised before (m ∷ ms) after h =
+all-promised : (before : List Entry) (ms : List Named) → distinct before ms ≡ true → AllOf (PromisedIn (before ++ map entryOf ms)) ms
+all-promised before [] h = tt
+all-promised before (m ∷ ms) h =
     let d = m .description in
     let more = before ++ (entryOf m ∷ []) in
     let new = both (lacks before (d .kind)) (ltb (d .kind) 65536 && (sound (d .layout) && distinct more ms)) h in
     let small = both (ltb (d .kind) 65536) (sound (d .layout) && distinct more ms) (new .1) in
     let rest = both (sound (d .layout)) (distinct more ms) (small .1) in
-    let es = map entryOf ms ++ after in
-    (
+    let es = map entryOf ms in (
       (faithful d (ltb-true (d .kind) 65536 (small .0)) (sound-layout (d .layout) (rest .0)), read-own m (before ++ (entryOf m ∷ es)) (own before (entryOf m) es (new .0))),
-      subst (λ (all : List Entry). AllOf (PromisedIn all) ms) (append-assoc before (entryOf m ∷ []) es) (all-promised more ms after (rest .1)),
+      subst (λ (all : List Entry). AllOf (PromisedIn all) ms) (append-assoc before (entryOf m ∷ []) es) (all-promised more ms (rest .1)),
     )
 
 pub promised : AllOf Promised messages
-promised = all-promised [] messages (logEntry ∷ []) refl
+promised = all-promised [] messages refl
 
 -- ---- OBS, and LOG
 
@@ -122,6 +123,8 @@ obs-read s =
     ap₂ (λ (t : Bool) (o : Obs). ordered ((fitting first (length s), 22) ∷ (t, 23) ∷ []) (M.Obs o)) (obs-allowed s) (sym (obs-shown s))
     ∙ named-ordered (λ r. M.Obs r) (readingObs first s) (obsIn s)
 
-pub log-read : Typed logKind (λ r. M.Log r) readLog
+pub log-read : Typed (system.log .kind) (λ r. M.Log r) readLog
 unfolding entryFor readLog
-log-read s = named-ordered (λ r. M.Log r) (readingLog s) (logIn s)
+log-read s =
+    ap (λ (k : ℕ). ordered ((logLength (length s), 22) ∷ []) (M.Log (record { level = numberAt 1 s 0; length = k }))) (length-drop 1 s)
+    ∙ named-ordered (λ r. M.Log r) (readingLog s) (logIn s)

@@ -11,7 +11,8 @@ use Rattle.wire.specs.Field.{valueAt, u8, s32}
 use Rattle.wire.specs.Refusals.{Tests, ordered}
 use Rattle.navigation.specs.Range.{inNs, fixUpTo}
 use Rattle.observation.specs.Edition.{fitting, first}
-use Rattle.payloads.specs.Payloads.{Entry, table, readingLog, testsOf, numberOf}
+use Rattle.system.specs.Log.{logLength}
+use Rattle.payloads.specs.Payloads.{Entry, table, testsOf, numberOf}
 use Rattle.payloads.specs.declared.check.Check.{Check}
 use Rattle.payloads.specs.declared.check.Check.the-variants.{Unknown, Length, Ns, Fix, Obs, Log}
 
@@ -55,7 +56,7 @@ testsBy (Length n) s = tests (eqb (length s) n) true
 testsBy (Ns n at) s = tests (eqb (length s) n) (inNs (valueAt s32 s at))
 testsBy (Fix n at last) s = tests (eqb (length s) n) (fixUpTo last (valueAt u8 s at))
 testsBy Obs s = tests (fitting first (length s)) true
-testsBy Log s = (true, 21) ∷ readingLog s
+testsBy Log s = tests (logLength (length s)) true
 
 -- the number of the first that fails, or 0
 abbrev pub numberBy : Tests → ℕ

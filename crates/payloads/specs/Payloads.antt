@@ -4,9 +4,8 @@
 use Prim.Native.Nat.{ℕ}
 use mathlib.Core.Path.{_≡_}
 use mathlib.Core.Bool.{Bool, true, false, cond}
-use mathlib.Core.List.{List, [], _∷_, _++_, map}
+use mathlib.Core.List.{List, [], _∷_, map}
 use lib.Dec.{eqb}
-use lib.ListN.{length}
 use Rattle.wire.specs.Description.{Description, inside, reading, readAs}
 use Rattle.wire.specs.Refusals.{refused, given, Answer, Tests, ordered}
 use Rattle.frames.specs.Faithful.{Faithful}
@@ -20,10 +19,11 @@ use Rattle.navigation.specs.PosLlh.{posLlh}
 use Rattle.observation.specs.BasePosEcef.{basePosEcef}
 use Rattle.observation.specs.BasePosLlh.{basePosLlh}
 use Rattle.observation.specs.Edition.{obs, first}
-use Rattle.observation.specs.Obs.{shown}
+use Rattle.observation.specs.Obs as observation
 use Rattle.system.specs.Empty.{settingsSave, readByIndexDone}
 use Rattle.system.specs.Heartbeat.{heartbeat}
-use Rattle.system.specs.Log.{logKind, logLength, logIn}
+use Rattle.system.specs.Log as system
+use Rattle.system.specs.Log.{log}
 use Rattle.system.specs.ReadByIndexReq.{readByIndexReq}
 use Rattle.system.specs.Startup.{startup}
 use Rattle.payloads.specs.declared.Message.{Message}
@@ -46,7 +46,7 @@ pub record Named : Type 1 where
 abbrev pub under : {R : Type 0} → Description R → (R → Message) → Named
 under {R} d name = record { Of = R; description = d; name = name }
 
--- every message; of an OBS the code shows the header and how many observations follow
+-- every message; of an OBS the code shows the header and how many observations follow, of a LOG the level and how long the text is
 abbrev pub messages : List Named
 messages =
     under gpsTime (λ r. M.GpsTime r) ∷
@@ -65,13 +65,11 @@ messages =
     under readByIndexReq (λ r. M.ReadByIndexReq r) ∷
     under startup (λ r. M.Startup r) ∷
     under heartbeat (λ r. M.Heartbeat r) ∷
-    under (obs first) (λ r. M.Obs (shown r)) ∷
+    under (obs first) (λ r. M.Obs (observation.shown r)) ∷
+    under log (λ r. M.Log (system.shown r)) ∷
     []
 
 -- ---- the table
-
-abbrev pub readingLog : List ℕ → Tests
-readingLog s = (logLength (length s), 22) ∷ []
 
 -- a row of it: a type, whether it has a reading, its reader's tests, and what a payload that passes them holds
 pub record Entry : Type 0 where
@@ -84,15 +82,12 @@ pub record Entry : Type 0 where
 abbrev pub entryOf : Named → Entry
 entryOf m = let d = m .description in record { kind = d .kind; known = true; tests = reading d; holds = λ s. m .name (inside d s) }
 
-abbrev pub logEntry : Entry
-logEntry = record { kind = logKind; known = true; tests = readingLog; holds = λ s. M.Log (logIn s) }
-
 -- of a type without a reading: 21, so what it holds is never given
 abbrev pub noEntry : ℕ → Entry
 noEntry kind = record { kind = kind; known = false; tests = λ s. []; holds = λ s. M.SettingsSave }
 
 abbrev pub table : List Entry
-table = map entryOf messages ++ (logEntry ∷ [])
+table = map entryOf messages
 
 unfoldable pub entryFor : List Entry → ℕ → Entry
 entryFor [] kind = noEntry kind

@@ -1,2 +1,1 @@
 pub mod Logs
-pub mod Promises

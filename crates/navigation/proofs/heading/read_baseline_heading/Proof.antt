@@ -1,5 +1,6 @@
 -- `navigation::heading::read_baseline_heading` meets its contract.
 use mathlib.Core.Path.{sym, _∙_}
+use mathlib.Core.Bool.{and-true}
 use borrow.Author.Needs.{needs}
 use Rattle.wire.proofs.Descriptions.{gives-22, gives-23, gives}
 use Rattle.navigation.specs.Heading.{baselineHeading}
@@ -12,18 +13,18 @@ returns c = gives-22 baselineHeading (c .before .before .args .s .now) (c .if1 .
 take-baseline-heading-requires : tie.Need-take-baseline-heading-requires
 take-baseline-heading-requires c κs = search needs
 
-allowed-requires : tie.Need-allowed-requires
-allowed-requires c κs = search needs
+fix-allowed-requires : tie.Need-fix-allowed-requires
+fix-allowed-requires c κs = search needs
 
 returns-2 : tie.Need-returns-2
 returns-2 c =
     let t = c .before .before in
-    gives baselineHeading (t .before .before .before .args .s .now) (t .take-baseline-heading .result) (t .before .if1 .left) (t .take-baseline-heading .ensures) (sym (c .before .allowed .ensures) ∙ c .if2 .taken)
+    gives baselineHeading (t .before .before .before .args .s .now) (t .take-baseline-heading .result) (t .before .if1 .left) (t .take-baseline-heading .ensures) (and-true _ ∙ sym (c .before .fix-allowed .ensures) ∙ c .if2 .taken)
 
 returns-3 : tie.Need-returns-3
 returns-3 c =
     let t = c .before .before in
-    gives-23 baselineHeading (t .before .before .before .args .s .now) (t .take-baseline-heading .result) (t .before .if1 .left) (t .take-baseline-heading .ensures) (sym (c .before .allowed .ensures) ∙ c .if2 .left)
+    gives-23 baselineHeading (t .before .before .before .args .s .now) (t .take-baseline-heading .result) (t .before .if1 .left) (t .take-baseline-heading .ensures) (and-true _ ∙ sym (c .before .fix-allowed .ensures) ∙ c .if2 .left)
 
 pub read-baseline-heading-spec : {M : Type 1} → statement M
-read-baseline-heading-spec = tie.close (tie.spec returns take-baseline-heading-requires allowed-requires returns-2 returns-3)
+read-baseline-heading-spec = tie.close (tie.spec returns take-baseline-heading-requires fix-allowed-requires returns-2 returns-3)

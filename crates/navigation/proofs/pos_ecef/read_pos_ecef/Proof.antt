@@ -1,5 +1,6 @@
 -- `navigation::pos_ecef::read_pos_ecef` meets its contract.
 use mathlib.Core.Path.{sym, _∙_}
+use mathlib.Core.Bool.{and-true}
 use borrow.Author.Needs.{needs}
 use Rattle.wire.proofs.Descriptions.{gives-22, gives-23, gives}
 use Rattle.navigation.specs.PosEcef.{posEcef}
@@ -12,18 +13,18 @@ returns c = gives-22 posEcef (c .before .before .args .s .now) (c .if1 .taken)
 take-pos-ecef-requires : tie.Need-take-pos-ecef-requires
 take-pos-ecef-requires c κs = search needs
 
-allowed-requires : tie.Need-allowed-requires
-allowed-requires c κs = search needs
+fix-allowed-requires : tie.Need-fix-allowed-requires
+fix-allowed-requires c κs = search needs
 
 returns-2 : tie.Need-returns-2
 returns-2 c =
     let t = c .before .before in
-    gives posEcef (t .before .before .before .args .s .now) (t .take-pos-ecef .result) (t .before .if1 .left) (t .take-pos-ecef .ensures) (sym (c .before .allowed .ensures) ∙ c .if2 .taken)
+    gives posEcef (t .before .before .before .args .s .now) (t .take-pos-ecef .result) (t .before .if1 .left) (t .take-pos-ecef .ensures) (and-true _ ∙ sym (c .before .fix-allowed .ensures) ∙ c .if2 .taken)
 
 returns-3 : tie.Need-returns-3
 returns-3 c =
     let t = c .before .before in
-    gives-23 posEcef (t .before .before .before .args .s .now) (t .take-pos-ecef .result) (t .before .if1 .left) (t .take-pos-ecef .ensures) (sym (c .before .allowed .ensures) ∙ c .if2 .left)
+    gives-23 posEcef (t .before .before .before .args .s .now) (t .take-pos-ecef .result) (t .before .if1 .left) (t .take-pos-ecef .ensures) (and-true _ ∙ sym (c .before .fix-allowed .ensures) ∙ c .if2 .left)
 
 pub read-pos-ecef-spec : {M : Type 1} → statement M
-read-pos-ecef-spec = tie.close (tie.spec returns take-pos-ecef-requires allowed-requires returns-2 returns-3)
+read-pos-ecef-spec = tie.close (tie.spec returns take-pos-ecef-requires fix-allowed-requires returns-2 returns-3)

@@ -1,5 +1,6 @@
 -- `navigation::pos_ecef::write_pos_ecef` meets its contract.
 use mathlib.Core.Path.{refl, sym, _∙_}
+use mathlib.Core.Bool.{and-true}
 use borrow.Author.Needs.{needs}
 use Rattle.frames.specs.Writer.{senderOf}
 use Rattle.frames.proofs.WrittenPlan.{known}
@@ -8,8 +9,8 @@ use Rattle.navigation.specs.PosEcef.{posEcef}
 use Rattle.navigation.proofs.pos_ecef.write_pos_ecef.Statement.{statement}
 use Rattle.navigation.proofs.pos_ecef.write_pos_ecef.Tie as tie
 
-allowed-requires : tie.Need-allowed-requires
-allowed-requires c κs = search needs
+fix-allowed-requires : tie.Need-fix-allowed-requires
+fix-allowed-requires c κs = search needs
 
 plan-requires : tie.Need-plan-requires
 plan-requires c κs = search needs
@@ -35,18 +36,18 @@ returns c =
     let at = p .before .before in
     let a = at .before .before .before .before .before .before .args in
     let plan = at .before .before .plan .ensures in
-    wrote posEcef (senderOf (a .sender)) (a .r) (a .buf .now) (sym (at .before .before .before .before .allowed .ensures) ∙ at .before .before .before .if1 .taken) refl plan (known plan (at .enum-told .given .1)) (p .put .ensures) (c .before .before .seal .ensures)
+    wrote posEcef (senderOf (a .sender)) (a .r) (a .buf .now) (and-true _ ∙ sym (at .before .before .before .before .fix-allowed .ensures) ∙ at .before .before .before .if1 .taken) refl plan (known plan (at .enum-told .given .1)) (p .put .ensures) (c .before .before .seal .ensures)
 
 returns-2 : tie.Need-returns-2
 returns-2 c =
     let a = c .before .before .before .before .before .before .args in
     let plan = c .before .before .plan .ensures in
-    wrote-nothing posEcef (senderOf (a .sender)) (a .r) (a .buf .now) (sym (c .before .before .before .before .allowed .ensures) ∙ c .before .before .before .if1 .taken) refl plan (known plan (c .enum-told2 .given .1))
+    wrote-nothing posEcef (senderOf (a .sender)) (a .r) (a .buf .now) (and-true _ ∙ sym (c .before .before .before .before .fix-allowed .ensures) ∙ c .before .before .before .if1 .taken) refl plan (known plan (c .enum-told2 .given .1))
 
 returns-3 : tie.Need-returns-3
 returns-3 c =
     let a = c .before .before .before .args in
-    wrote-23 posEcef (senderOf (a .sender)) (a .r) (a .buf .now) (sym (c .before .allowed .ensures) ∙ c .if1 .left)
+    wrote-23 posEcef (senderOf (a .sender)) (a .r) (a .buf .now) (and-true _ ∙ sym (c .before .fix-allowed .ensures) ∙ c .if1 .left)
 
 pub write-pos-ecef-spec : {M : Type 1} → statement M
-write-pos-ecef-spec = tie.close (tie.spec allowed-requires plan-requires enum-told put-requires seal-requires enum-told-2 same-length returns returns-2 returns-3)
+write-pos-ecef-spec = tie.close (tie.spec fix-allowed-requires plan-requires enum-told put-requires seal-requires enum-told-2 same-length returns returns-2 returns-3)

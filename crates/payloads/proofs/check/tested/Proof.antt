@@ -102,29 +102,4 @@ returns-6 : tie.Need-returns-6
 returns-6 c = let w = c .before .before in as-met (w .before .before .before .args .s .now) (fits-as (c .refusal5 .ensures) (c .before .log-fits .ensures)) (w .enum-told3 .given .1)
 
 pub tested-spec : {M : Type 1} → statement M
-tested-spec =
-    tie.close
-    (tie.spec
-    enum-told
-    enum-known-check
-    refusal-requires
-    enum-known-check-2
-    read-s32-requires
-    ns-allowed-requires
-    refusal-requires-2
-    enum-known-check-3
-    read-u8-requires
-    fix-allowed-requires
-    refusal-requires-3
-    enum-told-2
-    is-obs-length-requires
-    refusal-requires-4
-    enum-told-3
-    log-fits-requires
-    refusal-requires-5
-    returns
-    returns-2
-    returns-3
-    returns-4
-    returns-5
-    returns-6)
+tested-spec = tie.close (tie.spec enum-told enum-known-check refusal-requires enum-known-check-2 read-s32-requires ns-allowed-requires refusal-requires-2 enum-known-check-3 read-u8-requires fix-allowed-requires refusal-requires-3 enum-told-2 is-obs-length-requires refusal-requires-4 enum-told-3 log-fits-requires refusal-requires-5 returns returns-2 returns-3 returns-4 returns-5 returns-6)
