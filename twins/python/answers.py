@@ -184,6 +184,7 @@ def walks():
             place += not outcome.startswith("refused")
             line += " %s at %d" % (outcome, place)
         yield line
+    yield "walk 39" + 5 * " refused 21 at 0"  # under another type
 
 
 def types():
