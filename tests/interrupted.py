@@ -39,13 +39,19 @@ def state(pid):
         return stat.read().rsplit(")", 1)[1].split()[0]
 
 
+def runs(pid):
+    """It is the program by now, and no more the script that starts it."""
+    with open("/proc/%d/cmdline" % pid, "rb") as words:
+        return RUN[0].encode() not in words.read()
+
+
 def unread(fd):
     return struct.unpack("i", fcntl.ioctl(fd, termios.FIONREAD, b"\0" * 4))[0]
 
 
 def waits(program, fd):
     """The program has read all there is and waits for more, or has ended."""
-    until(lambda: program.poll() is not None or unread(fd) == 0 and state(program.pid) == "S")
+    until(lambda: program.poll() is not None or runs(program.pid) and unread(fd) == 0 and state(program.pid) == "S")
 
 
 def started(stdin):

@@ -1,11 +1,12 @@
 -- How long a listing is: at most eight bytes for each byte of the capture, and 32. Assumes nothing.
 use mathlib.Core.Path.{_≡_, refl, ap, subst}
-use mathlib.Core.Bool.{Bool, true, false}
+use mathlib.Core.Bool.{Bool, true, false, cond, false≢true}
 use mathlib.Core.List.{List, [], _∷_, _++_, map}
 use Prim.Native.Nat.{ℕ, suc, _+_, _*_, _^_, _≤_, _<_}
 use native.Mathlib.Omega.{arith}
-use lib.Dec.{lit<}
+use lib.Dec.{ltb, lit<}
 use lib.ListN.{length, length-append}
+use borrow.Author.Tests.{ltb-true}
 use Rattle.wire.specs.Number.{Bytes}
 use Rattle.wire.specs.Refusals.{Tests}
 use Rattle.frames.specs.Step.{stepAt, passed, ends, payloadIn}
@@ -53,28 +54,29 @@ five letter a b c d e i j k l m ha hb hc hd he =
 -- ---- an answer has two digits
 
 -- so have all numbers of tests
-abbrev TwoDigits : Tests → Type 0
-TwoDigits [] = Unit {0}
-TwoDigits (t ∷ ts) = (t .1 < 100) × TwoDigits ts
+abbrev twoDigits : Tests → Bool
+twoDigits [] = true
+twoDigits (t ∷ ts) = cond (ltb (t .1) 100) (twoDigits ts) false
 
-two-digits : (ts : Tests) → TwoDigits ts → numberBy ts < 100
-two-digits [] all = lit< tt
-two-digits (t ∷ ts) all = by (t .0) (two-digits ts (all .1))
+number-small : (ts : Tests) → twoDigits ts ≡ true → numberBy ts < 100
+number-small [] e = lit< tt
+number-small (t ∷ ts) e = by (t .0) (ltb (t .1) 100) refl e (number-small ts)
   where
-    by : (passes : Bool) → numberBy ts < 100 → numberBy ((passes, t .1) ∷ ts) < 100
-    by true rest = rest
-    by false rest = all .0
+    by : (passes small : Bool) → ltb (t .1) 100 ≡ small → cond small (twoDigits ts) false ≡ true → (twoDigits ts ≡ true → numberBy ts < 100) → numberBy ((passes, t .1) ∷ ts) < 100
+    by true true q e rest = rest e
+    by false true q e rest = ltb-true (t .1) 100 q
+    by passes false q e rest = absurd (false≢true e)
 
 small-answer : (kind : ℕ) (s : List ℕ) → answerFor kind s < 100
-small-answer kind s = subst (λ (n : ℕ). n < 100) (numbered kind s refl refl) (two-digits (testsBy (checkFor kind) s) (by (checkFor kind)))
+small-answer kind s = subst (λ (n : ℕ). n < 100) (numbered kind s refl refl) (number-small (testsBy (checkFor kind) s) (by (checkFor kind)))
   where
-    by : (k : Check) → TwoDigits (testsBy k s)
-    by Unknown = (lit< tt, tt)
-    by (Length n) = (lit< tt, (lit< tt, (lit< tt, tt)))
-    by (Ns n at) = (lit< tt, (lit< tt, (lit< tt, tt)))
-    by (Fix n at last) = (lit< tt, (lit< tt, (lit< tt, tt)))
-    by Obs = (lit< tt, (lit< tt, tt))
-    by Log = (lit< tt, (lit< tt, tt))
+    by : (k : Check) → twoDigits (testsBy k s) ≡ true
+    by Unknown = refl
+    by (Length n) = refl
+    by (Ns n at) = refl
+    by (Fix n at last) = refl
+    by Obs = refl
+    by Log = refl
 
 -- ---- the lines of a frame
 

@@ -8,6 +8,7 @@ use lib.Dec.{leb}
 use lib.ListN.{length, drop}
 use lib.Seq.{sets, sets-eq, length-sets}
 use borrow.Author.Tests.{le-leb, lt-leb, leb-true}
+use Rattle.wire.specs.Number.{bytesStored}
 use Rattle.wire.specs.Refusals.{refused, given, Answer, leaves}
 use Rattle.frames.specs.Writer.{startingWith}
 use Rattle.frames.specs.Step.{payloadIn}
@@ -25,8 +26,7 @@ use Rattle.epochs.specs.Epoch.{contentIn, contentsOf}
 use Rattle.epochs.specs.declared.collating.Collator.{Collator}
 use Rattle.epochs.specs.declared.collating.Fed.{Fed}
 use Rattle.epochs.specs.declared.collating.Happened.{Happened}
-use Rattle.text.specs.Line.{laid}
-use Rattle.text.proofs.Pending.{Pending, pending-begun, pending-laid, pending-done, pending-last}
+use Rattle.text.proofs.Pending.{Pending, pending-begun, pending-stored, pending-done, pending-last}
 use Rattle.enlisting.specs.Enlisting.{enlistedTo, newOutcomes}
 use Rattle.enlisting.proofs.Growing.{as-of-the-first}
 use Rattle.listing.specs.Listing.{frameShown, frameLine, totalsShown, totalsLine, epochPart, framesText, textOf, mostListed, listAnswer, withListing}
@@ -68,9 +68,9 @@ module _ (s buf : List ℕ) where
     -- a frame's line, then the line of the epoch that it ends
     pub putting-on : {c seated : Collator} {now : List ℕ} {at : ℕ} {cur d : Cursor} {f : Frame} {payload : List ℕ} {answer : ℕ} {fed : Fed} {mid after : List ℕ} {between to : ℕ}
         → Walking s (Putting c now at) cur → nextOf s cur ≡ Next.the-variants.Frame f d → payload ≡ payloadIn s f → answer ≡ answerFor (f .kind) payload
-        → between ≡ (at + length (frameShown f answer)) % 2 ^ 64 → mid ≡ laid now at (frameShown f answer)
+        → between ≡ (at + length (frameShown f answer)) % 2 ^ 64 → mid ≡ bytesStored (frameShown f answer) now at
         → seated ≡ enlistedTo c (f .kind) (f .sender) → fed ≡ fedFrame seated (record { kind = f .kind; sender = f .sender; payload = payload })
-        → to ≡ (between + length (epochPart (fed .happened))) % 2 ^ 64 → after ≡ laid mid between (epochPart (fed .happened)) → Walking s (Putting (fed .collator) after to) d
+        → to ≡ (between + length (epochPart (fed .happened))) % 2 ^ 64 → after ≡ bytesStored (epochPart (fed .happened)) mid between → Walking s (Putting (fed .collator) after to) d
     unfolding framesText newOutcomes
     putting-on {c} {seated} {now} {at} {d = d} {f} {payload} {answer} {fed} w e g a q1 e1 j k q2 e2 =
         walking-on s small w e
@@ -82,35 +82,35 @@ module _ (s buf : List ℕ) where
         let parts = subst (Left now at) (reassoc (frameLine s f) (epochPart (h .happened)) (newText (h .collator) (left s d)) rest) (p .pending) in
         let fed-parts = subst (λ (x : Fed). Left now at (frameLine s f ++ (epochPart (x .happened) ++ (newText (x .collator) (left s d) ++ rest)))) (sym (k ∙ same)) parts in
         let all-parts = subst (λ (n : ℕ). Left now at (frameShown f n ++ (epochPart (fed .happened) ++ (newText (fed .collator) (left s d) ++ rest)))) (sym (a ∙ ap (answerFor (f .kind)) g)) fed-parts in
-        let first = pending-laid (frameShown f answer) (epochPart (fed .happened) ++ (newText (fed .collator) (left s d) ++ rest)) all-parts short room e1 q1 in
-        record { pending = pending-laid (epochPart (fed .happened)) (newText (fed .collator) (left s d) ++ rest) first short room e2 q2 })
+        let first = pending-stored (frameShown f answer) (epochPart (fed .happened) ++ (newText (fed .collator) (left s d) ++ rest)) all-parts short room e1 q1 in
+        record { pending = pending-stored (epochPart (fed .happened)) (newText (fed .collator) (left s d) ++ rest) first short room e2 q2 })
 
     -- the totals
     pub putting-end : {c : Collator} {now : List ℕ} {at : ℕ} {cur d : Cursor} {k : Counts} {after : List ℕ} {to : ℕ}
         → Walking s (Putting c now at) cur → nextOf s cur ≡ Next.the-variants.End d → k ≡ countsIn d
-        → to ≡ (at + length (totalsShown (length s) k)) % 2 ^ 64 → after ≡ laid now at (totalsShown (length s) k)
+        → to ≡ (at + length (totalsShown (length s) k)) % 2 ^ 64 → after ≡ bytesStored (totalsShown (length s) k) now at
         → (to ≡ length (textOf s)) × (Room → after ≡ sets buf 0 (textOf s))
     unfolding framesText newOutcomes
     putting-end {now = now} {at} {k = k} w e q place stored =
         let counts = q ∙ end-counts s small (w .honest) e in
         let all = subst (λ (x : Counts). Left now at (totalsShown (length s) x)) (sym counts) (walking-end s small w e .pending) in
-        pending-done (pending-laid (totalsShown (length s) k) [] (pending-last (totalsShown (length s) k) all) short room stored place)
+        pending-done (pending-stored (totalsShown (length s) k) [] (pending-last (totalsShown (length s) k) all) short room stored place)
 
-laid-nothing : (buf : List ℕ) (at : ℕ) → laid buf at [] ≡ buf
-unfolding laid
-laid-nothing buf at = either (leb (at + 0) (length buf))
+stored-nothing : (buf : List ℕ) (at : ℕ) → bytesStored [] buf at ≡ buf
+unfolding bytesStored
+stored-nothing buf at = either (leb (at + 0) (length buf))
   where
     either : (t : Bool) → cond t buf buf ≡ buf
     either true = refl
     either false = refl
 
 -- nothing is put where no epoch ends
-pub puts-nothing : (buf : List ℕ) (at : ℕ) (h : Happened) → at < 2 ^ 64 → epochPart h ≡ [] → (at ≡ (at + length (epochPart h)) % 2 ^ 64) × (buf ≡ laid buf at (epochPart h))
-puts-nothing buf at h small e = (omega (arith, small, ap length e), sym (ap (laid buf at) e ∙ laid-nothing buf at))
+pub puts-nothing : (buf : List ℕ) (at : ℕ) (h : Happened) → at < 2 ^ 64 → epochPart h ≡ [] → (at ≡ (at + length (epochPart h)) % 2 ^ 64) × (buf ≡ bytesStored (epochPart h) buf at)
+puts-nothing buf at h small e = (omega (arith, small, ap length e), sym (ap (λ (t : List ℕ). bytesStored t buf at) e ∙ stored-nothing buf at))
 
-pub puts : (buf : List ℕ) (at : ℕ) {to : ℕ} {after : List ℕ} {h k : Happened} → h ≡ k → to ≡ (at + length (epochPart k)) % 2 ^ 64 → after ≡ laid buf at (epochPart k)
-    → (to ≡ (at + length (epochPart h)) % 2 ^ 64) × (after ≡ laid buf at (epochPart h))
-puts buf at e q r = (q ∙ ap (λ (h : Happened). (at + length (epochPart h)) % 2 ^ 64) (sym e), r ∙ ap (λ (h : Happened). laid buf at (epochPart h)) (sym e))
+pub puts : (buf : List ℕ) (at : ℕ) {to : ℕ} {after : List ℕ} {h k : Happened} → h ≡ k → to ≡ (at + length (epochPart k)) % 2 ^ 64 → after ≡ bytesStored (epochPart k) buf at
+    → (to ≡ (at + length (epochPart h)) % 2 ^ 64) × (after ≡ bytesStored (epochPart h) buf at)
+puts buf at e q r = (q ∙ ap (λ (h : Happened). (at + length (epochPart h)) % 2 ^ 64) (sym e), r ∙ ap (λ (h : Happened). bytesStored (epochPart h) buf at) (sym e))
 
 -- ---- what `list` answers
 

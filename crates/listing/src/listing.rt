@@ -5,7 +5,7 @@ ghost use lib.Dec.{leb};
 ghost use lib.ListN.{length};
 ghost use lib.Seq.{sets};
 ghost use Rattle.frames.specs.Writer.{writtenAnswer};
-ghost use Rattle.text.specs.Line.{laid};
+ghost use Rattle.wire.specs.Number.{bytesStored};
 ghost use Rattle.listing.specs.Listing.{frameShown, totalsShown, epochPart, textOf, mostListed, listAnswer, withListing};
 use epochs::Collator;
 use epochs::Happened;
@@ -18,7 +18,7 @@ use frames::Written;
 // `F` offset type sender length payload-answer
 fn put_frame(buf: &mut [u8], at: usize, f: Frame, answer: u8) -> usize
     ensures { λ r. ⌜ r ≡ (at + length (frameShown f answer)) % 2 ^ 64 ⌝ }
-    ensures { λ _. ⌜ now (buf .exit) ≡ laid (now (buf .entry)) at (frameShown f answer) ⌝ }
+    ensures { λ _. ⌜ now (buf .exit) ≡ bytesStored (frameShown f answer) (now (buf .entry)) at ⌝ }
 {
     text::put_line(
         buf,
@@ -37,7 +37,7 @@ fn put_frame(buf: &mut [u8], at: usize, f: Frame, answer: u8) -> usize
 // `E` sender wn tow n observations, where an epoch was reported
 fn put_epoch(buf: &mut [u8], at: usize, happened: Happened) -> usize
     ensures { λ r. ⌜ r ≡ (at + length (epochPart happened)) % 2 ^ 64 ⌝ }
-    ensures { λ _. ⌜ now (buf .exit) ≡ laid (now (buf .entry)) at (epochPart happened) ⌝ }
+    ensures { λ _. ⌜ now (buf .exit) ≡ bytesStored (epochPart happened) (now (buf .entry)) at ⌝ }
 {
     match happened {
         Happened::Refused(_) => at,
@@ -62,7 +62,7 @@ fn put_epoch(buf: &mut [u8], at: usize, happened: Happened) -> usize
 // `T` length, frame bytes, junk, bad, short
 fn put_totals(buf: &mut [u8], at: usize, n: usize, c: Counts) -> usize
     ensures { λ r. ⌜ r ≡ (at + length (totalsShown n c)) % 2 ^ 64 ⌝ }
-    ensures { λ _. ⌜ now (buf .exit) ≡ laid (now (buf .entry)) at (totalsShown n c) ⌝ }
+    ensures { λ _. ⌜ now (buf .exit) ≡ bytesStored (totalsShown n c) (now (buf .entry)) at ⌝ }
 {
     text::put_line(
         buf,

@@ -57,7 +57,7 @@ fn log_fits(n: usize) -> bool
     ensures { λ r. ⌜ r ≡ logLength n ⌝ }
 {
     if 1 <= n {
-        return n - 1 <= 254;
+        return n <= 255;
     }
     false
 }

@@ -5,10 +5,11 @@ use Prim.Native.Nat.{ℕ, suc, _+_, _*_, _-_, _%_, _^_, _≤_, _<_}
 use native.Mathlib.Omega.{arith}
 use lib.ListN.{length, getD, set, take, length-append}
 use lib.Seq.{sets, take-all, take-suc}
+use Rattle.wire.specs.Number.{bytesStored}
+use Rattle.wire.proofs.Layouts.{bytes-sets, bytes-nowhere}
 use Rattle.text.specs.Decimal.{decimal}
-use Rattle.text.specs.Line.{fields, line, laid}
+use Rattle.text.specs.Line.{fields, line}
 use Rattle.text.proofs.Filling.{last-first, Filling, filling-begun, filling-length, filling-more}
-use Rattle.text.proofs.Pending.{laid-fits, laid-unfit}
 
 pub length-fields : (n : ℕ) (ns : List ℕ) → length (fields (n ∷ ns)) ≡ length (decimal n) + 1 + length (fields ns)
 unfolding fields
@@ -106,7 +107,7 @@ module _ (buf : List ℕ) (end : ℕ) (ns : List ℕ) where
 module _ (letter : ℕ) (ns buf : List ℕ) (at : ℕ) {n end : ℕ} (size : n ≡ length (fields ns) + 2) (past : end ≡ (at + n) % 2 ^ 64) where
   -- what is answered, and the buffer after it
   abbrev pub Put : List ℕ → Type 0
-  Put after = (end ≡ (at + length (line letter ns)) % 2 ^ 64) × (after ≡ laid buf at (line letter ns))
+  Put after = (end ≡ (at + length (line letter ns)) % 2 ^ 64) × (after ≡ bytesStored (line letter ns) buf at)
 
   long : n ≡ length (line letter ns)
   long = size ∙ sym (length-line letter ns)
@@ -115,7 +116,7 @@ module _ (letter : ℕ) (ns buf : List ℕ) (at : ℕ) {n end : ℕ} (size : n �
   ended = past ∙ ap (λ (k : ℕ). (at + k) % 2 ^ 64) long
 
   pub line-unfit : length buf < at + n → Put buf
-  line-unfit h = (ended, sym (laid-unfit buf at (line letter ns) (omega (arith, h, long))))
+  line-unfit h = (ended, sym (bytes-nowhere (line letter ns) buf at (omega (arith, h, long))))
 
   module _ (small : length buf < 2 ^ 64) (h : at + n ≤ length buf) where
     -- it ends there, with nothing wrapped
@@ -131,5 +132,5 @@ module _ (letter : ℕ) (ns buf : List ℕ) (at : ℕ) {n end : ℕ} (size : n �
               ∙ ap₂ (λ (j k : ℕ). sets (set (set buf at letter) j 10) k (fields ns)) last behind
               ∙ sym (last-first (set buf at letter) (suc at) (fields ns) (10 ∷ []))
               ∙ line-stored letter ns buf at
-              ∙ sym (laid-fits buf at (line letter ns) (omega (arith, h, long))),
+              ∙ sym (bytes-sets (line letter ns) buf at (omega (arith, h, long))),
         )
