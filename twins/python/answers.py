@@ -139,7 +139,9 @@ def bits(flags, table):
     return "".join(" %d" % (flags >> k & 1) for k in table.values())
 
 
-def entry(payload, i):
+def entry(payload, i, kind=OBS):
+    if kind != OBS:
+        return "refused 21"
     if not is_obs(len(payload)):
         return "refused 22"
     if i >= (len(payload) - 7) // 16:
@@ -175,14 +177,14 @@ def observations():
 
 
 def walks():
-    """A reader over each of the rover's payloads, asked five times: it goes on after an observation, and stays at a refusal."""
+    """A reader over each of the rover's payloads and one of another type, asked five times: it stays at a refusal."""
     s, t = mixed(3, 37, 300), mixed(9, 41, 300)
-    for payload in s[:39], s[:8], s[:7], t[:55]:
-        place, line = 0, "walk %d" % len(payload)
+    for kind, payload in (OBS, s[:39]), (OBS, s[:8]), (OBS, s[:7]), (OBS, t[:55]), (0x004A, s[:39]):
+        at, line = 0, "walk %d" % len(payload)
         for _ in range(5):
-            outcome = entry(payload, place)
-            place += not outcome.startswith("refused")
-            line += " %s at %d" % (outcome, place)
+            outcome = entry(payload, at, kind)
+            at += not outcome.startswith("refused")
+            line += " %s at %d" % (outcome, at)
         yield line
 
 
@@ -201,10 +203,10 @@ def fed(name, sorter, *packets):
 
 def replayed(name, data):
     sorter = Sorter(1228, 0)
-    outcome = [sorter.feed(kind, sender, payload) for _, kind, sender, payload in reading(data, False)[0]]
-    epochs = [t for t in outcome if t.startswith(" epoch")]
+    outcomes = [sorter.feed(kind, sender, payload) for _, kind, sender, payload in reading(data, False)[0]]
+    epochs = [outcome for outcome in outcomes if outcome.startswith(" epoch")]
     yield name + "".join(epochs)
-    yield "%s 0 %d %d" % (name, *(sum(t.startswith(" epoch %d " % s) for t in epochs) for s in (1228, 0)))
+    yield "%s 0 %d %d" % (name, *(sum(epoch.startswith(" epoch %d " % s) for epoch in epochs) for s in (1228, 0)))
 
 
 def collated():

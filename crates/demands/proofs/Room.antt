@@ -8,17 +8,15 @@ use borrow.Author.Tests.{le-leb}
 use Rattle.wire.specs.Number.{Bytes}
 use Rattle.wire.specs.Refusals.{given, Answer}
 use Rattle.wire.proofs.Ordered.{exactly-all}
-use Rattle.listing.specs.Listing.{textOf, listAnswer, listedAs, listed}
+use Rattle.listing.specs.Listing.{textOf, listing, listAnswer, listedAs, withListing}
 use Rattle.listing.proofs.Sizes.{text-size}
-use Rattle.demands.specs.Order.{listing}
-use Rattle.demands.proofs.Order.{lists-ordered}
 
 module _ (s buf : List ℕ) (bytes : Bytes s) (short : length s ≤ 65536) (room : 8 * length s + 32 ≤ length buf) where
   answered : listAnswer s (length buf) ≡ given (length (textOf s))
+  unfolding listAnswer
   answered =
       let fits : length (textOf s) ≤ length buf = omega (arith, text-size s bytes short, room) in
-      lists-ordered s (length buf)
-      ∙ exactly-all (length (textOf s)) (listing s (length buf)) (length (textOf s)) .1 ((le-leb (length s) 65536 short, (le-leb (length (textOf s)) (length buf) fits, tt)), refl)
+      exactly-all (length (textOf s)) (listing s (length buf)) (length (textOf s)) .1 ((le-leb (length s) 65536 short, (le-leb (length (textOf s)) (length buf) fits, tt)), refl)
 
-  pub room-enough : (listAnswer s (length buf) ≡ given (length (textOf s))) × (listed s buf ≡ textOf s ++ drop (length (textOf s)) buf)
+  pub room-enough : (listAnswer s (length buf) ≡ given (length (textOf s))) × (withListing s buf ≡ textOf s ++ drop (length (textOf s)) buf)
   room-enough = (answered, ap (λ (a : Answer ℕ). listedAs a s buf) answered)

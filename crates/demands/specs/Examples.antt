@@ -15,14 +15,13 @@ use Rattle.frames.specs.declared.step.Step.{Step}
 use Rattle.frames.specs.declared.step.Step.the-variants.{Finished, Bad, Found}
 use Rattle.frames.specs.declared.cursor.Counts.{Counts}
 use Rattle.frames.specs.declared.cursor.Next as Next
+use Rattle.observation.specs.Edition.{first}
 use Rattle.observation.specs.Phase.{phaseOf, readPhase}
 use Rattle.observation.specs.declared.phase.Phase.{Phase}
-use Rattle.payloads.specs.Table.{readFor}
+use Rattle.payloads.specs.Payloads.{readFor}
 use Rattle.payloads.specs.declared.Message.{Message}
 use Rattle.payloads.specs.declared.Message.the-variants as M
-use Rattle.epochs.specs.Packet.{obsKind}
-use Rattle.epochs.specs.Collator.{made}
-use Rattle.epochs.specs.Epoch.{fedFrame}
+use Rattle.epochs.specs.Collator.{fedFrame, made}
 use Rattle.frames.specs.Frame.{Content}
 use Rattle.epochs.specs.declared.collating.Happened.{Happened}
 use Rattle.epochs.specs.declared.collating.Happened.the-variants as H
@@ -46,7 +45,7 @@ pub data Example : Type 0 where
 
 -- an observation frame of a sender, with this n_obs and no observations
 abbrev pub packetFrom : ℕ → ℕ → Content
-packetFrom sender nObs = record { kind = obsKind; sender = sender; payload = 0 ∷ 0 ∷ 0 ∷ 0 ∷ 0 ∷ 0 ∷ nObs ∷ [] }
+packetFrom sender nObs = record { kind = first .kind; sender = sender; payload = 0 ∷ 0 ∷ 0 ∷ 0 ∷ 0 ∷ 0 ∷ nObs ∷ [] }
 
 -- an example, over the definitions that the contracts cite
 abbrev pub Holds : Example → Type 0

@@ -1,6 +1,8 @@
+pub mod Demand1
+pub mod Demand2
+pub mod Demand3
+pub mod Exported
 pub mod Examples
 pub mod Idle
-pub mod Order
 pub mod Handed
-pub mod Reported
 pub mod Noise

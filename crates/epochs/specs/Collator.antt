@@ -37,8 +37,11 @@ seatNumber Nowhere = 0
 seatNumber (At i) = i
 
 -- what passes them is a packet for its sender's place
+abbrev pub ownPlace : List ℕ → Content → ℕ × Packet
+ownPlace roster x = (seatNumber (seatOf roster (x .sender) 0), packetIn (x .payload))
+
 unfoldable pub forPlace : List ℕ → Content → Answer (ℕ × Packet)
-forPlace roster x = ordered (feeding roster x) (seatNumber (seatOf roster (x .sender) 0), packetIn (x .payload))
+forPlace roster x = ordered (feeding roster x) (ownPlace roster x)
 
 abbrev pub recognisedAnswer : Recognised → Answer (ℕ × Packet)
 recognisedAnswer (R.For i p) = given (i, p)

@@ -7,73 +7,84 @@ use native.Mathlib.Omega.{arith}
 use lib.ListN.{length, getD, set, length-take}
 use borrow.Author.Tests.{le-leb, lt-leb}
 use Rattle.wire.specs.Number.{Bytes}
+use Rattle.wire.specs.Refusals.{refused, given, Answer}
 use Rattle.wire.specs.Field.{decode}
 use Rattle.crc.specs.Table.{tabulated}
 use Rattle.crc.proofs.Table.{listed-at}
-use Rattle.epochs.specs.Packet.{judged}
-use Rattle.epochs.specs.Collator.{idle, stepped, told, acted, rosterOf, fed}
-use Rattle.epochs.specs.declared.judging.Packet.{Packet}
-use Rattle.epochs.specs.declared.judging.Judged.{Judged}
-use Rattle.epochs.specs.declared.judging.Judged.the-variants as J
-use Rattle.epochs.specs.declared.placing.Ended.{Ended}
-use Rattle.epochs.specs.declared.placing.Place.{Place}
-use Rattle.epochs.specs.declared.placing.Stepped.{Stepped}
+use Rattle.frames.specs.Frame.{Content}
+use Rattle.packets.specs.declared.packet.Packet.{Packet}
+use Rattle.packets.proofs.Recognitions.{formed, n-small, time-small}
+use Rattle.runs.specs.declared.running.Ended.{Ended}
+use Rattle.runs.specs.declared.running.Ended.the-variants.{Not, Whole}
+use Rattle.runs.specs.declared.running.Stepped.{Stepped}
+use Rattle.runs.specs.Run.{stepped}
+use Rattle.epochs.specs.Collator.{forPlace, idle, outcome, acted, rosterOf, fedFrame}
+use Rattle.epochs.specs.declared.collating.Place.{Place}
 use Rattle.epochs.specs.declared.collating.Report.{Report}
 use Rattle.epochs.specs.declared.collating.Fed.{Fed}
 use Rattle.epochs.specs.declared.collating.Happened.{Happened}
 use Rattle.epochs.specs.declared.collating.Happened.the-variants as H
-use Rattle.epochs.proofs.Judgements.{judged-below, judged-formed, judged-n, judged-time}
+use Rattle.epochs.proofs.Placings.{placed, placed-below}
 use Rattle.epochs.proofs.Reports.{SmallIn, Small, report-small}
-use Rattle.exports.specs.State.{placeIn, placeStored, stateIn}
-use Rattle.exports.specs.Feed.{reportFields, reportRow, happenedNumber, happenedStored, FedIn, untouched, cameOut, takenIn, actedIn, fedIn}
+use Rattle.exports.specs.Lent.{atFront}
+use Rattle.exports.specs.State.{stateSize, placeIn, placeStored, stateIn}
+use Rattle.exports.specs.Feed.{reportFields, reportSize, reportRow, endedNumber, endedStored, forPlaceIn, stepIn, FedIn, cameOut, fedIn}
 use Rattle.exports.proofs.Parts.{stored-front, decode-stored}
 use Rattle.exports.proofs.States.{SmallPacket, stepped-small, state-place}
 
-module _ (s : List ℕ) (kind sender : ℕ) (payload report : List ℕ) where
+module _ (s : List ℕ) (x : Content) (report : List ℕ) where
   -- an answer, a state and a report as they have to be
   abbrev pub Out : ℕ → List ℕ → List ℕ → Type 0
-  Out n t u =
-      (n ≡ fedIn s kind sender payload report .answer) × ((t ≡ fedIn s kind sender payload report .state) × (u ≡ fedIn s kind sender payload report .report))
+  Out n t u = (n ≡ fedIn s x report .answer) × ((t ≡ fedIn s x report .state) × (u ≡ fedIn s x report .report))
 
-  pub came : {out : FedIn} → fedIn s kind sender payload report ≡ out → Out (out .answer) (out .state) (out .report)
-  came e = (ap (λ (x : FedIn). x .answer) (sym e), (ap (λ (x : FedIn). x .state) (sym e), ap (λ (x : FedIn). x .report) (sym e)))
-
-  pub state-short : length s < 105 → fedIn s kind sender payload report ≡ untouched s report
+  pub came : {a : Answer (ℕ × Packet)} → forPlaceIn s (length report) x ≡ a
+      → Out (cameOut s x report a .answer) (cameOut s x report a .state) (cameOut s x report a .report)
   unfolding fedIn
-  state-short h = rw (lt-leb 105 (length s) h)
+  came e =
+      let out = ap (cameOut s x report) (sym e) in
+      (ap (λ (o : FedIn). o .answer) out, (ap (λ (o : FedIn). o .state) out, ap (λ (o : FedIn). o .report) out))
 
-  module _ (long : 105 ≤ length s) where
-    pub report-short : length report < 11 → fedIn s kind sender payload report ≡ untouched s report
-    unfolding fedIn
-    report-short h = rw (le-leb 105 (length s) long, lt-leb 11 (length report) h)
+  pub state-short : length s < stateSize → forPlaceIn s (length report) x ≡ refused 32
+  unfolding forPlaceIn
+  state-short h = rw (lt-leb stateSize (length s) h)
 
-    module _ (room : 11 ≤ length report) where
-      pub fed-acted : fedIn s kind sender payload report ≡ actedIn s report sender (judged (rosterOf (stateIn s)) kind sender payload)
-      unfolding fedIn
-      fed-acted = rw (le-leb 105 (length s) long, le-leb 11 (length report) room)
+  module _ (long : stateSize ≤ length s) where
+    pub report-short : length report < reportSize → forPlaceIn s (length report) x ≡ refused 32
+    unfolding forPlaceIn
+    report-short h = rw (le-leb stateSize (length s) long, lt-leb reportSize (length report) h)
 
-      pub fed-refused : {n : ℕ} → judged (rosterOf (stateIn s)) kind sender payload ≡ J.Refused n → fedIn s kind sender payload report ≡ cameOut s report (H.Refused n)
-      fed-refused e = fed-acted ∙ ap (actedIn s report sender) e
+    module _ (room : reportSize ≤ length report) where
+      -- with room for both the frame is what it is to the collator
+      pub as-collator : forPlaceIn s (length report) x ≡ forPlace (rosterOf (stateIn s)) x
+      unfolding forPlaceIn forPlace
+      as-collator = rw (le-leb stateSize (length s) long, le-leb reportSize (length report) room)
 
-      pub fed-taken : {i : ℕ} {p : Packet} → judged (rosterOf (stateIn s)) kind sender payload ≡ J.For i p → fedIn s kind sender payload report ≡ takenIn s report sender i p
-      fed-taken e = fed-acted ∙ ap (actedIn s report sender) e
-
-      -- the same, from the calls that it is made of
-      pub fed-told : {i : ℕ} {p : Packet} {x : Ended} {n : ℕ} {t u : List ℕ} → judged (rosterOf (stateIn s)) kind sender payload ≡ J.For i p
-          → x ≡ stepped (placeIn s i) p .ended → t ≡ placeStored s i (stepped (placeIn s i) p .place)
-          → n ≡ happenedNumber (told sender p x) → u ≡ happenedStored (told sender p x) report → Out n t u
-      fed-told {i} {p} e q r v w =
-          let out = came (fed-taken e) in (
-            v ∙ ap (λ (x : Ended). happenedNumber (told sender p x)) q ∙ out .0,
-            (r ∙ out .1 .0, w ∙ ap (λ (x : Ended). happenedStored (told sender p x) report) q ∙ out .1 .1),
+      -- a packet, from the calls that take it
+      pub came-taken : {i : ℕ} {p : Packet} {y : Ended} {n : ℕ} {t u : List ℕ} → forPlace (rosterOf (stateIn s)) x ≡ given (i, p)
+          → y ≡ stepIn s i p .ended → t ≡ placeStored s i (record { run = stepIn s i p .run }) → n ≡ endedNumber y → u ≡ endedStored (x .sender) p y report → Out n t u
+      came-taken {i} {p} e q r v w =
+          let out = came (as-collator ∙ e) in (
+            v ∙ ap endedNumber q ∙ out .0,
+            (r ∙ out .1 .0, w ∙ ap (λ (y : Ended). endedStored (x .sender) p y report) q ∙ out .1 .1),
           )
 
 -- the place of a packet is one of the eight
-pub eight : (s : List ℕ) (kind sender : ℕ) (payload : List ℕ) {i : ℕ} {p : Packet} → judged (rosterOf (stateIn s)) kind sender payload ≡ J.For i p → i < 8
+pub eight : (s : List ℕ) (x : Content) {i : ℕ} {p : Packet} → forPlace (rosterOf (stateIn s)) x ≡ given (i, p) → i < 8
 unfolding tabulated
-eight s kind sender payload e = omega (arith, simp length-take at (judged-below (rosterOf (stateIn s)) kind sender payload e))
+eight s x e = omega (arith, simp length-take at (placed-below (rosterOf (stateIn s)) x e))
 
 -- ---- tied to the collator
+
+-- what happened, as a number and as the bytes of a report
+abbrev pub happenedNumber : Happened → ℕ
+happenedNumber (H.Refused n) = n
+happenedNumber H.Taken = 0
+happenedNumber (H.Epoch e) = 1
+
+abbrev pub happenedStored : Happened → List ℕ → List ℕ
+happenedStored (H.Refused n) buf = buf
+happenedStored H.Taken buf = buf
+happenedStored (H.Epoch e) buf = atFront reportFields (reportRow e) buf
 
 -- what came out of the bytes is what came out of the collator
 pub record Tied (out : FedIn) (f : Fed) (report : List ℕ) : Type 0 where
@@ -81,42 +92,49 @@ pub record Tied (out : FedIn) (f : Fed) (report : List ℕ) : Type 0 where
   pub answer : out .answer ≡ happenedNumber (f .happened)
   pub reported : out .report ≡ happenedStored (f .happened) report
 
-module _ (s : List ℕ) (kind sender : ℕ) (payload report : List ℕ) (long : 105 ≤ length s) (room : 11 ≤ length report) (bytes : Bytes payload) where
-  -- feeding the bytes is feeding the collator that they stand for
-  pub feeds : Tied (fedIn s kind sender payload report) (fed (stateIn s) kind sender payload) report
-  unfolding fed
-  feeds = subst (λ (out : FedIn). Tied out (fed (stateIn s) kind sender payload) report) (sym (fed-acted s kind sender payload report long room)) (by (judged (rosterOf (stateIn s)) kind sender payload) refl)
-    where
-      small : {i : ℕ} {p : Packet} → judged (rosterOf (stateIn s)) kind sender payload ≡ J.For i p → SmallPacket p
-      small e =
-          let roster = rosterOf (stateIn s) in
-          let time = judged-time roster kind sender payload bytes e in
-          let few = judged-formed roster kind sender payload e .few in
-          let n = judged-n roster kind sender payload bytes e in
-          record { tow = time .0; wn = time .1; n = omega arith; observations = omega arith }
+module _ (sender : ℕ) (p : Packet) where
+  number-outcome : (y : Ended) → endedNumber y ≡ happenedNumber (outcome sender p y)
+  number-outcome Not = refl
+  number-outcome (Whole total) = refl
 
-      by : (j : Judged) → judged (rosterOf (stateIn s)) kind sender payload ≡ j → Tied (actedIn s report sender j) (acted (stateIn s) sender j) report
-      by (J.Refused n) e = record { state = refl; answer = refl; reported = refl }
-      by (J.For i p) e =
-          let h : i < 8 = eight s kind sender payload e in
+  stored-outcome : (y : Ended) (report : List ℕ) → endedStored sender p y report ≡ happenedStored (outcome sender p y) report
+  stored-outcome Not report = refl
+  stored-outcome (Whole total) report = refl
+
+module _ (s : List ℕ) (x : Content) (report : List ℕ) (long : stateSize ≤ length s) (room : reportSize ≤ length report) (bytes : Bytes (x .payload)) where
+  -- feeding the bytes is feeding the collator that they stand for
+  pub feeds : Tied (fedIn s x report) (fedFrame (stateIn s) x) report
+  unfolding fedIn fedFrame
+  feeds = subst (λ (a : Answer (ℕ × Packet)). Tied (cameOut s x report a) (fedFrame (stateIn s) x) report) (sym (as-collator s x report long room)) (by (forPlace (rosterOf (stateIn s)) x) refl)
+    where
+      small : {i : ℕ} {p : Packet} → forPlace (rosterOf (stateIn s)) x ≡ given (i, p) → SmallPacket p
+      small e =
+          let own = placed (rosterOf (stateIn s)) x e .1 in
+          let time = time-small (x .kind) (x .payload) own bytes in
+          let n = n-small (x .kind) (x .payload) own bytes in
+          record { tow = time .0; wn = time .1; n = omega arith; observations = omega (arith, formed (x .kind) (x .payload) own .few) }
+
+      by : (a : Answer (ℕ × Packet)) → forPlace (rosterOf (stateIn s)) x ≡ a → Tied (cameOut s x report a) (acted (stateIn s) (x .sender) a) report
+      by (refused n) e = record { state = refl; answer = refl; reported = refl }
+      by (given (i, p)) e =
+          let h : i < 8 = eight s x e in
           let c = stateIn s in
           let own : getD (tabulated (placeIn s) 8) i idle ≡ placeIn s i = listed-at (placeIn s) 8 i idle h in
-          let same : stepped (placeIn s i) p ≡ stepped (getD (c .places) i idle) p = ap (λ (q : Place). stepped q p) (sym own) in
+          let same : stepIn s i p ≡ stepped (getD (c .places) i idle .run) p = ap (λ (q : Place). stepped (q .run) p) (sym own) in
           record {
             state =
-                state-place s long i h (stepped (placeIn s i) p .place) (stepped-small p (small e) (placeIn s i))
-                ∙ ap (λ (x : Stepped). record { places = set (c .places) i (x .place); roster = c .roster; count = c .count }) same;
-            answer = ap (λ (x : Stepped). happenedNumber (told sender p (x .ended))) same;
-            reported = ap (λ (x : Stepped). happenedStored (told sender p (x .ended)) report) same;
+                state-place s long i h (record { run = stepIn s i p .run }) (stepped-small p (small e) (placeIn s i .run))
+                ∙ ap (λ (y : Stepped). record { places = set (c .places) i (record { run = y .run }); roster = c .roster; count = c .count }) same;
+            answer = number-outcome (x .sender) p (stepIn s i p .ended) ∙ ap (λ (y : Stepped). happenedNumber (outcome (x .sender) p (y .ended))) same;
+            reported = stored-outcome (x .sender) p (stepIn s i p .ended) report ∙ ap (λ (y : Stepped). happenedStored (outcome (x .sender) p (y .ended)) report) same;
           }
 
   -- an epoch's report is read back as it is
-  pub report-back : {e : Report} → sender < 65536 → fed (stateIn s) kind sender payload .happened ≡ H.Epoch e
-      → decode reportFields (fedIn s kind sender payload report .report) 0 ≡ reportRow e
+  pub report-back : {e : Report} → x .sender < 65536 → fedFrame (stateIn s) x .happened ≡ H.Epoch e → decode reportFields (fedIn s x report .report) 0 ≡ reportRow e
   report-back {e} h q =
-      let small : Small e = subst SmallIn q (report-small (stateIn s) kind sender payload bytes h) in
+      let small : Small e = subst SmallIn q (report-small (stateIn s) x bytes h) in
       let n : e .n < 256 = omega (arith, small .n) in
-      ap (λ (t : List ℕ). decode reportFields t 0) (feeds .reported ∙ ap (λ (x : Happened). happenedStored x report) q ∙ sym (stored-front reportFields (reportRow e) report room))
+      ap (λ (t : List ℕ). decode reportFields t 0) (feeds .reported ∙ ap (λ (y : Happened). happenedStored y report) q ∙ sym (stored-front reportFields (reportRow e) report room))
       ∙ decode-stored reportFields (reportRow e) report 0 (omega arith)
       (record { fits = small .sender }, (record { fits = small .wn }, (record { fits = small .tow }, (record { fits = n }, (record { fits = small .observations }, tt)))))
       (refl, (refl, (refl, (refl, (refl, tt)))))

@@ -1,8 +1,8 @@
 pub mod Parts
 pub mod Tables
-pub mod Answered
+pub mod LentRows
 pub mod States
 pub mod Feeds
 pub mod Makes
 pub mod Lives
-pub mod Refusals
+pub mod Untouched

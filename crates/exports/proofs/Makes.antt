@@ -1,50 +1,79 @@
 -- A collator made in bytes: what `sbp_collator` answers, case by case, and that the bytes stand for the collator of that roster.
 -- Assumes nothing.
 use mathlib.Core.Path.{_≡_, refl, sym, ap, _∙_, subst}
-use mathlib.Core.Bool.{Bool, true, false, _&&_, cond}
+use mathlib.Core.Bool.{Bool, true, false, _&&_, not, cond}
 use mathlib.Core.List.{List, _++_}
 use Prim.Native.Nat.{ℕ, _≤_, _<_}
 use native.Mathlib.Omega.{arith}
-use lib.Dec.{leb, eqb}
+use lib.Dec.{leb}
 use lib.ListN.{length, getD, replicate, length-append, getD-replicate}
 use lib.Seq.{length-take-le, getD-take}
-use borrow.Author.Tests.{le-leb, lt-leb, eq-eqb, ne-eqb}
-use Rattle.epochs.specs.Collator.{idle, fresh, made}
+use borrow.Author.Tests.{le-leb, lt-leb}
+use Rattle.wire.specs.Refusals.{refused, given, Answer, ordered, leaves}
+use Rattle.packets.proofs.Joined.{andThen, ordered-joined}
+use Rattle.epochs.specs.Search.{repeats}
+use Rattle.epochs.specs.Collator.{idle, fresh, rostering, asMade, made}
 use Rattle.epochs.specs.declared.collating.Collator.{Collator}
 use Rattle.epochs.specs.declared.collating.Made.{Made}
 use Rattle.epochs.proofs.Making.{accepted}
-use Rattle.epochs.proofs.Rosters.{with-zeros}
-use Rattle.exports.specs.State.{stateIn, collatorStored}
-use Rattle.exports.specs.Feed.{madeAnswer, madeStored}
+use Rattle.epochs.proofs.Searches.{with-zeros}
+use Rattle.exports.specs.Lent.{zeroOr, roomFor}
+use Rattle.exports.specs.State.{stateSize, stateIn, collatorStored}
+use Rattle.exports.specs.Feed.{madeIn, madeAnswer, madeStored}
 use Rattle.exports.proofs.States.{Held, Small, state-stored, length-collator}
 
-module _ (roster s : List ℕ) {m : Made} (e : m ≡ made roster) where
-  number : m .number ≡ made roster .number
-  number = ap (λ (m : Made). m .number) e
+-- an accepted roster passes its tests
+passes : (roster : List ℕ) → made roster .number ≡ 0 → ordered (rostering roster) (fresh roster) ≡ given (fresh roster)
+unfolding made
+passes roster = by (leb 1 (length roster) && leb (length roster) 8) (not (repeats roster))
+  where
+    by : (t u : Bool) → asMade (cond t (cond u (given (fresh roster)) (refused 42)) (refused 41)) .number ≡ 0
+        → cond t (cond u (given (fresh roster)) (refused 42)) (refused 41) ≡ given (fresh roster)
+    by true true e = refl
+    by true false e = absurd (omega (arith, e))
+    by false u e = absurd (omega (arith, e))
 
-  pub made-refused : (m .number ≡ 0 → ⊥) → (m .number ≡ madeAnswer roster (length s)) × (s ≡ madeStored roster s)
-  unfolding madeAnswer madeStored
-  made-refused h =
-      let other = ne-eqb (made roster .number) 0 (λ z. h (number ∙ z)) in
-      (number ∙ rw other, rw other)
+module _ (roster s : List ℕ) where
+  -- a number and a state as they have to be
+  abbrev Out : ℕ → List ℕ → Type 0
+  Out n t = (n ≡ madeAnswer roster (length s)) × (t ≡ madeStored roster s)
 
-  module _ (zero : m .number ≡ 0) where
-    none : made roster .number ≡ 0
-    none = sym number ∙ zero
+  came : {a : Answer Collator} → a ≡ madeIn roster (length s) → Out (zeroOr a) (leaves collatorStored a s)
+  came e = (ap zeroOr e, ap (λ (a : Answer Collator). leaves collatorStored a s) e)
 
-    pub made-short : length s < 105 → (32 ≡ madeAnswer roster (length s)) × (s ≡ madeStored roster s)
-    unfolding madeAnswer madeStored
-    made-short h = (rw (eq-eqb (made roster .number) 0 none, lt-leb 105 (length s) h), rw (eq-eqb (made roster .number) 0 none, lt-leb 105 (length s) h))
+  -- the roster decides, and then the room
+  steps : {a : Answer Collator} → ordered (rostering roster) (fresh roster) ≡ a → andThen a (ordered (roomFor stateSize (length s)) (fresh roster)) ≡ madeIn roster (length s)
+  unfolding madeIn
+  steps e =
+      ap (λ (a : Answer Collator). andThen a (ordered (roomFor stateSize (length s)) (fresh roster))) (sym e)
+      ∙ sym (ordered-joined (fresh roster) (fresh roster) (roomFor stateSize (length s)) (rostering roster))
 
-    pub made-few : m .collator .count ≤ 8
-    made-few = let a = accepted roster none in omega (arith, ap (λ (m : Made). m .collator .count) (e ∙ a .whole), a .few)
+  module _ {m : Made} (e : m ≡ made roster) where
+    pub made-refused : (m .number ≡ 0 → ⊥) → Out (m .number) s
+    unfolding made
+    made-refused h = by (ordered (rostering roster) (fresh roster)) refl
+      where
+        by : (a : Answer Collator) → ordered (rostering roster) (fresh roster) ≡ a → Out (m .number) s
+        by (given c) q = absurd (h (ap (λ (m : Made). m .number) (e ∙ ap asMade q)))
+        by (refused n) q = let out = came (steps q) in (ap (λ (m : Made). m .number) (e ∙ ap asMade q) ∙ out .0, out .1)
 
-    pub made-put : {t : List ℕ} → 105 ≤ length s → t ≡ collatorStored (m .collator) s → (0 ≡ madeAnswer roster (length s)) × (t ≡ madeStored roster s)
-    unfolding madeAnswer madeStored
-    made-put h q = (
-      rw (eq-eqb (made roster .number) 0 none, le-leb 105 (length s) h),
-      q ∙ ap (λ (m : Made). collatorStored (m .collator) s) e ∙ rw (eq-eqb (made roster .number) 0 none, le-leb 105 (length s) h),
-    )
+    module _ (zero : m .number ≡ 0) where
+      none : made roster .number ≡ 0
+      none = ap (λ (m : Made). m .number) (sym e) ∙ zero
+
+      whole : m .collator ≡ fresh roster
+      whole = ap (λ (m : Made). m .collator) (e ∙ accepted roster none .whole)
+
+      pub made-short : length s < stateSize → Out 32 s
+      made-short h = came {a = refused 32} (rw (← steps (passes roster none), lt-leb stateSize (length s) h))
+
+      pub made-few : m .collator .count ≤ 8
+      made-few = omega (arith, ap (λ (c : Collator). c .count) whole, accepted roster none .few)
+
+      pub made-put : {t : List ℕ} → stateSize ≤ length s → t ≡ collatorStored (m .collator) s → Out 0 t
+      made-put h q =
+          let out = came {a = given (fresh roster)} (rw (← steps (passes roster none), le-leb stateSize (length s) h)) in
+          (out .0, q ∙ ap (λ (c : Collator). collatorStored c s) whole ∙ out .1)
 
 -- ---- tied to the collator
 
@@ -61,20 +90,17 @@ fresh-held roster few senders =
     }
 
 -- the bytes that are made stand for the collator that is made
-pub makes : (roster s : List ℕ) → made roster .number ≡ 0 → ((i : ℕ) → getD roster i 0 < 65536) → 105 ≤ length s
+pub makes : (roster s : List ℕ) → made roster .number ≡ 0 → ((i : ℕ) → getD roster i 0 < 65536) → stateSize ≤ length s
     → stateIn (madeStored roster s) ≡ made roster .collator
 makes roster s zero senders long =
-    let a = accepted roster zero in
-    let whole : made roster .collator ≡ fresh roster = ap (λ (m : Made). m .collator) (a .whole) in
-    let put = made-put roster s {m = made roster} refl zero long refl in
-    ap stateIn (sym (put .1) ∙ ap (λ (c : Collator). collatorStored c s) whole)
-    ∙ state-stored (fresh roster) (fresh-held roster (a .few) senders) s long
+    let whole : made roster .collator ≡ fresh roster = ap (λ (m : Made). m .collator) (accepted roster zero .whole) in
+    ap stateIn (sym (made-put roster s {m = made roster} refl zero long refl .1) ∙ ap (λ (c : Collator). collatorStored c s) whole)
+    ∙ state-stored (fresh roster) (fresh-held roster (accepted roster zero .few) senders) s long
     ∙ sym whole
 
 pub length-made : (roster s : List ℕ) → length (madeStored roster s) ≡ length s
-unfolding madeStored
-length-made roster s = by (eqb (made roster .number) 0 && leb 105 (length s))
+length-made roster s = by (madeIn roster (length s))
   where
-    by : (t : Bool) → length (cond t (collatorStored (made roster .collator) s) s) ≡ length s
-    by true = length-collator (made roster .collator) s
-    by false = refl
+    by : (a : Answer Collator) → length (leaves collatorStored a s) ≡ length s
+    by (given c) = length-collator c s
+    by (refused n) = refl

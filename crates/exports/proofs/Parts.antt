@@ -2,14 +2,13 @@
 use mathlib.Core.Path.{_≡_, refl, sym, ap, _∙_}
 use mathlib.Core.List.{List, [], _∷_, _++_, append-assoc}
 use Prim.Native.Nat.{ℕ, zero, suc, _+_, _≤_}
-use native.Mathlib.Nat.{add-zero, zero-add}
+use native.Mathlib.Nat.{zero-add}
 use native.Mathlib.Omega.{arith}
 use lib.ListN.{length, take, drop, set}
-use lib.Seq.{sets, sets-eq, drop-drop, take-take, take-at, drop-at, length-take-le, take-set-le, drop-set-lt}
-use Rattle.wire.specs.Number.{little, numberAt}
-use Rattle.wire.specs.Field.{Field, formatOf, width, valueOf, Row, HeldRow, SettledRow, size, encode, decode, rowStored}
-use Rattle.wire.proofs.Fields.{again-settled, length-encode, decode-encode, row-sets}
-use Rattle.exports.specs.Rows.{atFront}
+use lib.Seq.{sets, sets-eq, take-at, drop-at, length-take-le, take-set-le, drop-set-lt}
+use Rattle.wire.specs.Field.{Field, Row, HeldRow, SettledRow, size, encode, decode, rowStored}
+use Rattle.wire.proofs.Fields.{again-settled, length-encode, decode-encode, decode-drop, decode-take, row-sets}
+use Rattle.exports.specs.Lent.{atFront}
 
 -- the n elements from an offset on
 abbrev part : ℕ → ℕ → List ℕ → List ℕ
@@ -17,27 +16,8 @@ part at n s = take n (drop at s)
 
 -- ---- what is decoded is decided by its part
 
-take-inner : (k w n : ℕ) (t : List ℕ) → k + w ≤ n → take w (drop k (take n t)) ≡ take w (drop k t)
-take-inner zero w n t h = take-take w n t (omega arith)
-take-inner (suc k) w zero t h = absurd (omega arith)
-take-inner (suc k) w (suc n) [] h = refl
-take-inner (suc k) w (suc n) (x ∷ t) h = take-inner k w n t (omega arith)
-
-number-part : (w : ℕ) (s : List ℕ) (at n k : ℕ) → k + w ≤ n → numberAt w (part at n s) k ≡ numberAt w s (at + k)
-unfolding numberAt
-number-part w s at n k h = ap little (take-inner k w n (drop at s) h ∙ ap (take w) (drop-drop k at s))
-
-decode-part : (fs : List Field) (s : List ℕ) (at n k : ℕ) → k + size fs ≤ n → decode fs (part at n s) k ≡ decode fs s (at + k)
-decode-part [] s at n k h = refl
-decode-part (f ∷ fs) s at n k h =
-    let w = width (formatOf f) in
-    let first : numberAt w (part at n s) k ≡ numberAt w s (at + k) = number-part w s at n k (omega arith) in
-    let on : at + (k + w) ≡ at + k + w = omega arith in
-    let rest : decode fs (part at n s) (k + w) ≡ decode fs s (at + k + w) = decode-part fs s at n (k + w) (omega arith) ∙ ap (decode fs s) on in
-    λ i. (valueOf (formatOf f) (first i), rest i)
-
 decode-own : (fs : List Field) (s : List ℕ) (at : ℕ) → decode fs (part at (size fs) s) 0 ≡ decode fs s at
-decode-own fs s at = decode-part fs s at (size fs) 0 (omega arith) ∙ ap (decode fs s) (add-zero at)
+decode-own fs s at = decode-take fs (drop at s) ∙ sym (decode-drop fs s at)
 
 decode-same : (fs : List Field) (s t : List ℕ) (at : ℕ) → part at (size fs) s ≡ part at (size fs) t → decode fs s at ≡ decode fs t at
 decode-same fs s t at e = sym (decode-own fs s at) ∙ ap (λ (u : List ℕ). decode fs u 0) e ∙ decode-own fs t at

@@ -1,8 +1,14 @@
--- What `sbp_list` leaves in the number that it is lent. Assumes nothing.
+-- What `sbp_list` hands back, and what it leaves in the text and in the number that it is lent. Assumes nothing.
 use Prim.Native.Nat.{ℕ}
-use Rattle.wire.specs.Refusals.{refused, given, Answer}
+use mathlib.Core.List.{List}
+use lib.ListN.{length}
+use Rattle.wire.specs.Refusals.{leaves}
+use Rattle.listing.specs.Listing.{listAnswer}
+use Rattle.exports.specs.Lent.{zeroOr}
+
+abbrev pub textAnswer : List ℕ → ℕ → ℕ
+textAnswer s room = zeroOr (listAnswer s room)
 
 -- the text's length, or what stood there
-abbrev pub sizeAfter : Answer ℕ → ℕ → ℕ
-sizeAfter (given n) before = n
-sizeAfter (refused n) before = before
+abbrev pub sizeAfter : List ℕ → ℕ → ℕ → ℕ
+sizeAfter s room before = leaves (λ n size. n) (listAnswer s room) before

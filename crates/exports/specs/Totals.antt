@@ -1,21 +1,33 @@
 -- What `sbp_totals` answers and the row that it stores. Assumes nothing.
 use Prim.Native.Nat.{ℕ}
 use mathlib.Core.List.{List, [], _∷_}
-use Rattle.wire.specs.Field.{Field, any, u64, Row}
+use lib.ListN.{length}
+use Rattle.wire.specs.Refusals.{Answer, Tests, ordered, leaves}
+use Rattle.wire.specs.Field.{Field, any, u64, Row, size}
 use Rattle.frames.specs.Reading.{closedSteps, countsOf}
 use Rattle.frames.specs.declared.cursor.Counts.{Counts}
-use Rattle.exports.specs.Rows.{rowAnswer, rowLaid}
+use Rattle.exports.specs.Lent.{zeroOr, roomFor, atFront}
 
--- frame bytes, junk, bad, short: 32 bytes
-abbrev pub countsFields : List Field
-countsFields = any u64 ∷ any u64 ∷ any u64 ∷ any u64 ∷ []
+-- frame bytes, junk, bad, short
+abbrev pub totalsFields : List Field
+totalsFields = any u64 ∷ any u64 ∷ any u64 ∷ any u64 ∷ []
 
-abbrev pub countsRow : Counts → Row countsFields
-countsRow c = (c .framed, (c .junk, (c .bad, (c .short, tt))))
+-- 32 bytes
+abbrev pub totalsSize : ℕ
+totalsSize = size totalsFields
 
--- the answer, 32 where the row has no room, and the buffer after it
-abbrev pub totalsAnswer : ℕ → ℕ
-totalsAnswer room = rowAnswer countsFields 0 room
+abbrev pub totalsRow : Counts → Row totalsFields
+totalsRow c = (c .framed, (c .junk, (c .bad, (c .short, tt))))
+
+-- 32
+abbrev pub totalling : ℕ → Tests
+totalling room = roomFor totalsSize room
+
+unfoldable pub totalsFor : List ℕ → ℕ → Answer Counts
+totalsFor s room = ordered (totalling room) (countsOf (closedSteps s))
+
+abbrev pub totalsAnswer : List ℕ → ℕ → ℕ
+totalsAnswer s room = zeroOr (totalsFor s room)
 
 abbrev pub totalsStored : List ℕ → List ℕ → List ℕ
-totalsStored s buf = rowLaid countsFields (countsRow (countsOf (closedSteps s))) buf
+totalsStored s buf = leaves (λ c. atFront totalsFields (totalsRow c)) (totalsFor s (length buf)) buf

@@ -2,11 +2,12 @@
 ghost use mathlib.Core.Path.{_≡_};
 ghost use lib.ListN.{length};
 ghost use Rattle.wire.specs.Field.{rowStored};
-ghost use Rattle.exports.specs.Totals.{countsFields, countsRow, totalsAnswer, totalsStored};
+ghost use Rattle.exports.specs.Totals.{totalsFields, totalsRow, totalsAnswer, totalsStored};
+use crate::sizes::TOTALS_SIZE;
 use frames::Counts;
 
 fn put_counts(buf: &mut [u8], c: Counts)
-    ensures { λ _. ⌜ now (buf .exit) ≡ rowStored countsFields (countsRow c) (now (buf .entry)) 0 ⌝ }
+    ensures { λ _. ⌜ now (buf .exit) ≡ rowStored totalsFields (totalsRow c) (now (buf .entry)) 0 ⌝ }
 {
     wire::store_u64(buf, 0, c.framed as u64);
     wire::store_u64(buf, 8, c.junk as u64);
@@ -14,13 +15,13 @@ fn put_counts(buf: &mut [u8], c: Counts)
     wire::store_u64(buf, 24, c.short as u64);
 }
 
-// 0 and the row at counts[0..32]; 32 where that has no room.
+// 0 and the row at the start of counts; 32 where that has no room.
 #[no_mangle]
 pub extern "C" fn sbp_totals(capture: &[u8], counts: &mut [u8]) -> u8
-    ensures { λ r. ⌜ r ≡ totalsAnswer (length (now (counts .entry))) ⌝ }
+    ensures { λ r. ⌜ r ≡ totalsAnswer (now (capture .entry)) (length (now (counts .entry))) ⌝ }
     ensures { λ _. ⌜ now (counts .exit) ≡ totalsStored (now (capture .entry)) (now (counts .entry)) ⌝ }
 {
-    if counts.len() < 32 {
+    if counts.len() < TOTALS_SIZE {
         return 32;
     }
     put_counts(counts, frames::totals(capture));

@@ -5,6 +5,9 @@ ghost use lib.ListN.{length};
 ghost use Rattle.exports.specs.State.{seatsStored, placesStored, collatorStored};
 ghost use Rattle.exports.specs.Feed.{madeAnswer, madeStored};
 use crate::placing::put_place;
+use crate::sizes::SEAT_SIZE;
+use crate::sizes::SEATS_AT;
+use crate::sizes::STATE_SIZE;
 use epochs::Collator;
 use epochs::Place;
 
@@ -13,7 +16,7 @@ fn put_seats(s: &mut [u8], roster: [u16; 8])
 {
     let mut i = 0;
     while i < 8 {
-        wire::store_u16(s, 1 + i * 2, roster[i]);
+        wire::store_u16(s, SEATS_AT + i * SEAT_SIZE, roster[i]);
         i += 1;
     }
 }
@@ -41,7 +44,7 @@ fn put_collator(s: &mut [u8], c: Collator)
     put_places(s, places);
 }
 
-// 41 for a roster that is empty or longer than 8, then 42 for a sender twice, then 32 where 105 bytes have no room.
+// 41 for a roster that is empty or longer than 8, then 42 for a sender twice, then 32 where the state has no room.
 #[no_mangle]
 pub extern "C" fn sbp_collator(state: &mut [u8], roster: &[u16]) -> u8
     ensures { λ r. ⌜ r ≡ madeAnswer (now (roster .entry)) (length (now (state .entry))) ⌝ }
@@ -52,7 +55,7 @@ pub extern "C" fn sbp_collator(state: &mut [u8], roster: &[u16]) -> u8
     if number != 0 {
         return number;
     }
-    if state.len() < 105 {
+    if state.len() < STATE_SIZE {
         return 32;
     }
     let c = made.collator;

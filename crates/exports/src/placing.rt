@@ -1,11 +1,13 @@
 // A sender's place among the bytes of a collator.
 ghost use mathlib.Core.Path.{_≡_};
 ghost use Prim.Native.Nat.{_<_};
-ghost use Rattle.exports.specs.State.{placeOf, slotOf, slotAt, slotIn, slotStored, placeIn, placeStored};
-use epochs::Key;
-use epochs::Part;
+ghost use Rattle.exports.specs.State.{slotAt, placeOf, slotOf, slotIn, slotStored, placeIn, placeStored};
+use crate::sizes::PLACES_AT;
+use crate::sizes::SLOT_SIZE;
 use epochs::Place;
-use epochs::Run;
+use packets::Key;
+use runs::Part;
+use runs::Run;
 
 // A place as numbers; opened is 0 for one that is idle.
 pub struct Slot {
@@ -63,12 +65,12 @@ fn slot_of(place: Place) -> Slot
     }
 }
 
-// Where the eleven bytes of place i begin. Its remainder by 8 is i, which tells the compiler that all of them lie within a state's 105.
+// Where the bytes of place i begin. Its remainder by 8 is i, which tells the compiler that all of them lie within a state.
 fn slot_at(i: usize) -> usize
     requires { ⌜ i < 8 ⌝ }
     ensures { λ r. ⌜ r ≡ slotAt i ⌝ }
 {
-    17 + i % 8 * 11
+    PLACES_AT + i % 8 * SLOT_SIZE
 }
 
 fn slot_in(s: &[u8], i: usize) -> Slot

@@ -2,13 +2,14 @@
 ghost use mathlib.Core.Path.{_≡_};
 ghost use lib.ListN.{length};
 ghost use Rattle.wire.specs.Field.{rowStored};
-ghost use Rattle.exports.specs.Found.{foundFields, foundRow, nothingAt, foundIn, numberIn, nextAnswer, nextStored};
+ghost use Rattle.exports.specs.Found.{foundFields, foundValues, nothingAt, foundIn, numberIn, nextAnswer, nextStored};
+use crate::sizes::FOUND_SIZE;
 use frames::Cursor;
 use frames::Next;
 
 // Where a frame was found or the reading stands, where to go on, the bytes needed from there, those passed over on the way, and the frame's
 // type, sender and payload length.
-pub struct Found {
+pub struct FoundRow {
     pub at: u64,
     pub next: u64,
     pub needed: u64,
@@ -21,10 +22,10 @@ pub struct Found {
 }
 
 // No frame: the reading stands at the cursor.
-fn nothing_at(c: Cursor, needed: usize) -> Found
+fn nothing_at(c: Cursor, needed: usize) -> FoundRow
     ensures { λ r. ⌜ r ≡ nothingAt c needed ⌝ }
 {
-    Found {
+    FoundRow {
         at: c.at as u64,
         next: c.at as u64,
         needed: needed as u64,
@@ -37,11 +38,11 @@ fn nothing_at(c: Cursor, needed: usize) -> Found
     }
 }
 
-fn found_in(next: Next) -> Found
+fn found_in(next: Next) -> FoundRow
     ensures { λ r. ⌜ r ≡ foundIn next ⌝ }
 {
     match next {
-        Next::Frame(f, c) => Found {
+        Next::Frame(f, c) => FoundRow {
             at: f.at as u64,
             next: c.at as u64,
             needed: 0,
@@ -68,8 +69,8 @@ fn number_in(next: Next) -> u8
     }
 }
 
-fn put_found(buf: &mut [u8], f: Found)
-    ensures { λ _. ⌜ now (buf .exit) ≡ rowStored foundFields (foundRow f) (now (buf .entry)) 0 ⌝ }
+fn put_found(buf: &mut [u8], f: FoundRow)
+    ensures { λ _. ⌜ now (buf .exit) ≡ rowStored foundFields (foundValues f) (now (buf .entry)) 0 ⌝ }
 {
     wire::store_u64(buf, 0, f.at);
     wire::store_u64(buf, 8, f.next);
@@ -82,13 +83,13 @@ fn put_found(buf: &mut [u8], f: Found)
     wire::store_u8(buf, 52, f.length);
 }
 
-// The next frame from a position on, closed or (opened) open: 0, 1 or 2, and its row at found[0..53]; 32 where that has no room.
+// The next frame from a position on, closed or (opened) open: 0, 1 or 2, and its row at the start of found; 32 where that has no room.
 #[no_mangle]
 pub extern "C" fn sbp_next(capture: &[u8], at: usize, opened: bool, found: &mut [u8]) -> u8
     ensures { λ r. ⌜ r ≡ nextAnswer (now (capture .entry)) at opened (length (now (found .entry))) ⌝ }
     ensures { λ _. ⌜ now (found .exit) ≡ nextStored (now (capture .entry)) at opened (now (found .entry)) ⌝ }
 {
-    if found.len() < 53 {
+    if found.len() < FOUND_SIZE {
         return 32;
     }
     let start = Cursor {

@@ -1,7 +1,3 @@
-pub mod Rosters
-pub mod Accepted
-pub mod Seats
-pub mod Growing
-pub mod Texts
 pub mod Sizes
+pub mod Texts
 pub mod EpochLines

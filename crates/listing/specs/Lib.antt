@@ -1,4 +1,2 @@
-pub mod Roster
-pub mod Seating
 pub mod Listing
 pub mod Words

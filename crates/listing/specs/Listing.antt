@@ -1,23 +1,23 @@
 -- The text of document 01's `sbplist`, from a capture's bytes, read closed. Assumes nothing.
-use Prim.Native.Nat.{ℕ}
+use Prim.Native.Nat.{ℕ, _+_, _*_}
 use mathlib.Core.Bool.{cond}
 use mathlib.Core.List.{List, [], _∷_, _++_}
 use lib.Dec.{leb}
-use lib.ListN.{length, drop}
-use Rattle.wire.specs.Refusals.{refused, given, Answer}
+use lib.ListN.{length}
+use Rattle.wire.specs.Refusals.{Answer, Tests, ordered, leaves}
+use Rattle.frames.specs.Writer.{startingWith}
 use Rattle.frames.specs.Step.{payloadIn}
 use Rattle.frames.specs.Reading.{closedSteps, framesOf, countsOf}
 use Rattle.frames.specs.declared.step.Frame.{Frame}
 use Rattle.frames.specs.declared.cursor.Counts.{Counts}
-use Rattle.payloads.specs.Table.{answerFor}
+use Rattle.payloads.specs.Payloads.{answerFor}
 use Rattle.epochs.specs.Collator.{made}
-use Rattle.epochs.specs.Epoch.{fedFrame, contentIn}
-use Rattle.epochs.specs.declared.collating.Collator.{Collator}
+use Rattle.epochs.specs.Epoch.{contentsOf, outcomes}
 use Rattle.epochs.specs.declared.collating.Report.{Report}
 use Rattle.epochs.specs.declared.collating.Happened.{Happened}
 use Rattle.epochs.specs.declared.collating.Happened.the-variants.{Refused, Taken, Epoch}
 use Rattle.text.specs.Line.{line}
-use Rattle.listing.specs.Roster.{rosterIn}
+use Rattle.enlisting.specs.FirstEight.{rosterIn}
 
 -- `F` offset type sender length payload-answer
 abbrev pub frameShown : Frame → ℕ → List ℕ
@@ -38,35 +38,47 @@ abbrev pub totalsLine : List ℕ → List ℕ
 totalsLine s = totalsShown (length s) (countsOf (closedSteps s))
 
 -- what stands after a frame's line: the epoch that it ends
-abbrev pub told : Happened → List ℕ
-told (Refused n) = []
-told Taken = []
-told (Epoch e) = epochLine e
+abbrev pub epochPart : Happened → List ℕ
+epochPart (Refused n) = []
+epochPart Taken = []
+epochPart (Epoch e) = epochLine e
 
--- the lines of frames that are fed to a collator in order
-unfoldable pub framesText : List ℕ → Collator → List Frame → List ℕ
-framesText s c [] = []
-framesText s c (f ∷ fs) =
-    let fed = fedFrame c (contentIn s f) in
-    frameLine s f ++ told (fed .happened) ++ framesText s (fed .collator) fs
+-- each frame's line, and after it the epoch's where the frame came to one
+unfoldable pub framesText : List ℕ → List Frame → List Happened → List ℕ
+framesText s [] hs = []
+framesText s (f ∷ fs) [] = []
+framesText s (f ∷ fs) (h ∷ hs) = frameLine s f ++ (epochPart h ++ framesText s fs hs)
 
--- a whole capture, fed to a collator of its roster. Where that is empty the collator lists nobody, and reports nothing
+-- what the frames of a capture come to in a collator of its roster. Where that is empty the collator lists nobody, and reports nothing
+abbrev pub outcomesIn : List ℕ → List Happened
+outcomesIn s = outcomes (made (rosterIn s) .collator) (contentsOf s)
+
+-- a whole capture
 abbrev pub textOf : List ℕ → List ℕ
-textOf s = framesText s (made (rosterIn s) .collator) (framesOf (closedSteps s)) ++ totalsLine s
+textOf s = framesText s (framesOf (closedSteps s)) (outcomesIn s) ++ totalsLine s
 
--- 11 for a capture over 65536 bytes, then 32 where the text has no room
+-- the longest capture that is listed, and the number for a longer one
+abbrev pub mostListed : ℕ
+mostListed = 65536
+
+abbrev pub overLong : ℕ
+overLong = 11
+
+-- a text is never longer: at most eight bytes for each byte of a capture, and 32
+abbrev pub longestText : ℕ
+longestText = 8 * mostListed + 32
+
+-- 11 for a longer capture, then 32 where the text has no room
+abbrev pub listing : List ℕ → ℕ → Tests
+listing s room = (leb (length s) mostListed, overLong) ∷ (leb (length (textOf s)) room, 32) ∷ []
+
 unfoldable pub listAnswer : List ℕ → ℕ → Answer ℕ
-listAnswer s room =
-    cond (leb (length s) 65536) (cond (leb (length (textOf s)) room) (given (length (textOf s))) (refused 32)) (refused 11)
+listAnswer s room = ordered (listing s room) (length (textOf s))
 
 -- the buffer after it: the text and the bytes after it as they were, or all as it was
-abbrev pub listedAs : Answer ℕ → List ℕ → List ℕ → List ℕ
-listedAs (given n) s buf = textOf s ++ drop n buf
-listedAs (refused n) s buf = buf
-
-abbrev pub listed : List ℕ → List ℕ → List ℕ
-listed s buf = listedAs (listAnswer s (length buf)) s buf
+abbrev pub withListing : List ℕ → List ℕ → List ℕ
+withListing s buf = leaves (startingWith (textOf s)) (listAnswer s (length buf)) buf
 
 -- the whole output of `sbplist`: `R 11` alone for an over-long capture
 abbrev pub output : List ℕ → List ℕ
-output s = cond (leb (length s) 65536) (textOf s) (line 0x52 (11 ∷ []))
+output s = cond (leb (length s) mostListed) (textOf s) (line 0x52 (overLong ∷ []))

@@ -1,8 +1,6 @@
 // The text that `sbplist` prints, made in a lent buffer from a capture's bytes, which are read once.
-// Read specs/Listing.antt (the lines) and specs/Roster.antt (whose epochs are listed) first; specs/Words.antt says both again in document
-// 01's words. specs/Seating.antt is a collator that takes senders on as they come, and proofs/Growing.antt why it tells the same as that of the
-// whole roster.
+// Read specs/Listing.antt (the lines) first; specs/Words.antt says them again in document 01's words. Whose epochs are listed is said in
+// enlisting's specs, which also say why one walk over the capture does.
 mod listing;
-mod rostering;
 
 pub use listing::list;

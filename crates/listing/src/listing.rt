@@ -5,9 +5,8 @@ ghost use lib.Dec.{leb};
 ghost use lib.ListN.{length};
 ghost use lib.Seq.{sets};
 ghost use Rattle.frames.specs.Writer.{writtenAnswer};
-ghost use Rattle.text.specs.Line.{laid};
-ghost use Rattle.listing.specs.Listing.{frameShown, totalsShown, told, textOf, listAnswer, listed};
-use crate::rostering::enlisted;
+ghost use Rattle.wire.specs.Number.{bytesStored};
+ghost use Rattle.listing.specs.Listing.{frameShown, totalsShown, epochPart, textOf, mostListed, listAnswer, withListing};
 use epochs::Collator;
 use epochs::Happened;
 use frames::Counts;
@@ -19,7 +18,7 @@ use frames::Written;
 // `F` offset type sender length payload-answer
 fn put_frame(buf: &mut [u8], at: usize, f: Frame, answer: u8) -> usize
     ensures { λ r. ⌜ r ≡ (at + length (frameShown f answer)) % 2 ^ 64 ⌝ }
-    ensures { λ _. ⌜ now (buf .exit) ≡ laid (now (buf .entry)) at (frameShown f answer) ⌝ }
+    ensures { λ _. ⌜ now (buf .exit) ≡ bytesStored (frameShown f answer) (now (buf .entry)) at ⌝ }
 {
     text::put_line(
         buf,
@@ -36,9 +35,9 @@ fn put_frame(buf: &mut [u8], at: usize, f: Frame, answer: u8) -> usize
 }
 
 // `E` sender wn tow n observations, where an epoch was reported
-fn put_told(buf: &mut [u8], at: usize, happened: Happened) -> usize
-    ensures { λ r. ⌜ r ≡ (at + length (told happened)) % 2 ^ 64 ⌝ }
-    ensures { λ _. ⌜ now (buf .exit) ≡ laid (now (buf .entry)) at (told happened) ⌝ }
+fn put_epoch(buf: &mut [u8], at: usize, happened: Happened) -> usize
+    ensures { λ r. ⌜ r ≡ (at + length (epochPart happened)) % 2 ^ 64 ⌝ }
+    ensures { λ _. ⌜ now (buf .exit) ≡ bytesStored (epochPart happened) (now (buf .entry)) at ⌝ }
 {
     match happened {
         Happened::Refused(_) => at,
@@ -63,7 +62,7 @@ fn put_told(buf: &mut [u8], at: usize, happened: Happened) -> usize
 // `T` length, frame bytes, junk, bad, short
 fn put_totals(buf: &mut [u8], at: usize, n: usize, c: Counts) -> usize
     ensures { λ r. ⌜ r ≡ (at + length (totalsShown n c)) % 2 ^ 64 ⌝ }
-    ensures { λ _. ⌜ now (buf .exit) ≡ laid (now (buf .entry)) at (totalsShown n c) ⌝ }
+    ensures { λ _. ⌜ now (buf .exit) ≡ bytesStored (totalsShown n c) (now (buf .entry)) at ⌝ }
 {
     text::put_line(
         buf,
@@ -96,10 +95,10 @@ fn put_text(s: &[u8], buf: &mut [u8]) -> usize
             Next::Frame(frame, rest) => {
                 let payload = frames::payload(s, frame);
                 at = put_frame(buf, at, frame, payloads::answer(frame.kind, payload));
-                let seated = enlisted(collator, frame);
+                let seated = enlisting::enlist(collator, frame.kind, frame.sender);
                 let fed = seated.feed(frame.kind, frame.sender, payload);
                 let happened = fed.happened;
-                at = put_told(buf, at, happened);
+                at = put_epoch(buf, at, happened);
                 collator = fed.collator;
                 cursor = rest;
             }
@@ -115,7 +114,7 @@ fn put_text(s: &[u8], buf: &mut [u8]) -> usize
 
 // Whether the text has room. A buffer of eight bytes for each of the capture's and 32 more has it always.
 fn fits(s: &[u8], room: usize) -> bool
-    requires { ⌜ length (now s) ≤ 65536 ⌝ }
+    requires { ⌜ length (now s) ≤ mostListed ⌝ }
     ensures { λ r. ⌜ r ≡ leb (length (textOf (now (s .entry)))) room ⌝ }
 {
     if s.len() * 8 + 32 <= room {
@@ -128,7 +127,7 @@ fn fits(s: &[u8], room: usize) -> bool
 // The listing of a capture: 11 for one over 65536 bytes, then 32.
 pub fn list(s: &[u8], buf: &mut [u8]) -> Written
     ensures { λ w. ⌜ writtenAnswer w ≡ listAnswer (now (s .entry)) (length (now (buf .entry))) ⌝ }
-    ensures { λ _. ⌜ now (buf .exit) ≡ listed (now (s .entry)) (now (buf .entry)) ⌝ }
+    ensures { λ _. ⌜ now (buf .exit) ≡ withListing (now (s .entry)) (now (buf .entry)) ⌝ }
 {
     if 65536 < s.len() {
         return Written::Refused(11);

@@ -4,7 +4,7 @@ use mathlib.Core.Bool.{Bool, true, false, cond}
 use Prim.Native.Nat.{ℕ, _+_, _%_, _<_}
 use native.Mathlib.Omega.{arith}
 use lib.Dec.{eqb}
-use Rattle.runs.specs.Run.{dropped, goesOn, fits, summed, continued, stepped}
+use Rattle.runs.specs.Run.{dropped, openWith, wholeWith, goesOn, fits, summed, continued, stepped}
 use Rattle.packets.specs.declared.packet.Packet.{Packet}
 use Rattle.runs.specs.declared.running.Run.{Run}
 use Rattle.runs.specs.declared.running.Run.the-variants.{Idle, Open}
@@ -14,23 +14,15 @@ use Rattle.runs.specs.declared.running.Stepped.{Stepped}
 pub not-whole : {t : ℕ} → Not ≡ Whole t → ⊥
 not-whole e = let z : _≡_ {A = ℕ} 0 1 = cc in omega arith
 
--- where a run goes on it is whole, or open for the next packet
-module _ (p : Packet) where
-  abbrev pub whole : ℕ → Stepped
-  whole total = record { run = Idle; ended = Whole total }
-
-  abbrev pub opened : ℕ → Stepped
-  opened total = record { run = Open (record { key = p .key; next = (p .counter + 1) % 256; total = total }); ended = Not }
-
 -- a step drops the run, ends it or leaves it open; its total is a u16's where the packet's own observations are
 module _ (P : Stepped → Type 0) (p : Packet) (on-dropped : P dropped)
-    (on-whole : (total : ℕ) → (p .observations < 65536 → total < 65536) → P (whole p total))
-    (on-opened : (total : ℕ) → (p .observations < 65536 → total < 65536) → P (opened p total)) where
+    (on-whole : (total : ℕ) → (p .observations < 65536 → total < 65536) → P (wholeWith p total))
+    (on-opened : (total : ℕ) → (p .observations < 65536 → total < 65536) → P (openWith p total)) where
   going : (total : ℕ) → (p .observations < 65536 → total < 65536) → P (goesOn p total)
   unfolding goesOn
   going total h = by (eqb ((p .counter + 1) % 256) (p .key .n))
     where
-      by : (t : Bool) → P (cond t (whole p total) (opened p total))
+      by : (t : Bool) → P (cond t (wholeWith p total) (openWith p total))
       by true = on-whole total h
       by false = on-opened total h
 

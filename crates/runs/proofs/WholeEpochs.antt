@@ -9,7 +9,7 @@ use native.Mathlib.Omega.{arith}
 use lib.Dec.{eqb}
 use borrow.Author.Tests.{eqb-true, eqb-false, eq-eqb}
 use Rattle.packets.specs.Packet.{sameKey, Formed, AllFormed}
-use Rattle.runs.specs.Run.{dropped, goesOn, fits, summed, continued, stepped, runOf}
+use Rattle.runs.specs.Run.{dropped, openWith, wholeWith, goesOn, fits, summed, continued, stepped, runOf}
 use Rattle.runs.specs.InWords.{RunTo, EpochEnds}
 use Rattle.packets.specs.declared.packet.Key.{Key}
 use Rattle.packets.specs.declared.packet.Packet.{Packet}
@@ -18,7 +18,7 @@ use Rattle.runs.specs.declared.running.Run.the-variants.{Idle, Open}
 use Rattle.runs.specs.declared.running.Ended.the-variants.{Whole}
 use Rattle.runs.specs.declared.running.Stepped.{Stepped}
 use Rattle.packets.proofs.Keys.{equal-key, same-key}
-use Rattle.runs.proofs.StepCases.{not-whole, whole, opened}
+use Rattle.runs.proofs.StepCases.{not-whole}
 use Rattle.runs.proofs.Fronts.{unroll, run-head, first-of, next-of, same-run, run-small, run-low}
 
 -- what is open says this of the history: an open part is the run at its front; where nothing is, no run there is unfinished
@@ -43,7 +43,7 @@ module _ (p : Packet) (past : List Packet) (formed : Formed p) where
       next = omega (arith, formed .nibble)
 
       by : (t : Bool) → eqb ((p .counter + 1) % 256) (p .key .n) ≡ t
-          → Right p past (cond t (whole p total) (opened p total))
+          → Right p past (cond t (wholeWith p total) (openWith p total))
       by true e =
           let last : suc (p .counter) ≡ p .key .n = sym next ∙ eqb-true _ _ e in (
             λ key j t h q. let a = run-head j q in let n = ap (λ (k : Key). k .n) (a .0) in omega (arith, a .1),

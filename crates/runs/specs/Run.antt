@@ -16,11 +16,17 @@ use Rattle.runs.specs.declared.running.Stepped.{Stepped}
 abbrev pub dropped : Stepped
 dropped = record { run = Idle; ended = Not }
 
--- the run that ends with this packet: whole where its counter is the last, else open for the next
+-- the run that ends with this packet, open for the next
+abbrev pub openWith : Packet → ℕ → Stepped
+openWith p total = record { run = Open (record { key = p .key; next = (p .counter + 1) % 256; total = total }); ended = Not }
+
+-- and whole
+abbrev pub wholeWith : Packet → ℕ → Stepped
+wholeWith p total = record { run = Idle; ended = Whole total }
+
+-- it is whole where its counter is the last
 unfoldable pub goesOn : Packet → ℕ → Stepped
-goesOn p total =
-    cond (eqb ((p .counter + 1) % 256) (p .key .n)) (record { run = Idle; ended = Whole total })
-    (record { run = Open (record { key = p .key; next = (p .counter + 1) % 256; total = total }); ended = Not })
+goesOn p total = cond (eqb ((p .counter + 1) % 256) (p .key .n)) (wholeWith p total) (openWith p total)
 
 -- a packet fits an open run: of the same key, with the counter that comes next
 abbrev pub fits : Part → Packet → Bool

@@ -4,7 +4,7 @@
 ghost use Prim.Native.Nat.{_≤_};
 ghost use mathlib.Core.Path.{_≡_};
 ghost use lib.ListN.{length, take};
-ghost use Rattle.listing.specs.Listing.{output};
+ghost use Rattle.listing.specs.Listing.{longestText, output};
 use frames::Written;
 
 // How reading standard input ended: with so many bytes, or with an error.
@@ -69,7 +69,7 @@ fn print(text: &[u8]) {
 // Puts document 01's whole output at the start of text, and says how long it is: the listing, or `R 11` alone. The text has room for every
 // listing, so that 11 is the only refusal.
 fn put_output(capture: &[u8], text: &mut [u8]) -> usize
-    requires { ⌜ 524320 ≤ length (now text) ⌝ }
+    requires { ⌜ longestText ≤ length (now text) ⌝ }
     ensures { λ r. ⌜ r ≡ length (output (now (capture .entry))) ⌝ }
     ensures { λ r. ⌜ take r (now (text .exit)) ≡ output (now (capture .entry)) ⌝ }
     ensures { λ r. ⌜ r ≤ length (now (text .exit)) ⌝ }

@@ -76,10 +76,10 @@ module _ (sender : ℕ) (r : Logged) (buf : List ℕ) where
 
   -- a text over 254 bytes makes a payload over 255
   as-planned : logWriteAnswer r (length buf) ≡ planned (bodySize (log .layout) (log .row r)) (length buf)
+  unfolding logWriteAnswer planned
   as-planned = by (leb (length (r .text)) 254) refl
     where
       by : (t : Bool) → leb (length (r .text)) 254 ≡ t → logWriteAnswer r (length buf) ≡ planned (bodySize (log .layout) (log .row r)) (length buf)
-      unfolding logWriteAnswer planned
       by true few = rw few
       by false many = rw many (sym (planned-31 (1 + length (r .text)) (length buf) (omega (arith, leb-false (length (r .text)) 254 many))))
 

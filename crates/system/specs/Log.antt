@@ -1,6 +1,7 @@
 -- LOG, 0x0401: level u8, then text: all bytes after it. 1 to 255 bytes. Assumes nothing.
 use Prim.Native.Nat.{ℕ, _+_, _-_}
 use mathlib.Core.Path.{refl}
+use mathlib.Core.Bool.{Bool}
 use mathlib.Core.List.{List, [], _∷_}
 use lib.ListN.{length, drop}
 use Rattle.wire.specs.Number.{numberAt}
@@ -42,9 +43,13 @@ shown r = record { level = r .level; length = length (r .text) }
 abbrev pub logIn : List ℕ → Log
 logIn s = record { level = numberAt 1 s 0; length = length s - 1 }
 
+-- n is the length of a payload
+abbrev pub logLength : ℕ → Bool
+logLength = lengths (log .layout)
+
 -- 22 for the payload's length
 abbrev pub readingLog : List ℕ → Tests
-readingLog s = (lengths (log .layout) (length s), 22) ∷ []
+readingLog s = (logLength (length s), 22) ∷ []
 
 unfoldable pub readLog : List ℕ → Answer Log
 readLog s = ordered (readingLog s) (logIn s)

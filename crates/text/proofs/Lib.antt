@@ -1,4 +1,4 @@
 pub mod Decimals
 pub mod Filling
 pub mod Pending
-pub mod Lines
+pub mod LinesPut

@@ -1,15 +1,13 @@
 -- What is left to store of a text, while it is put into a buffer piece by piece. Assumes nothing.
 use mathlib.Core.Path.{_≡_, refl, sym, ap, ap₂, _∙_, subst}
-use mathlib.Core.Bool.{Bool, true, false, cond}
 use mathlib.Core.List.{List, [], _++_, append-nil}
 use Prim.Native.Nat.{ℕ, _+_, _%_, _^_, _≤_, _<_}
 use native.Mathlib.Omega.{arith}
-use lib.Dec.{leb}
 use lib.ListN.{length, length-append}
 use lib.Seq.{sets, length-sets}
-use borrow.Author.Tests.{le-leb, lt-leb}
+use Rattle.wire.specs.Number.{bytesStored}
 use Rattle.wire.proofs.Numbers.{sets-append}
-use Rattle.text.specs.Line.{laid}
+use Rattle.wire.proofs.Layouts.{bytes-sets, length-bytes-stored}
 
 -- rest, stored from `at` on, ends at `end` and makes the goal; where the text may have no room, that is said for P alone
 pub record Pending (P : Type 0) (goal : List ℕ) (end : ℕ) (buf : List ℕ) (at : ℕ) (rest : List ℕ) : Type 0 where
@@ -20,34 +18,18 @@ pub record Pending (P : Type 0) (goal : List ℕ) (end : ℕ) (buf : List ℕ) (
 pub pending-begun : (P : Type 0) (buf : List ℕ) (at : ℕ) (text : List ℕ) → Pending P (sets buf at text) (at + length text) buf at text
 pending-begun P buf at text = record { place = refl; size = sym (length-sets buf at text); text = λ p. refl }
 
-length-laid : (buf : List ℕ) (at : ℕ) (text : List ℕ) → length (laid buf at text) ≡ length buf
-unfolding laid
-length-laid buf at text = by (leb (at + length text) (length buf))
-  where
-    by : (t : Bool) → length (cond t (sets buf at text) buf) ≡ length buf
-    by true = length-sets buf at text
-    by false = refl
-
-pub laid-fits : (buf : List ℕ) (at : ℕ) (text : List ℕ) → at + length text ≤ length buf → laid buf at text ≡ sets buf at text
-unfolding laid
-laid-fits buf at text h = rw (le-leb (at + length text) (length buf) h)
-
-pub laid-unfit : (buf : List ℕ) (at : ℕ) (text : List ℕ) → length buf < at + length text → laid buf at text ≡ buf
-unfolding laid
-laid-unfit buf at text h = rw (lt-leb (at + length text) (length buf) h)
-
 module _ {P : Type 0} {goal : List ℕ} {end : ℕ} {buf : List ℕ} {at : ℕ} where
   -- a piece is stored where it has room, and its end is a sum that could wrap
-  pub pending-laid : (piece rest : List ℕ) {after : List ℕ} {to : ℕ} → Pending P goal end buf at (piece ++ rest) → end < 2 ^ 64 → (P → end ≤ length goal)
-      → after ≡ laid buf at piece → to ≡ (at + length piece) % 2 ^ 64 → Pending P goal end after to rest
-  pending-laid piece rest {after} {to} p small room e q =
+  pub pending-stored : (piece rest : List ℕ) {after : List ℕ} {to : ℕ} → Pending P goal end buf at (piece ++ rest) → end < 2 ^ 64 → (P → end ≤ length goal)
+      → after ≡ bytesStored piece buf at → to ≡ (at + length piece) % 2 ^ 64 → Pending P goal end after to rest
+  pending-stored piece rest {after} {to} p small room e q =
       let both = length-append piece rest in
       let there : to ≡ at + length piece = omega (arith, q, p .place, both) in
       record {
         place = omega (arith, there, p .place, both);
-        size = ap length e ∙ length-laid buf at piece ∙ p .size;
+        size = ap length e ∙ length-bytes-stored piece buf at ∙ p .size;
         text = λ (h : P).
-            let fits = laid-fits buf at piece (omega (arith, room h, p .size, p .place, both)) in
+            let fits = bytes-sets piece buf at (omega (arith, room h, p .size, p .place, both)) in
             ap₂ (λ (t : List ℕ) (i : ℕ). sets t i rest) (e ∙ fits) there ∙ sym (sets-append buf at piece rest) ∙ p .text h;
       }
 

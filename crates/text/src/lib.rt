@@ -1,13 +1,14 @@
 // Lines of text in a lent buffer: a letter and five numbers in decimal.
-// Read specs/Decimal.antt (a number) and specs/Line.antt (a line, and a buffer with one in it) first.
+// Read specs/Decimal.antt (a number) and specs/Line.antt (a line) first.
 // A line that has no room changes nothing, and still says where it would end.
 ghost use mathlib.Core.Path.{_≡_};
 ghost use Prim.Native.Nat.{_+_, _%_, _^_, _-_, _≤_};
 ghost use mathlib.Core.List.{_∷_};
 ghost use lib.ListN.{length};
 ghost use lib.Seq.{sets};
+ghost use Rattle.wire.specs.Number.{bytesStored};
 ghost use Rattle.text.specs.Decimal.{decimal};
-ghost use Rattle.text.specs.Line.{fields, line, laid};
+ghost use Rattle.text.specs.Line.{fields, line};
 
 // How many digits a number has.
 fn digit_count(n: u64) -> usize
@@ -83,7 +84,7 @@ fn put_fields(buf: &mut [u8], end: usize, numbers: [u64; 5])
 // Stores a line at an offset where it has room, and says where it ends or would end.
 pub fn put_line(buf: &mut [u8], at: usize, letter: u8, numbers: [u64; 5]) -> usize
     ensures { λ r. ⌜ r ≡ (at + length (line letter numbers)) % 2 ^ 64 ⌝ }
-    ensures { λ _. ⌜ now (buf .exit) ≡ laid (now (buf .entry)) at (line letter numbers) ⌝ }
+    ensures { λ _. ⌜ now (buf .exit) ≡ bytesStored (line letter numbers) (now (buf .entry)) at ⌝ }
 {
     let n = line_length(numbers);
     let end = std::num::wrapping_add_usize(at, n);

@@ -19,19 +19,12 @@ pub fn run() {
     captures();
 }
 
-// An OBS payload: its time, n and counter, and how many observations (zeros).
-struct Header {
-    tow: u32,
-    wn: u16,
-    n_obs: u8,
-    count: usize,
-}
-
-fn payload(p: Header) -> [u8; 247] {
+// An OBS payload: its time, n and counter; the observations are zeros.
+fn payload(tow: u32, wn: u16, n_obs: u8) -> [u8; 247] {
     let mut s = [0u8; 247];
-    wire::store_u32(&mut s, 0, p.tow);
-    wire::store_u16(&mut s, 4, p.wn);
-    wire::store_u8(&mut s, 6, p.n_obs);
+    wire::store_u32(&mut s, 0, tow);
+    wire::store_u16(&mut s, 4, wn);
+    wire::store_u8(&mut s, 6, n_obs);
     s
 }
 
@@ -67,19 +60,10 @@ fn offered(c: Collator, kind: u16, sender: u16, s: &[u8]) -> Collator {
     f.collator
 }
 
-fn fed(c: Collator, sender: u16, p: Header) -> Collator {
-    let count = p.count;
-    let s = payload(p);
+// A frame of so many observations.
+fn fed(c: Collator, sender: u16, tow: u32, wn: u16, n_obs: u8, count: usize) -> Collator {
+    let s = payload(tow, wn, n_obs);
     offered(c, 0x0049, sender, front(&s, size(count)))
-}
-
-fn sent(tow: u32, wn: u16, n_obs: u8, count: usize) -> Header {
-    Header {
-        tow,
-        wn,
-        n_obs,
-        count,
-    }
 }
 
 // ---- made from a roster
@@ -112,17 +96,17 @@ fn three() -> Collator {
 fn halves() {
     print::word(b"halves");
     let mut c = three();
-    c = fed(c, 0, sent(1, 2, 0x00, 0));
-    c = fed(c, 0, sent(1, 2, 0x11, 0));
-    c = fed(c, 0, sent(1, 2, 0x10, 3));
-    c = fed(c, 0, sent(1, 2, 0x02, 0));
-    c = fed(c, 0, sent(1, 2, 0x10, 15));
-    fed(c, 65535, sent(9, 8, 0x10, 0));
+    c = fed(c, 0, 1, 2, 0x00, 0);
+    c = fed(c, 0, 1, 2, 0x11, 0);
+    c = fed(c, 0, 1, 2, 0x10, 3);
+    c = fed(c, 0, 1, 2, 0x02, 0);
+    c = fed(c, 0, 1, 2, 0x10, 15);
+    fed(c, 65535, 9, 8, 0x10, 0);
     print::end();
 }
 
 fn other(c: Collator, kind: u16, sender: u16, n: usize) -> Collator {
-    let s = payload(sent(1, 2, 0x00, 0));
+    let s = payload(1, 2, 0x00);
     offered(c, kind, sender, front(&s, n))
 }
 
@@ -130,14 +114,14 @@ fn other(c: Collator, kind: u16, sender: u16, n: usize) -> Collator {
 fn refusals() {
     print::word(b"refusals");
     let mut c = three();
-    c = fed(c, 0, sent(5, 6, 0x20, 1));
+    c = fed(c, 0, 5, 6, 0x20, 1);
     c = other(c, 0x004a, 9, 8);
     c = other(c, 0x0049, 9, 8);
     c = other(c, 0x0049, 9, 7);
     c = other(c, 0x0049, 0, 7);
-    c = fed(c, 0, sent(5, 6, 0x12, 1));
-    c = fed(c, 1228, sent(5, 6, 0x21, 1));
-    fed(c, 0, sent(5, 6, 0x21, 2));
+    c = fed(c, 0, 5, 6, 0x12, 1);
+    c = fed(c, 1228, 5, 6, 0x21, 1);
+    fed(c, 0, 5, 6, 0x21, 2);
     print::end();
 }
 
@@ -154,10 +138,10 @@ fn runs() {
 fn repeated(start: Collator) -> Collator {
     print::word(b"repeated");
     let mut c = start;
-    c = fed(c, 0, sent(5, 6, 0x30, 1));
-    c = fed(c, 0, sent(5, 6, 0x31, 1));
-    c = fed(c, 0, sent(5, 6, 0x31, 1));
-    c = fed(c, 0, sent(5, 6, 0x32, 1));
+    c = fed(c, 0, 5, 6, 0x30, 1);
+    c = fed(c, 0, 5, 6, 0x31, 1);
+    c = fed(c, 0, 5, 6, 0x31, 1);
+    c = fed(c, 0, 5, 6, 0x32, 1);
     print::end();
     c
 }
@@ -165,12 +149,12 @@ fn repeated(start: Collator) -> Collator {
 fn begun_again(start: Collator) -> Collator {
     print::word(b"begun-again");
     let mut c = start;
-    c = fed(c, 0, sent(5, 6, 0x30, 1));
-    c = fed(c, 0, sent(5, 6, 0x31, 1));
-    c = fed(c, 0, sent(5, 6, 0x30, 4));
-    c = fed(c, 0, sent(5, 6, 0x31, 5));
-    c = fed(c, 0, sent(5, 6, 0x32, 6));
-    c = fed(c, 0, sent(5, 6, 0x32, 6));
+    c = fed(c, 0, 5, 6, 0x30, 1);
+    c = fed(c, 0, 5, 6, 0x31, 1);
+    c = fed(c, 0, 5, 6, 0x30, 4);
+    c = fed(c, 0, 5, 6, 0x31, 5);
+    c = fed(c, 0, 5, 6, 0x32, 6);
+    c = fed(c, 0, 5, 6, 0x32, 6);
     print::end();
     c
 }
@@ -178,9 +162,9 @@ fn begun_again(start: Collator) -> Collator {
 fn other_week(start: Collator) -> Collator {
     print::word(b"other-week");
     let mut c = start;
-    c = fed(c, 0, sent(5, 6, 0x20, 1));
-    c = fed(c, 0, sent(5, 7, 0x21, 1));
-    c = fed(c, 0, sent(5, 6, 0x21, 1));
+    c = fed(c, 0, 5, 6, 0x20, 1);
+    c = fed(c, 0, 5, 7, 0x21, 1);
+    c = fed(c, 0, 5, 6, 0x21, 1);
     print::end();
     c
 }
@@ -188,10 +172,10 @@ fn other_week(start: Collator) -> Collator {
 fn other_time_and_size(start: Collator) -> Collator {
     print::word(b"other-time-and-size");
     let mut c = start;
-    c = fed(c, 0, sent(5, 6, 0x20, 1));
-    c = fed(c, 0, sent(4, 6, 0x21, 1));
-    c = fed(c, 0, sent(5, 6, 0x20, 1));
-    c = fed(c, 0, sent(5, 6, 0x31, 1));
+    c = fed(c, 0, 5, 6, 0x20, 1);
+    c = fed(c, 0, 4, 6, 0x21, 1);
+    c = fed(c, 0, 5, 6, 0x20, 1);
+    c = fed(c, 0, 5, 6, 0x31, 1);
     print::end();
     c
 }
@@ -199,10 +183,10 @@ fn other_time_and_size(start: Collator) -> Collator {
 fn two_senders_one_time(start: Collator) -> Collator {
     print::word(b"two-senders-one-time");
     let mut c = start;
-    c = fed(c, 0, sent(5, 6, 0x20, 1));
-    c = fed(c, 1228, sent(5, 6, 0x20, 10));
-    c = fed(c, 0, sent(5, 6, 0x21, 2));
-    c = fed(c, 1228, sent(5, 6, 0x21, 5));
+    c = fed(c, 0, 5, 6, 0x20, 1);
+    c = fed(c, 1228, 5, 6, 0x20, 10);
+    c = fed(c, 0, 5, 6, 0x21, 2);
+    c = fed(c, 1228, 5, 6, 0x21, 5);
     print::end();
     c
 }
@@ -226,7 +210,10 @@ fn whole(start: Collator, n: usize) -> Collator {
         c = fed(
             c,
             65535,
-            sent(100, 1900, ((n % 16 * 16 + i % 16) % 256) as u8, 15),
+            100,
+            1900,
+            ((n % 16 * 16 + i % 16) % 256) as u8,
+            15,
         );
         i += 1;
     }
@@ -246,15 +233,15 @@ fn eight() {
 
 fn nine(start: Collator, n_obs: u8) -> Collator {
     let mut c = start;
-    c = fed(c, 65535, sent(5, 6, n_obs, 7));
-    c = fed(c, 6, sent(5, 6, n_obs, 6));
-    c = fed(c, 5, sent(5, 6, n_obs, 5));
-    c = fed(c, 4, sent(5, 6, n_obs, 4));
-    c = fed(c, 3, sent(5, 6, n_obs, 3));
-    c = fed(c, 2, sent(5, 6, n_obs, 2));
-    c = fed(c, 1, sent(5, 6, n_obs, 1));
-    c = fed(c, 0, sent(5, 6, n_obs, 0));
-    fed(c, 7, sent(5, 6, n_obs, 8))
+    c = fed(c, 65535, 5, 6, n_obs, 7);
+    c = fed(c, 6, 5, 6, n_obs, 6);
+    c = fed(c, 5, 5, 6, n_obs, 5);
+    c = fed(c, 4, 5, 6, n_obs, 4);
+    c = fed(c, 3, 5, 6, n_obs, 3);
+    c = fed(c, 2, 5, 6, n_obs, 2);
+    c = fed(c, 1, 5, 6, n_obs, 1);
+    c = fed(c, 0, 5, 6, n_obs, 0);
+    fed(c, 7, 5, 6, n_obs, 8)
 }
 
 // ---- the ticket: 400 epochs of a base and of the rover that it relays as sender 0, on one line
@@ -265,9 +252,8 @@ struct Tally {
     rover: u64,
 }
 
-fn counted(t: Tally, sender: u16, p: Header) -> Tally {
-    let count = p.count;
-    let s = payload(p);
+fn counted(t: Tally, sender: u16, tow: u32, n_obs: u8, count: usize) -> Tally {
+    let s = payload(tow, 1900, n_obs);
     let c = t.collator;
     let f = c.feed(0x0049, sender, front(&s, size(count)));
     let collator = f.collator;
@@ -291,13 +277,13 @@ fn counted(t: Tally, sender: u16, p: Header) -> Tally {
 // One epoch of each, packet by packet, with a third sender's packets and a refused frame between.
 fn both(start: Tally, tow: u32) -> Tally {
     let mut t = start;
-    t = counted(t, 1228, sent(tow, 1900, 0x30, 12));
-    t = counted(t, 0, sent(tow, 1900, 0x20, 9));
-    t = counted(t, 77, sent(tow, 1900, 0x21, 9));
-    t = counted(t, 1228, sent(tow, 1900, 0x31, 12));
-    t = counted(t, 0, sent(tow, 1900, 0x00, 1));
-    t = counted(t, 0, sent(tow, 1900, 0x21, 4));
-    counted(t, 1228, sent(tow, 1900, 0x32, 1))
+    t = counted(t, 1228, tow, 0x30, 12);
+    t = counted(t, 0, tow, 0x20, 9);
+    t = counted(t, 77, tow, 0x21, 9);
+    t = counted(t, 1228, tow, 0x31, 12);
+    t = counted(t, 0, tow, 0x00, 1);
+    t = counted(t, 0, tow, 0x21, 4);
+    counted(t, 1228, tow, 0x32, 1)
 }
 
 fn ticket() {
@@ -319,9 +305,8 @@ fn ticket() {
 
 // ---- two captures with the same frames for each sender, shuffled between senders, with noise and an unlisted sender in one
 
-fn put(buf: &mut [u8], at: usize, sender: u16, p: Header) -> usize {
-    let count = p.count;
-    let s = payload(p);
+fn put(buf: &mut [u8], at: usize, sender: u16, tow: u32, n_obs: u8, count: usize) -> usize {
+    let s = payload(tow, 1900, n_obs);
     put_obs(buf, at, sender, front(&s, size(count)))
 }
 
@@ -341,16 +326,16 @@ fn ordered(buf: &mut [u8]) {
 
 fn base_alone(buf: &mut [u8], from: usize) -> usize {
     let mut at = from;
-    at = put(buf, at, 1228, sent(10, 1900, 0x20, 1));
-    at = put(buf, at, 1228, sent(10, 1900, 0x21, 2));
-    put(buf, at, 1228, sent(20, 1900, 0x10, 3))
+    at = put(buf, at, 1228, 10, 0x20, 1);
+    at = put(buf, at, 1228, 10, 0x21, 2);
+    put(buf, at, 1228, 20, 0x10, 3)
 }
 
 fn rover_alone(buf: &mut [u8], from: usize) -> usize {
     let mut at = from;
-    at = put(buf, at, 0, sent(10, 1900, 0x20, 2));
-    at = put(buf, at, 0, sent(10, 1900, 0x21, 1));
-    put(buf, at, 0, sent(20, 1900, 0x20, 1))
+    at = put(buf, at, 0, 10, 0x20, 2);
+    at = put(buf, at, 0, 10, 0x21, 1);
+    put(buf, at, 0, 20, 0x20, 1)
 }
 
 // The same for each of them, with three bytes of noise before, five between, and a third sender.
@@ -361,17 +346,17 @@ fn shuffled(buf: &mut [u8]) {
 
 fn begun_mixed(buf: &mut [u8], from: usize) -> usize {
     let mut at = from;
-    at = put(buf, at, 0, sent(10, 1900, 0x20, 2));
-    at = put(buf, at, 1228, sent(10, 1900, 0x20, 1));
-    at = put(buf, at, 77, sent(10, 1900, 0x21, 1));
-    put(buf, at, 1228, sent(10, 1900, 0x21, 2))
+    at = put(buf, at, 0, 10, 0x20, 2);
+    at = put(buf, at, 1228, 10, 0x20, 1);
+    at = put(buf, at, 77, 10, 0x21, 1);
+    put(buf, at, 1228, 10, 0x21, 2)
 }
 
 fn ended_mixed(buf: &mut [u8], from: usize) -> usize {
     let mut at = from;
-    at = put(buf, at, 0, sent(10, 1900, 0x21, 1));
-    at = put(buf, at, 0, sent(20, 1900, 0x20, 1));
-    put(buf, at, 1228, sent(20, 1900, 0x10, 3))
+    at = put(buf, at, 0, 10, 0x21, 1);
+    at = put(buf, at, 0, 20, 0x20, 1);
+    put(buf, at, 1228, 20, 0x10, 3)
 }
 
 struct Turn {

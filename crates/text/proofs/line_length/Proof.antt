@@ -2,7 +2,7 @@
 use Prim.Native.Nat.{_-_}
 use native.Mathlib.Omega.{arith}
 use borrow.Author.Needs.{needs}
-use Rattle.text.proofs.Lines.{Summing, summing-begun, summing-more, summing-end}
+use Rattle.text.proofs.LinesPut.{Summing, summing-begun, summing-more, summing-end}
 use Rattle.text.proofs.line_length.Statement.{statement}
 use Rattle.text.proofs.line_length.Tie as tie
 

@@ -7,7 +7,7 @@ use lib.ListN.{length}
 use lib.Seq.{length-sets}
 use Rattle.text.specs.Line.{fields}
 use Rattle.text.proofs.Filling.{filling-length}
-use Rattle.text.proofs.Lines.{Left, left-begun, left-room, left-more, left-none}
+use Rattle.text.proofs.LinesPut.{Left, left-begun, left-room, left-more, left-none}
 use Rattle.text.proofs.put_fields.Statement.{statement}
 use Rattle.text.proofs.put_fields.Tie as tie
 

@@ -3,7 +3,7 @@ use mathlib.Core.Path.{_∙_}
 use native.Mathlib.Omega.{arith}
 use Prim.Native.Nat.{_-_}
 use lib.ListN.{set, length-set}
-use Rattle.text.proofs.Lines.{line-unfit, line-end, line-fits}
+use Rattle.text.proofs.LinesPut.{line-unfit, line-end, line-fits}
 use borrow.Author.Needs.{needs}
 use Rattle.text.proofs.put_line.Statement.{statement}
 use Rattle.text.proofs.put_line.Tie as tie

@@ -1,13 +1,14 @@
 -- `exports::counting::sbp_totals` meets its contract: the row of the whole reading's counts.
 use mathlib.Core.Path.{refl, ap}
 use borrow.Author.Needs.{needs}
-use Rattle.exports.specs.Totals.{countsFields, countsRow}
-use Rattle.exports.proofs.Answered.{row-32, row-put}
+use Rattle.exports.specs.Totals.{totalsFields, totalsRow, totalsFor}
+use Rattle.exports.proofs.LentRows.{row-32, row-put}
 use Rattle.exports.proofs.counting.sbp_totals.Statement.{statement}
 use Rattle.exports.proofs.counting.sbp_totals.Tie as tie
 
 returns : tie.Need-returns
-returns c = row-32 countsFields _ _ (c .before .before .before .args .counts .now) (c .if1 .taken)
+unfolding totalsFor
+returns c = row-32 totalsFields (λ x. 0) totalsRow _ (c .before .before .before .args .counts .now) (c .if1 .taken)
 
 totals-requires : tie.Need-totals-requires
 totals-requires c κs = search needs
@@ -19,9 +20,10 @@ same-length : tie.Need-same-length
 same-length c = search needs
 
 returns-2 : tie.Need-returns-2
+unfolding totalsFor
 returns-2 c =
     let a = c .before .before .before .before .before .before .before .before .args in
-    row-put countsFields 0 _ (a .counts .now) (c .before .before .before .before .before .if1 .left) refl (ap countsRow (c .before .before .before .totals .ensures)) (c .before .before .put-counts .ensures)
+    row-put totalsFields (λ x. 0) totalsRow _ (a .counts .now) (c .before .before .before .before .before .if1 .left) refl (ap totalsRow (c .before .before .before .totals .ensures)) (c .before .before .put-counts .ensures)
 
 pub sbp-totals-spec : {M : Type 1} → statement M
 sbp-totals-spec =

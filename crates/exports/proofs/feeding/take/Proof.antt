@@ -1,8 +1,8 @@
 -- `exports::feeding::take` meets its contract: the place is read, stepped and stored.
 use mathlib.Core.Path.{ap, _∙_}
-use Rattle.epochs.specs.Collator.{stepped}
-use Rattle.epochs.specs.declared.placing.Place.{Place}
-use Rattle.epochs.specs.declared.placing.Stepped.{Stepped}
+use Rattle.runs.specs.Run.{stepped}
+use Rattle.epochs.specs.declared.collating.Place.{Place}
+use Rattle.runs.specs.declared.running.Stepped.{Stepped}
 use Rattle.exports.specs.State.{placeStored}
 use borrow.Author.Needs.{needs}
 use Rattle.exports.proofs.feeding.take.Statement.{statement}
@@ -22,9 +22,9 @@ same-length c = search needs
 
 returns : tie.Need-returns
 returns c =
-    let a = c .before .before .before .before .before .before .before .before .before .args in
-    let e = c .before .before .before .before .before .step .ensures ∙ ap (λ (q : Place). stepped q (a .packet)) (c .before .before .before .before .before .before .place-in .ensures) in
-    (ap (λ (x : Stepped). x .ended) e, c .before .before .put-place .ensures ∙ ap (λ (x : Stepped). placeStored (a .s .now) (a .i) (x .place)) e)
+    let a = c .before .before .before .before .before .before .before .before .args in
+    let e = c .before .before .before .before .step .ensures ∙ ap (λ (q : Place). stepped (q .run) (a .packet)) (c .before .before .before .before .before .place-in .ensures) in
+    (ap (λ (x : Stepped). x .ended) e, c .before .before .put-place .ensures ∙ ap (λ (x : Stepped). placeStored (a .s .now) (a .i) (record { run = x .run })) e)
 
 pub take-spec : {M : Type 1} → statement M
 take-spec =

@@ -4,14 +4,14 @@ use Prim.Native.Nat.{ℕ, _-_, _≤_}
 use native.Mathlib.Omega.{arith}
 use borrow.Author.Needs.{needs}
 use lib.ListN.{length}
-use Rattle.exports.specs.Rows.{rowsStored}
-use Rattle.exports.specs.State.{slotFields, placeRow}
+use Rattle.exports.specs.Lent.{firstRowsStored}
+use Rattle.exports.specs.State.{slotFields, placesAt, placeRow}
 use Rattle.exports.proofs.Tables.{rows-none, rows-more, length-stored}
 use Rattle.exports.proofs.making.put_places.Statement.{statement}
 use Rattle.exports.proofs.making.put_places.Tie as tie
 
 abbrev Inv-loop : tie.InvT-loop
-Inv-loop s₀ places i₀ s i = (i ≤ 8) × (s ≡ rowsStored slotFields (placeRow places) i s₀ 17)
+Inv-loop s₀ places i₀ s i = (i ≤ 8) × (s ≡ firstRowsStored slotFields (placeRow places) i s₀ placesAt)
 
 abbrev μ-loop : tie.MeasureT-loop
 μ-loop s₀ places i₀ s i = 8 - i
@@ -35,13 +35,13 @@ loop-less : tie.Need-loop-less Inv-loop μ-loop
 loop-less c = omega arith
 
 loop-again : tie.Need-loop-again Inv-loop μ-loop
-loop-again c = let k = c .before .before .before .before .before .before .loop in let a = c .before .before .before .before .before .before .before .before .args in (omega arith, rows-more slotFields (placeRow (a .t2)) (a .s .now) 17 (k .i) (k .inv .1) (c .before .before .put-place .ensures))
+loop-again c = let k = c .before .before .before .before .before .before .loop in let a = c .before .before .before .before .before .before .before .before .args in (omega arith, rows-more slotFields (placeRow (a .t2)) (a .s .now) placesAt (k .i) (k .inv .1) (c .before .before .put-place .ensures))
 
 same-length : tie.Need-same-length Inv-loop μ-loop
-same-length c = let a = c .before .before .before .args in ap length (c .before .loop .inv .1) ∙ length-stored slotFields (placeRow (a .t2)) (a .s .now) 17 (c .before .loop .i)
+same-length c = let a = c .before .before .before .args in ap length (c .before .loop .inv .1) ∙ length-stored slotFields (placeRow (a .t2)) (a .s .now) placesAt (c .before .loop .i)
 
 returns : tie.Need-returns Inv-loop μ-loop
-returns c = let a = c .before .before .before .args in let end : c .before .loop .i ≡ 8 = omega arith in c .before .loop .inv .1 ∙ ap (λ (n : ℕ). rowsStored slotFields (placeRow (a .t2)) n (a .s .now) 17) end
+returns c = let a = c .before .before .before .args in let end : c .before .loop .i ≡ 8 = omega arith in c .before .loop .inv .1 ∙ ap (λ (n : ℕ). firstRowsStored slotFields (placeRow (a .t2)) n (a .s .now) placesAt) end
 
 pub put-places-spec : {M : Type 1} → statement M
 put-places-spec =

@@ -1,19 +1,17 @@
 -- `exports::making::put_seats` meets its contract. The loop's invariant: the first i seats are stored.
 use mathlib.Core.Path.{_≡_, ap, _∙_}
-use mathlib.Core.List.{[], _∷_}
 use Prim.Native.Nat.{ℕ, _-_, _≤_}
 use native.Mathlib.Omega.{arith}
 use borrow.Author.Needs.{needs}
 use lib.ListN.{length}
-use Rattle.wire.specs.Field.{any, u16}
-use Rattle.exports.specs.Rows.{rowsStored}
-use Rattle.exports.specs.State.{seatRow}
+use Rattle.exports.specs.Lent.{firstRowsStored}
+use Rattle.exports.specs.State.{seatFields, seatsAt, seatRow}
 use Rattle.exports.proofs.Tables.{rows-none, rows-more, length-stored}
 use Rattle.exports.proofs.making.put_seats.Statement.{statement}
 use Rattle.exports.proofs.making.put_seats.Tie as tie
 
 abbrev Inv-loop : tie.InvT-loop
-Inv-loop s₀ roster i₀ s i = (i ≤ 8) × (s ≡ rowsStored (any u16 ∷ []) (seatRow roster) i s₀ 1)
+Inv-loop s₀ roster i₀ s i = (i ≤ 8) × (s ≡ firstRowsStored seatFields (seatRow roster) i s₀ seatsAt)
 
 abbrev μ-loop : tie.MeasureT-loop
 μ-loop s₀ roster i₀ s i = 8 - i
@@ -43,13 +41,13 @@ loop-less : tie.Need-loop-less Inv-loop μ-loop
 loop-less c = omega arith
 
 loop-again : tie.Need-loop-again Inv-loop μ-loop
-loop-again c = let k = c .before .before .before .before .before .loop in let a = c .before .before .before .before .before .before .before .args in (omega arith, rows-more (any u16 ∷ []) (seatRow (a .t2)) (a .s .now) 1 (k .i) (k .inv .1) (c .before .before .store-u16 .ensures))
+loop-again c = let k = c .before .before .before .before .before .loop in let a = c .before .before .before .before .before .before .before .args in (omega arith, rows-more seatFields (seatRow (a .t2)) (a .s .now) seatsAt (k .i) (k .inv .1) (c .before .before .store-u16 .ensures))
 
 same-length : tie.Need-same-length Inv-loop μ-loop
-same-length c = let a = c .before .before .before .args in ap length (c .before .loop .inv .1) ∙ length-stored (any u16 ∷ []) (seatRow (a .t2)) (a .s .now) 1 (c .before .loop .i)
+same-length c = let a = c .before .before .before .args in ap length (c .before .loop .inv .1) ∙ length-stored seatFields (seatRow (a .t2)) (a .s .now) seatsAt (c .before .loop .i)
 
 returns : tie.Need-returns Inv-loop μ-loop
-returns c = let a = c .before .before .before .args in let end : c .before .loop .i ≡ 8 = omega arith in c .before .loop .inv .1 ∙ ap (λ (n : ℕ). rowsStored (any u16 ∷ []) (seatRow (a .t2)) n (a .s .now) 1) end
+returns c = let a = c .before .before .before .args in let end : c .before .loop .i ≡ 8 = omega arith in c .before .loop .inv .1 ∙ ap (λ (n : ℕ). firstRowsStored seatFields (seatRow (a .t2)) n (a .s .now) seatsAt) end
 
 pub put-seats-spec : {M : Type 1} → statement M
 put-seats-spec =

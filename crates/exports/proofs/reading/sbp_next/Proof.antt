@@ -1,13 +1,14 @@
 -- `exports::reading::sbp_next` meets its contract: the row of what comes next.
 use mathlib.Core.Path.{ap, _∙_}
-use Rattle.exports.specs.Found.{foundFields, foundRow, foundIn, numberIn}
-use Rattle.exports.proofs.Answered.{row-32, row-put}
+use Rattle.exports.specs.Found.{foundFields, foundValues, foundIn, numberIn, nextFrom}
+use Rattle.exports.proofs.LentRows.{row-32, row-put}
 use borrow.Author.Needs.{needs}
 use Rattle.exports.proofs.reading.sbp_next.Statement.{statement}
 use Rattle.exports.proofs.reading.sbp_next.Tie as tie
 
 returns : tie.Need-returns
-returns c = row-32 foundFields _ _ (c .before .before .before .args .found .now) (c .if1 .taken)
+unfolding nextFrom
+returns c = row-32 foundFields numberIn (λ x. foundValues (foundIn x)) _ (c .before .before .before .args .found .now) (c .if1 .taken)
 
 next-requires : tie.Need-next-requires
 next-requires c κs = search needs
@@ -25,11 +26,12 @@ same-length : tie.Need-same-length
 same-length c = search needs
 
 returns-2 : tie.Need-returns-2
+unfolding nextFrom
 returns-2 c =
     let a = c .before .before .before .before .before .before .before .before .before .before .args in
     let next = c .before .before .before .before .before .before .next .ensures in
-    row-put foundFields _ _ (a .found .now) (c .before .before .before .before .before .before .before .if1 .left) (c .number-in .ensures ∙ ap numberIn next)
-    (ap foundRow (c .before .before .before .before .found-in .ensures ∙ ap foundIn next)) (c .before .before .before .put-found .ensures)
+    row-put foundFields numberIn (λ x. foundValues (foundIn x)) _ (a .found .now) (c .before .before .before .before .before .before .before .if1 .left) (c .number-in .ensures ∙ ap numberIn next)
+    (ap foundValues (c .before .before .before .before .found-in .ensures ∙ ap foundIn next)) (c .before .before .before .put-found .ensures)
 
 pub sbp-next-spec : {M : Type 1} → statement M
 sbp-next-spec =

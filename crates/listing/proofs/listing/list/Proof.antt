@@ -1,7 +1,7 @@
 -- `listing::listing::list` meets its contract.
 use mathlib.Core.Path.{sym, _∙_}
 use native.Mathlib.Omega.{arith}
-use Rattle.listing.proofs.Texts.{too-long, no-room, all-listed}
+use Rattle.listing.proofs.Texts.{too-long, no-room, text-put}
 use Rattle.listing.proofs.Sizes.{text-size}
 use borrow.Author.Needs.{needs}
 use Rattle.listing.proofs.listing.list.Statement.{statement}
@@ -26,7 +26,7 @@ returns-2 : tie.Need-returns-2
 returns-2 c =
     let a = c .before .before .before .before .before .before .before .before .before .args in
     let at = c .before .before .before .before in
-    all-listed (a .s .now) (a .buf .now) (at .before .before .if1 .left) (sym (at .before .fits2 .ensures) ∙ at .if2 .taken) (c .before .before .put-text .ensures .0) (c .before .before .put-text .ensures .1)
+    text-put (a .s .now) (a .buf .now) (at .before .before .if1 .left) (sym (at .before .fits2 .ensures) ∙ at .if2 .taken) (c .before .before .put-text .ensures .0) (c .before .before .put-text .ensures .1)
 
 returns-3 : tie.Need-returns-3
 returns-3 c =

@@ -5,11 +5,8 @@ use borrow.Author.Needs.{needs}
 use lib.ListN.{length}
 use lib.Seq.{length-sets}
 use Rattle.frames.proofs.CursorLoops.{Walking, left, left-fewer, never-needs}
-use Rattle.payloads.specs.Table.{answerFor}
-use Rattle.epochs.specs.Collator.{fed}
 use Rattle.epochs.specs.declared.collating.Made.{Made}
 use Rattle.listing.specs.Listing.{textOf}
-use Rattle.listing.proofs.Accepted.{lists-nobody}
 use Rattle.listing.proofs.Texts.{Putting, putting-begun, putting-on, putting-end}
 use Rattle.listing.proofs.listing.put_text.Statement.{statement}
 use Rattle.listing.proofs.listing.put_text.Tie as tie
@@ -32,7 +29,7 @@ closed-requires c κs = search needs
 loop-holds : tie.Need-loop-holds Inv-loop μ-loop
 loop-holds c =
     let a = c .before .before .before .before .before .before in
-    putting-begun (a .args .s .now) (a .args .buf .now) (a .good .0 .0) (a .pre) (ap (λ (m : Made). m .collator) (c .before .before .made .ensures) ∙ lists-nobody) (c .closed .ensures)
+    putting-begun (a .args .s .now) (a .args .buf .now) (a .good .0 .0) (a .pre) (ap (λ (m : Made). m .collator) (c .before .before .made .ensures)) (c .closed .ensures)
 
 next-requires : tie.Need-next-requires Inv-loop μ-loop
 next-requires c κs = search needs
@@ -49,14 +46,14 @@ answer-requires c κs = search needs
 put-frame-requires : tie.Need-put-frame-requires Inv-loop μ-loop
 put-frame-requires c κs = search needs
 
-enlisted-requires : tie.Need-enlisted-requires Inv-loop μ-loop
-enlisted-requires c κs = search needs
+enlist-requires : tie.Need-enlist-requires Inv-loop μ-loop
+enlist-requires c κs = search needs
 
 feed-requires : tie.Need-feed-requires Inv-loop μ-loop
 feed-requires c κs = search needs
 
-put-told-requires : tie.Need-put-told-requires Inv-loop μ-loop
-put-told-requires c κs = search needs
+put-epoch-requires : tie.Need-put-epoch-requires Inv-loop μ-loop
+put-epoch-requires c κs = search needs
 
 loop-less : tie.Need-loop-less Inv-loop μ-loop
 loop-less c =
@@ -70,12 +67,12 @@ loop-again c =
     let a = at .before .before .before .before .before .before .before .before in
     let frame = c .before .before .before .before .before .before .before .before .before .before .before .before .before .before .next2 .given in
     let payload = c .before .before .before .before .before .before .before .before .before .before .before .before .payload .ensures in
-    let answer = c .before .before .before .before .before .before .before .before .before .before .answer .ensures ∙ ap (answerFor (frame .0 .0 .kind)) payload in
-    let seated = c .before .before .before .before .before .before .enlisted in
-    let fed-on = c .before .before .before .before .before .feed .ensures ∙ ap (fed (seated .result) (frame .0 .0 .kind) (frame .0 .0 .sender)) payload in
+    let answer = c .before .before .before .before .before .before .before .before .before .before .answer .ensures in
+    let seated = c .before .before .before .before .before .before .enlist .ensures in
+    let fed = c .before .before .before .before .before .feed .ensures in
     let put = c .before .before .before .before .before .before .before .before .before .put-frame .ensures in
-    let said = c .before .before .before .put-told .ensures in
-    putting-on (a .args .s .now) (a .args .buf .now) (a .good .0 .0) (a .pre) (at .before .loop .inv) (sym (at .next .ensures) ∙ frame .1) answer (put .0) (put .1) (seated .ensures) fed-on (said .0) (said .1)
+    let said = c .before .before .before .put-epoch .ensures in
+    putting-on (a .args .s .now) (a .args .buf .now) (a .good .0 .0) (a .pre) (at .before .loop .inv) (sym (at .next .ensures) ∙ frame .1) payload answer (put .0) (put .1) seated fed (said .0) (said .1)
 
 enum-known-next-2 : tie.Need-enum-known-next-2 Inv-loop μ-loop
 enum-known-next-2 c = search needs
@@ -126,9 +123,9 @@ put-text-spec =
     payload-requires
     answer-requires
     put-frame-requires
-    enlisted-requires
+    enlist-requires
     feed-requires
-    put-told-requires
+    put-epoch-requires
     loop-less
     loop-again
     enum-known-next-2

@@ -23,17 +23,14 @@ number-requires c κs = search needs
 loop-holds : tie.Need-loop-holds Inv-loop μ-loop
 loop-holds c = omega arith
 
-mul-sent : tie.Need-mul-sent Inv-loop μ-loop
-mul-sent c = omega arith
+mul-fed : tie.Need-mul-fed Inv-loop μ-loop
+mul-fed c = omega arith
 
-add-sent : tie.Need-add-sent Inv-loop μ-loop
-add-sent c = omega arith
+add-fed : tie.Need-add-fed Inv-loop μ-loop
+add-fed c = omega arith
 
-cast-sent : tie.Need-cast-sent Inv-loop μ-loop
-cast-sent c = omega arith
-
-sent-requires : tie.Need-sent-requires Inv-loop μ-loop
-sent-requires c κs = search needs
+cast-fed : tie.Need-cast-fed Inv-loop μ-loop
+cast-fed c = omega arith
 
 fed-requires : tie.Need-fed-requires Inv-loop μ-loop
 fed-requires c κs = search needs
@@ -63,10 +60,9 @@ whole-spec =
     word-requires
     number-requires
     loop-holds
-    mul-sent
-    add-sent
-    cast-sent
-    sent-requires
+    mul-fed
+    add-fed
+    cast-fed
     fed-requires
     add-i
     loop-less

@@ -1,0 +1,128 @@
+-- Demand 2: "Equal to the published protocol, reading and writing. The frames found are exactly those that specification 1.1 and our written
+-- resume rule give; every byte of a complete capture is in one frame or counted as passed over under one reason; a record written reads back
+-- bit for bit; an accepted payload written again gives the same bytes; an epoch is reported exactly when its packets stand as document 01 says,
+-- once each." Sentence by sentence, and then document 01's section on `sbplist`. Assumes nothing.
+use mathlib.Core.Path.{_≡_}
+use mathlib.Core.Bool.{Bool, true}
+use mathlib.Core.List.{List, [], _++_, map, flatMap}
+use mathlib.Core.Logic.{_↔_, _⊎_}
+use Prim.Native.Nat.{ℕ, _+_, _*_, _^_, _≤_, _<_}
+use lib.IntN.{ℤ}
+use lib.ListN.{length, getD, take, drop, replicate}
+use denote.Ref.{now}
+use Rattle.wire.specs.Number.{Bytes}
+use Rattle.wire.specs.Refusals.{given}
+use Rattle.frames.specs.Frame.{frameBytes, Content, Sendable, AllSendable, frameOf, stream}
+use Rattle.frames.specs.Step.{stepAt, payloadIn}
+use Rattle.frames.specs.Reading.{Positioned, closedSteps, openSteps, Tiled, holding, beforeShort, framesOf, countsOf, sumOf}
+use Rattle.frames.specs.Writer.{asRead, foundFrom}
+use Rattle.frames.specs.Decides.{Decides}
+use Rattle.frames.specs.declared.step.Frame.{Frame}
+use Rattle.frames.specs.declared.step.Step.{Step}
+use Rattle.frames.specs.declared.step.Step.the-variants.{Found}
+use Rattle.observation.specs.ObsFaithful.{ObsFaithful}
+use Rattle.observation.specs.Phase.{phaseOf, partsOf}
+use Rattle.observation.specs.declared.phase.Phase.{Phase}
+use Rattle.system.specs.LogFaithful.{LogFaithful}
+use Rattle.obs_reader.specs.Walk.{Walk, standing, askedTimes, observationsIn, pastThem}
+use Rattle.obs_reader.specs.declared.ObsReader.{ObsReader}
+use Rattle.payloads.specs.Payloads.{messages, Promised, AllOf}
+use Rattle.packets.specs.declared.packet.Packet.{Packet}
+use Rattle.runs.specs.InWords.{EpochEnds, InWords}
+use Rattle.epochs.specs.Search.{names}
+use Rattle.epochs.specs.Collator.{fedFrame, made}
+use Rattle.epochs.specs.Epoch.{after, reports, reportsOf, EndsEpoch, Epochs, contentsOf}
+use Rattle.epochs.specs.Capture.{collated}
+use Rattle.epochs.specs.declared.collating.Report.{Report}
+use Rattle.epochs.specs.declared.collating.Happened.the-variants as H
+use Rattle.text.specs.Decimal.{decimal, valueFrom}
+use Rattle.enlisting.specs.FirstEight.{different, obsSendersIn, rosterIn}
+use Rattle.listing.specs.Listing.{frameLine, totalsLine, textOf, listAnswer, withListing}
+use Rattle.listing.specs.Words.{Lines}
+use Rattle.demands.specs.Handed.{Handed}
+
+-- "The frames found are exactly those that specification 1.1 and our written resume rule give"
+pub record FramesFound : Type 0 where
+  -- at every position the first of the five lines that holds decides
+  pub five-lines : (s : List ℕ) (p : ℕ) (x : Step) → (stepAt s p ≡ x) ↔ Decides s p x
+  -- closed reading goes from 0 to the end by the capture's own steps, each from where the one before ended, and no other steps do
+  pub closed-reading : (s : List ℕ) (xs : List Positioned) → Tiled s 0 (length s) xs ↔ (xs ≡ closedSteps s)
+  -- open reading is the same up to the first short
+  pub open-reading : (s : List ℕ) → openSteps s ≡ beforeShort (closedSteps s)
+  -- calls of `next` hand out the frames of those steps in order, and stop with the counts of these steps
+  pub handed-out : (opened : Bool) (s : List ℕ) → length s < 2 ^ 64 → Handed opened s
+  -- a frame that is found has specification 1.1's form, and what has that form is found where a reading comes to it
+  pub found-formed : (s : List ℕ) (p : ℕ) (f : Frame) → Bytes s → stepAt s p ≡ Found f
+      → take (f .length + 8) (drop p s) ≡ frameBytes (f .kind) (f .sender) (payloadIn s f)
+  pub formed-found : (m : Content) (before rest : List ℕ) → Sendable m → stepAt (before ++ (frameOf m ++ rest)) (length before) ≡ Found (asRead (length before) m)
+  -- frames written one after the other read back as these frames, with these payloads
+  pub written-found : (ms : List Content) → AllSendable ms
+      → (closedSteps (stream ms) ≡ foundFrom 0 ms)
+      × (map (payloadIn (stream ms)) (framesOf (closedSteps (stream ms))) ≡ map (λ (m : Content). m .payload) ms)
+
+-- "every byte of a complete capture is in one frame or counted as passed over under one reason"
+pub record EveryByteCounted : Type 0 where
+  pub every-byte-once : (s : List ℕ) (i : ℕ) → i < length s → holding i (closedSteps s) ≡ 1
+  pub counts-add-up : (s : List ℕ) → sumOf (countsOf (closedSteps s)) ≡ length s
+
+-- "a record written reads back bit for bit; an accepted payload written again gives the same bytes"
+pub record ReadAndWritten : Type 0 where
+  -- every message: `Faithful` says both, and under the number by which it is written its own reader reads it
+  pub messages : AllOf Promised messages
+  -- what is read and written of OBS, and of LOG, is that message
+  pub obs : ObsFaithful
+  pub log : LogFaithful
+  -- "a reader that keeps the lent payload and its place": asked n times it keeps its payload and stands where n questions lead
+  pub obs-asked : (n : ℕ) (r : ObsReader) → askedTimes n r ≡ record { kind = r .kind; payload = r .payload; at = standing n (r .kind) (now (r .payload)) (r .at) }
+  -- from the start they are answered by the payload's observations in order, each once, and by a refusal from then on
+  pub obs-walk : (kind : ℕ) (s : List ℕ) (more : ℕ)
+      → Walk (length (observationsIn kind s) + more) kind s 0 (map given (observationsIn kind s) ++ replicate more (pastThem kind s)) (length (observationsIn kind s))
+  -- the carrier phase has one pair, which gives it back
+  pub phase : ((z : ℤ) → phaseOf (partsOf z) ≡ z) × ((p : Phase) → p .«l_f» < 256 → partsOf (phaseOf p) ≡ p)
+
+-- "an epoch is reported exactly when its packets stand as document 01 says, once each"
+pub record EpochsReported : Type 0 where
+  -- after any frames, feeding one more reports an epoch exactly when that frame ends it
+  pub reported-exactly : (roster : List ℕ) → made roster .number ≡ 0 → (xs : List Content) (x : Content) (e : Report)
+      → (fedFrame (after (made roster .collator) xs) x .happened ≡ H.Epoch e) ↔ EndsEpoch roster xs x e
+  -- which is, packet by packet, what document 01 says
+  pub in-words : (p : Packet) (past : List Packet) (total : ℕ) → 1 ≤ p .key .n → EpochEnds p past total ↔ InWords p past total
+  -- once each: a frame ends one epoch at most
+  pub one-at-most : (roster : List ℕ) → made roster .number ≡ 0 → (xs : List Content) (x : Content) (d e : Report)
+      → EndsEpoch roster xs x d → EndsEpoch roster xs x e → d ≡ e
+  -- "and the sum of k (at most 225)", of payloads that are bytes
+  pub at-most-225 : (roster : List ℕ) → made roster .number ≡ 0 → (xs : List Content) (x : Content) (e : Report) → Bytes (x .payload)
+      → fedFrame (after (made roster .collator) xs) x .happened ≡ H.Epoch e → e .observations ≤ 225
+  -- a whole capture, read closed and fed in order to a fresh collator: its epochs are what is reported, each once and in order
+  pub capture-reported : (roster : List ℕ) → made roster .number ≡ 0 → (s : List ℕ) (es : List Report)
+      → Epochs roster [] (contentsOf s) es ↔ (es ≡ reports (made roster .collator) (contentsOf s))
+  -- `collate` counts them by place
+  pub capture-counted : (roster : List ℕ) → made roster .number ≡ 0 → (s : List ℕ) (es : List Report) → length s < 2 ^ 64 → Epochs roster [] (contentsOf s) es
+      → (i : ℕ) → i < length roster → getD (collated s roster .reports) i 0 ≡ length (reportsOf (getD roster i 0) es)
+
+-- document 01, "`sbplist`"
+pub record Listed : Type 0 where
+  -- "The roster is the first eight different senders of frames of type 0x0049, malformed ones too, in order of appearance"
+  pub roster : (s : List ℕ) → rosterIn s ≡ take 8 (different [] (obsSendersIn s))
+  -- so it names only such senders, and every one of them while it has room
+  pub roster-names : (s : List ℕ) (sender : ℕ)
+      → (names (rosterIn s) sender ≡ true → names (obsSendersIn s) sender ≡ true)
+      × (length (rosterIn s) < 8 → names (obsSendersIn s) sender ≡ true → names (rosterIn s) sender ≡ true)
+  -- a collator takes it, unless it is empty
+  pub roster-taken : (s : List ℕ) → (rosterIn s ≡ []) ⊎ (made (rosterIn s) .number ≡ 0)
+  -- "for each frame `F` ..; after the frame that ends an epoch, `E` ..; at the end `T` ..": the text is these lines, and no other
+  pub lines : (s text : List ℕ) → Lines s (rosterIn s) [] (framesOf (closedSteps s)) text ↔ (textOf s ≡ text ++ totalsLine s)
+  -- "with none, no collator is made": no `E` line
+  pub lines-alone : (s : List ℕ) → obsSendersIn s ≡ [] → textOf s ≡ flatMap (frameLine s) (framesOf (closedSteps s)) ++ totalsLine s
+  -- "numbers in decimal": the digits stand for the number
+  pub decimals : (n : ℕ) → valueFrom 0 (decimal n) ≡ n
+  -- a buffer of 8 bytes for each of a capture's, and 32, gets the whole text, and keeps the bytes after it
+  pub room : (s buf : List ℕ) → Bytes s → length s ≤ 65536 → 8 * length s + 32 ≤ length buf
+      → (listAnswer s (length buf) ≡ given (length (textOf s))) × (withListing s buf ≡ textOf s ++ drop (length (textOf s)) buf)
+
+pub record Demand2 : Type 0 where
+  pub frames-found : FramesFound
+  pub every-byte-counted : EveryByteCounted
+  pub read-and-written : ReadAndWritten
+  pub epochs-reported : EpochsReported
+  pub listing : Listed

@@ -1,0 +1,54 @@
+-- The demands of the functions that C and Rust link, which live on lent bytes: a refusal writes nothing and moves no state, the frames are those
+-- of the reading, an epoch is reported exactly where document 01 says, and senders don't mix. Assumes nothing.
+use mathlib.Core.Path.{_≡_}
+use mathlib.Core.Bool.{Bool}
+use mathlib.Core.List.{List}
+use mathlib.Core.Logic.{_↔_}
+use Prim.Native.Nat.{ℕ, _^_, _≤_, _<_}
+use lib.ListN.{length}
+use Rattle.wire.specs.Number.{Bytes, numberAt}
+use Rattle.wire.specs.Refusals.{ordered}
+use Rattle.frames.specs.Frame.{Content}
+use Rattle.frames.specs.Reading.{steps, closedSteps, framesOf, countsOf}
+use Rattle.frames.specs.Cursors.{nextOf, Says}
+use Rattle.epochs.specs.Collator.{ownPlace, rosterOf, fresh}
+use Rattle.epochs.specs.Epoch.{SameFrames, EndsEpoch}
+use Rattle.epochs.specs.declared.collating.Report.{Report}
+use Rattle.exports.specs.Claims.{Kept, Filled}
+use Rattle.exports.specs.Found.{startAt, finding, nextFrom}
+use Rattle.exports.specs.Totals.{totalling, totalsFor}
+use Rattle.exports.specs.State.{stateIn}
+use Rattle.exports.specs.Feed.{making, madeIn, madeStored, reportSize, feedingIn, forPlaceIn, fedIn, afterIn}
+
+-- an epoch's numbers in a row of bytes, each where the C header has it
+pub record Shown (row : List ℕ) (e : Report) : Type 0 where
+  pub sender : numberAt 2 row 0 ≡ e .sender
+  pub week : numberAt 2 row 2 ≡ e .wn
+  pub time : numberAt 4 row 4 ≡ e .tow
+  pub packets : numberAt 1 row 8 ≡ e .n
+  pub observations : numberAt 2 row 9 ≡ e .observations
+
+-- demand 1: "refused by number". The number handed back is read off an answer by the call's own list; what that comes to is `in-order` there.
+-- `sbp_list` answers by demand 1's list for a capture, `sbp_answer` by that for a payload
+pub record ByNumber : Type 0 where
+  pub next : (s : List ℕ) (at : ℕ) (opened : Bool) (room : ℕ) → nextFrom s at opened room ≡ ordered (finding room) (nextOf s (startAt at opened))
+  pub totals : (s : List ℕ) (room : ℕ) → totalsFor s room ≡ ordered (totalling room) (countsOf (closedSteps s))
+  pub collator : (roster : List ℕ) (room : ℕ) → madeIn roster room ≡ ordered (making roster room) (fresh roster)
+  pub feed : (state : List ℕ) (room : ℕ) (x : Content) → forPlaceIn state room x ≡ ordered (feedingIn state room x) (ownPlace (rosterOf (stateIn state)) x)
+
+pub record Exported : Type 0 where
+  pub by-number : ByNumber
+  -- demand 1: "and a refusal writes nothing and moves no state"
+  pub kept : Kept
+  -- demand 2: from a position on `sbp_next` shows the first frame left of the reading there, and where the others are left, or that there is none
+  pub frames-left : (s : List ℕ) → length s < 2 ^ 64 → (at : ℕ) (opened : Bool) → at ≤ length s
+      → Says opened s (framesOf (steps opened s at)) (nextOf s (startAt at opened))
+  -- `sbp_feed` answers 1 exactly where the frame ends an epoch
+  pub epochs-answered : (roster s report : List ℕ) (xs : List Content) → Filled roster s report xs → (x : Content) → Bytes (x .payload) → (lent : List ℕ) → reportSize ≤ length lent
+      → (fedIn (afterIn (madeStored roster s) report xs) x lent .answer ≡ 1) ↔ ((e : Report) × EndsEpoch roster xs x e)
+  -- and then the lent bytes show that epoch
+  pub epochs-stored : (roster s report : List ℕ) (xs : List Content) → Filled roster s report xs → (x : Content) → Bytes (x .payload) → (lent : List ℕ) → reportSize ≤ length lent
+      → (e : Report) → EndsEpoch roster xs x e → Shown (fedIn (afterIn (madeStored roster s) report xs) x lent .report) e
+  -- demand 3: the same frames of every listed sender leave bytes that stand for the same state
+  pub unmixed : (roster s t report other : List ℕ) (xs ys : List Content) → Filled roster s report xs → Filled roster t other ys → SameFrames roster xs ys
+      → stateIn (afterIn (madeStored roster s) report xs) ≡ stateIn (afterIn (madeStored roster t) other ys)

@@ -1,0 +1,2 @@
+pub mod Determining
+pub mod All

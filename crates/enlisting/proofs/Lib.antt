@@ -1,0 +1,4 @@
+pub mod Joining
+pub mod EightSenders
+pub mod Seating
+pub mod Growing

@@ -1,0 +1,2 @@
+pub mod FirstEight
+pub mod Enlisting
