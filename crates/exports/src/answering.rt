@@ -1,7 +1,7 @@
 // The CRC of some bytes, and the answer of a payload.
 ghost use mathlib.Core.Path.{_≡_};
 ghost use Rattle.crc.specs.Crc.{crcFrom};
-ghost use Rattle.payloads.specs.Table.{answerFor};
+ghost use Rattle.payloads.specs.Payloads.{answerFor};
 
 #[no_mangle]
 pub extern "C" fn sbp_crc(bytes: &[u8]) -> u16
