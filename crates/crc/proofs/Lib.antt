@@ -1,4 +1,4 @@
 pub mod Xor
 pub mod Split
 pub mod Fold
-pub mod Table
+pub mod ByTable

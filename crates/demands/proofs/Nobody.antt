@@ -8,11 +8,12 @@ use lib.ListN.{length}
 use Rattle.wire.specs.Refusals.{refused, given, Answer, ordered}
 use Rattle.frames.specs.Frame.{Content}
 use Rattle.observation.specs.Edition.{first, fitting, isObs}
-use Rattle.packets.specs.Packet.{Packet, shape}
+use Rattle.packets.specs.Packet.{shape}
 use Rattle.epochs.specs.Search.{names}
 use Rattle.epochs.specs.Collator.{forPlace, fedFrame, fresh, rostering, asMade, made}
 use Rattle.epochs.specs.Epoch.{after}
 use Rattle.epochs.specs.declared.collating.Collator.{Collator}
+use Rattle.epochs.specs.declared.collating.Fed.{Fed}
 use Rattle.epochs.specs.declared.collating.Made.{Made}
 use Rattle.epochs.specs.declared.collating.Happened.the-variants as H
 use Rattle.epochs.proofs.Feeding.{fed-refused}
@@ -41,7 +42,7 @@ module _ (x : Content) where
 stays : (xs : List Content) → after (fresh []) xs ≡ fresh []
 unfolding after
 stays [] = refl
-stays (x ∷ xs) = ap (λ (c : Collator). after c xs) (ap (λ f. f .collator) (fed x)) ∙ stays xs
+stays (x ∷ xs) = ap (λ (f : Fed). after (f .collator) xs) (fed x) ∙ stays xs
 
 pub nobody-listed : (roster : List ℕ) → (made roster .number ≡ 0 → ⊥) → (xs : List Content) (x : Content)
     → (n : ℕ) × ((n ≡ 46) ⊎ (n ≡ 22) ⊎ (n ≡ 43)) × (fedFrame (after (made roster .collator) xs) x ≡ record { collator = fresh []; happened = H.Refused n })

@@ -3,6 +3,7 @@ use mathlib.Core.Path.{refl, ap}
 use Prim.Native.Nat.{ℕ}
 use denote.Ref.{now}
 use Rattle.wire.specs.Description.{readAs}
+use Rattle.wire.proofs.Layouts.{bytes-nowhere}
 use Rattle.wire.proofs.Ordered.{exactly-first, exactly-all}
 use Rattle.frames.specs.Writer.{planned, withFrame}
 use Rattle.frames.specs.Faithful.{writeAnswer, writtenAs}
@@ -15,7 +16,6 @@ use Rattle.obs_reader.proofs.OneQuestion.{stays}
 use Rattle.epochs.specs.Collator.{forPlace, fedFrame, made}
 use Rattle.epochs.proofs.Feeding.{refused-keeps}
 use Rattle.epochs.proofs.Captures.{collated-refused}
-use Rattle.text.proofs.Pending.{laid-unfit}
 use Rattle.listing.specs.Listing.{listAnswer}
 use Rattle.demands.specs.Demand1.{RefusedByNumber, WritesNothing, MovesNoState, Demand1}
 use Rattle.demands.proofs.Nobody.{nobody-listed}
@@ -48,7 +48,7 @@ writes-nothing = record {
   refused-log = λ sender r buf n e. rw e;
   refused-bytes = λ kind sender payload buf n e. rw e;
   refused-listing = λ s buf n e. rw e;
-  unfit-line = laid-unfit;
+  unfit-bytes = bytes-nowhere;
 }
 
 moves-no-state : MovesNoState

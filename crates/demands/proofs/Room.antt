@@ -6,9 +6,9 @@ use native.Mathlib.Omega.{arith}
 use lib.ListN.{length, drop}
 use borrow.Author.Tests.{le-leb}
 use Rattle.wire.specs.Number.{Bytes}
-use Rattle.wire.specs.Refusals.{given, Answer}
+use Rattle.wire.specs.Refusals.{given}
 use Rattle.wire.proofs.Ordered.{exactly-all}
-use Rattle.listing.specs.Listing.{textOf, listing, listAnswer, listedAs, withListing}
+use Rattle.listing.specs.Listing.{textOf, listing, listAnswer, withListing}
 use Rattle.listing.proofs.Sizes.{text-size}
 
 module _ (s buf : List ℕ) (bytes : Bytes s) (short : length s ≤ 65536) (room : 8 * length s + 32 ≤ length buf) where
@@ -19,4 +19,4 @@ module _ (s buf : List ℕ) (bytes : Bytes s) (short : length s ≤ 65536) (room
       exactly-all (length (textOf s)) (listing s (length buf)) (length (textOf s)) .1 ((le-leb (length s) 65536 short, (le-leb (length (textOf s)) (length buf) fits, tt)), refl)
 
   pub room-enough : (listAnswer s (length buf) ≡ given (length (textOf s))) × (withListing s buf ≡ textOf s ++ drop (length (textOf s)) buf)
-  room-enough = (answered, ap (λ (a : Answer ℕ). listedAs a s buf) answered)
+  room-enough = (answered, rw answered)

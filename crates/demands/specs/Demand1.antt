@@ -9,6 +9,7 @@ use Prim.Native.Nat.{ℕ, _+_, _<_}
 use lib.IntN.{ℤ}
 use lib.ListN.{length}
 use denote.Ref.{now}
+use Rattle.wire.specs.Number.{bytesStored}
 use Rattle.wire.specs.Layout.{bodySize}
 use Rattle.wire.specs.Description.{Description, inside, reading, readAs}
 use Rattle.wire.specs.Refusals.{refused, given, Tests, ordered, FirstFails, AllPass}
@@ -31,7 +32,6 @@ use Rattle.epochs.specs.Epoch.{after}
 use Rattle.epochs.specs.Capture.{begun, collated}
 use Rattle.epochs.specs.declared.collating.Collator.{Collator}
 use Rattle.epochs.specs.declared.collating.Happened.the-variants as H
-use Rattle.text.specs.Line.{laid}
 use Rattle.listing.specs.Listing.{textOf, listing, listAnswer, withListing}
 
 -- "a roster, payload, index or buffer that doesn't fit is refused by number"
@@ -73,8 +73,8 @@ pub record WritesNothing : Type 1 where
   pub refused-bytes : (kind sender : ℕ) (payload buf : List ℕ) (n : ℕ)
       → planned (length payload) (length buf) ≡ refused n → withFrame kind sender payload buf ≡ buf
   pub refused-listing : (s buf : List ℕ) (n : ℕ) → listAnswer s (length buf) ≡ refused n → withListing s buf ≡ buf
-  -- a line of text has no number to be refused by: where it has no room, nothing is written
-  pub unfit-line : (buf : List ℕ) (at : ℕ) (text : List ℕ) → length buf < at + length text → laid buf at text ≡ buf
+  -- bytes to store, a line of text among them, have no number to be refused by: where they have no room, nothing is written
+  pub unfit-bytes : (bs buf : List ℕ) (at : ℕ) → length buf < at + length bs → bytesStored bs buf at ≡ buf
 
 -- "and moves no state"
 pub record MovesNoState : Type 0 where

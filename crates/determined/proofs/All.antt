@@ -48,6 +48,9 @@ module _ {M : Type 1} (𝓤 : URA M) (H : Heap 𝓤) (A : Atoms 𝓤) (mem : Mem
   pub epochs : public.Epochs 𝓤 H A mem run
   epochs = search determinations
 
+  pub enlisting : public.Enlisting 𝓤 H A mem run
+  enlisting = search determinations
+
   pub listing : public.Listing 𝓤 H A mem run
   listing = search determinations
 

@@ -1,6 +1,6 @@
 -- What a call leaves is determined by what its contract says: a result by itself or by the answer that the contract speaks of, and lent bytes.
 -- Assumes nothing.
-use mathlib.Core.Path.{_≡_, refl, sym, ap, _∙_}
+use mathlib.Core.Path.{_≡_, refl, sym, ap, ap₂, _∙_}
 use mathlib.Core.List.{List}
 use denote.Ref.{RefT}
 use Prim.Native.Nat.{ℕ}
@@ -101,71 +101,71 @@ module _ {M : Type 1} (𝓤 : URA M) where
   abbrev Answered : {E A : Type 0} → (E → A) → Type 1
   Answered {E} {A} answer = (x y : E) (d : A) → ent 𝓤 (conj 𝓤 (fact 𝓤 (answer x ≡ d)) (fact 𝓤 (answer y ≡ d))) (fact 𝓤 ((x ≡ y) × Unit {0}))
 
-  enum : {E A : Type 0} {answer : E → Answer A} (record-of : A → E) (refusal : ℕ → E) → ((r : E) → variantOf record-of refusal (answer r) ≡ r) → Answered answer
-  enum {answer = answer} record-of refusal returns x y d = one-clause (λ p e. (back answer record-of refusal returns p e, tt))
+  enum : {E A : Type 0} (answer : E → Answer A) (record-of : A → E) (refusal : ℕ → E) → ((r : E) → variantOf record-of refusal (answer r) ≡ r) → Answered answer
+  enum answer record-of refusal returns x y d = one-clause (λ p e. (back answer record-of refusal returns p e, tt))
 
   pub gps-time : Answered GpsTime.answerOf
-  gps-time = enum GpsTimeRead.Record GpsTimeRead.Refused (elim [ GpsTimeRead.Record r ↦ refl | GpsTimeRead.Refused n ↦ refl ])
+  gps-time = enum GpsTime.answerOf GpsTimeRead.Record GpsTimeRead.Refused (elim [ GpsTimeRead.Record r ↦ refl | GpsTimeRead.Refused n ↦ refl ])
 
   pub dilutions : Answered Dops.answerOf
-  dilutions = enum DopsRead.Record DopsRead.Refused (elim [ DopsRead.Record r ↦ refl | DopsRead.Refused n ↦ refl ])
+  dilutions = enum Dops.answerOf DopsRead.Record DopsRead.Refused (elim [ DopsRead.Record r ↦ refl | DopsRead.Refused n ↦ refl ])
 
   pub pos-ecef : Answered PosEcef.answerOf
-  pos-ecef = enum PosEcefRead.Record PosEcefRead.Refused (elim [ PosEcefRead.Record r ↦ refl | PosEcefRead.Refused n ↦ refl ])
+  pos-ecef = enum PosEcef.answerOf PosEcefRead.Record PosEcefRead.Refused (elim [ PosEcefRead.Record r ↦ refl | PosEcefRead.Refused n ↦ refl ])
 
   pub pos-llh : Answered PosLlh.answerOf
-  pos-llh = enum PosLlhRead.Record PosLlhRead.Refused (elim [ PosLlhRead.Record r ↦ refl | PosLlhRead.Refused n ↦ refl ])
+  pos-llh = enum PosLlh.answerOf PosLlhRead.Record PosLlhRead.Refused (elim [ PosLlhRead.Record r ↦ refl | PosLlhRead.Refused n ↦ refl ])
 
   pub ecef-vector : Answered Ecef.answerOf
-  ecef-vector = enum EcefVectorRead.Record EcefVectorRead.Refused (elim [ EcefVectorRead.Record r ↦ refl | EcefVectorRead.Refused n ↦ refl ])
+  ecef-vector = enum Ecef.answerOf EcefVectorRead.Record EcefVectorRead.Refused (elim [ EcefVectorRead.Record r ↦ refl | EcefVectorRead.Refused n ↦ refl ])
 
   pub ned-vector : Answered Ned.answerOf
-  ned-vector = enum NedVectorRead.Record NedVectorRead.Refused (elim [ NedVectorRead.Record r ↦ refl | NedVectorRead.Refused n ↦ refl ])
+  ned-vector = enum Ned.answerOf NedVectorRead.Record NedVectorRead.Refused (elim [ NedVectorRead.Record r ↦ refl | NedVectorRead.Refused n ↦ refl ])
 
   pub baseline-heading : Answered Heading.answerOf
-  baseline-heading = enum BaselineHeadingRead.Record BaselineHeadingRead.Refused (elim [ BaselineHeadingRead.Record r ↦ refl | BaselineHeadingRead.Refused n ↦ refl ])
+  baseline-heading = enum Heading.answerOf BaselineHeadingRead.Record BaselineHeadingRead.Refused (elim [ BaselineHeadingRead.Record r ↦ refl | BaselineHeadingRead.Refused n ↦ refl ])
 
   pub base-pos-llh : Answered BasePosLlh.answerOf
-  base-pos-llh = enum BasePosLlhRead.Record BasePosLlhRead.Refused (elim [ BasePosLlhRead.Record r ↦ refl | BasePosLlhRead.Refused n ↦ refl ])
+  base-pos-llh = enum BasePosLlh.answerOf BasePosLlhRead.Record BasePosLlhRead.Refused (elim [ BasePosLlhRead.Record r ↦ refl | BasePosLlhRead.Refused n ↦ refl ])
 
   pub base-pos-ecef : Answered BasePosEcef.answerOf
-  base-pos-ecef = enum BasePosEcefRead.Record BasePosEcefRead.Refused (elim [ BasePosEcefRead.Record r ↦ refl | BasePosEcefRead.Refused n ↦ refl ])
+  base-pos-ecef = enum BasePosEcef.answerOf BasePosEcefRead.Record BasePosEcefRead.Refused (elim [ BasePosEcefRead.Record r ↦ refl | BasePosEcefRead.Refused n ↦ refl ])
 
   pub obs : Answered Obs.obsAnswer
-  obs = enum ObsRead.Record ObsRead.Refused (elim [ ObsRead.Record r ↦ refl | ObsRead.Refused n ↦ refl ])
+  obs = enum Obs.obsAnswer ObsRead.Record ObsRead.Refused (elim [ ObsRead.Record r ↦ refl | ObsRead.Refused n ↦ refl ])
 
   pub one-observation : Answered Obs.entryAnswer
-  one-observation = enum ObservationRead.the-variants.Record ObservationRead.the-variants.Refused (elim [ ObservationRead.the-variants.Record r ↦ refl | ObservationRead.the-variants.Refused n ↦ refl ])
+  one-observation = enum Obs.entryAnswer ObservationRead.the-variants.Record ObservationRead.the-variants.Refused (elim [ ObservationRead.the-variants.Record r ↦ refl | ObservationRead.the-variants.Refused n ↦ refl ])
 
   pub phase-parts : Answered Phase.partsAnswer
-  phase-parts = enum PhaseParts.Parts PhaseParts.Refused (elim [ PhaseParts.Parts r ↦ refl | PhaseParts.Refused n ↦ refl ])
+  phase-parts = enum Phase.partsAnswer PhaseParts.Parts PhaseParts.Refused (elim [ PhaseParts.Parts r ↦ refl | PhaseParts.Refused n ↦ refl ])
 
   pub log : Answered Log.logAnswer
-  log = enum LogRead.Record LogRead.Refused (elim [ LogRead.Record r ↦ refl | LogRead.Refused n ↦ refl ])
+  log = enum Log.logAnswer LogRead.Record LogRead.Refused (elim [ LogRead.Record r ↦ refl | LogRead.Refused n ↦ refl ])
 
   pub empty : Answered Empty.emptyAnswer
-  empty = enum (λ x. EmptyRead.Empty) EmptyRead.Refused (elim [ EmptyRead.Empty ↦ refl | EmptyRead.Refused n ↦ refl ])
+  empty = enum Empty.emptyAnswer (λ x. EmptyRead.Empty) EmptyRead.Refused (elim [ EmptyRead.Empty ↦ refl | EmptyRead.Refused n ↦ refl ])
 
   pub read-by-index-req : Answered ReadByIndexReq.answerOf
-  read-by-index-req = enum ReadByIndexReqRead.Record ReadByIndexReqRead.Refused (elim [ ReadByIndexReqRead.Record r ↦ refl | ReadByIndexReqRead.Refused n ↦ refl ])
+  read-by-index-req = enum ReadByIndexReq.answerOf ReadByIndexReqRead.Record ReadByIndexReqRead.Refused (elim [ ReadByIndexReqRead.Record r ↦ refl | ReadByIndexReqRead.Refused n ↦ refl ])
 
   pub start-up : Answered Startup.answerOf
-  start-up = enum StartupRead.Record StartupRead.Refused (elim [ StartupRead.Record r ↦ refl | StartupRead.Refused n ↦ refl ])
+  start-up = enum Startup.answerOf StartupRead.Record StartupRead.Refused (elim [ StartupRead.Record r ↦ refl | StartupRead.Refused n ↦ refl ])
 
   pub heart-beat : Answered Heartbeat.answerOf
-  heart-beat = enum HeartbeatRead.Record HeartbeatRead.Refused (elim [ HeartbeatRead.Record r ↦ refl | HeartbeatRead.Refused n ↦ refl ])
+  heart-beat = enum Heartbeat.answerOf HeartbeatRead.Record HeartbeatRead.Refused (elim [ HeartbeatRead.Record r ↦ refl | HeartbeatRead.Refused n ↦ refl ])
 
   pub reading : Answered Payloads.readingAnswer
-  reading = enum Reading.Record Reading.Refused (elim [ Reading.Record r ↦ refl | Reading.Refused n ↦ refl ])
+  reading = enum Payloads.readingAnswer Reading.Record Reading.Refused (elim [ Reading.Record r ↦ refl | Reading.Refused n ↦ refl ])
 
   pub packet-read : Answered Packet.packetAnswer
-  packet-read = enum PacketRead.Record PacketRead.Refused (elim [ PacketRead.Record r ↦ refl | PacketRead.Refused n ↦ refl ])
+  packet-read = enum Packet.packetAnswer PacketRead.Record PacketRead.Refused (elim [ PacketRead.Record r ↦ refl | PacketRead.Refused n ↦ refl ])
 
   pub recognised : Answered Collator.recognisedAnswer
-  recognised = enum (λ x. Recognised.For (x .0) (x .1)) Recognised.Refused (elim [ Recognised.For i p ↦ refl | Recognised.Refused n ↦ refl ])
+  recognised = enum Collator.recognisedAnswer (λ x. Recognised.For (x .0) (x .1)) Recognised.Refused (elim [ Recognised.For i p ↦ refl | Recognised.Refused n ↦ refl ])
 
   pub written : Answered Writer.writtenAnswer
-  written = enum Written.the-variants.Bytes Written.the-variants.Refused (elim [ Written.the-variants.Bytes r ↦ refl | Written.the-variants.Refused n ↦ refl ])
+  written = enum Writer.writtenAnswer Written.the-variants.Bytes Written.the-variants.Refused (elim [ Written.the-variants.Bytes r ↦ refl | Written.the-variants.Refused n ↦ refl ])
 
   pub written-stored : {B : Type 0} {x y : Written.Written} {d : Answer ℕ} {b c e : B}
       → ent 𝓤 (conj 𝓤 (sep 𝓤 (fact 𝓤 (Writer.writtenAnswer x ≡ d)) (fact 𝓤 (b ≡ e))) (sep 𝓤 (fact 𝓤 (Writer.writtenAnswer y ≡ d)) (fact 𝓤 (c ≡ e))))
@@ -188,4 +188,4 @@ module _ {M : Type 1} (𝓤 : URA M) where
 
   pub stepped : {x y : Stepped} {d : Answer Observation} {at : ℕ}
       → ent 𝓤 (conj 𝓤 (fact 𝓤 ((Obs.entryAnswer (x .answer) ≡ d) × (x .at ≡ at))) (fact 𝓤 ((Obs.entryAnswer (y .answer) ≡ d) × (y .at ≡ at)))) (fact 𝓤 ((x ≡ y) × Unit {0}))
-  stepped = one-clause (λ p q. ((λ i. record { answer = entry-back (p .0) (q .0) i; at = (p .1 ∙ sym (q .1)) i }), tt))
+  stepped = one-clause (λ p q. (ap₂ {C = Stepped} (λ answer at. record { answer = answer; at = at }) (entry-back (p .0) (q .0)) (p .1 ∙ sym (q .1)), tt))

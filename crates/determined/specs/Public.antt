@@ -23,6 +23,7 @@ use Rattle.payloads.proofs as payloads
 use Rattle.packets.proofs as packets
 use Rattle.runs.proofs as runs
 use Rattle.epochs.proofs as epochs
+use Rattle.enlisting.proofs as enlisting
 use Rattle.listing.proofs as listing
 use Rattle.exports.proofs as exports
 use Rattle.determined.specs.Determined.{Determined, DeterminedAs}
@@ -171,6 +172,9 @@ module _ {M : Type 1} (𝓤 : URA M) (H : Heap 𝓤) (A : Atoms 𝓤) (mem : Mem
     pub made : Determined 𝓤 epochs.collating.Collator.made.ended (epochs.collating.Collator.made.clauses 𝓤 H A mem run)
     pub recognise : Determined 𝓤 epochs.recognise.ended (epochs.recognise.clauses 𝓤 H A mem run)
     pub seat-of : Determined 𝓤 epochs.seat_of.ended (epochs.seat_of.clauses 𝓤 H A mem run)
+
+  pub record Enlisting : Type 1 where
+    pub enlist : Determined 𝓤 enlisting.enlist.ended (enlisting.enlist.clauses 𝓤 H A mem run)
 
   pub record Listing : Type 1 where
     pub list : Determined 𝓤 listing.list.ended (listing.list.clauses 𝓤 H A mem run)

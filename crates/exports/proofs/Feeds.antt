@@ -10,7 +10,7 @@ use Rattle.wire.specs.Number.{Bytes}
 use Rattle.wire.specs.Refusals.{refused, given, Answer}
 use Rattle.wire.specs.Field.{decode}
 use Rattle.crc.specs.Table.{tabulated}
-use Rattle.crc.proofs.Table.{listed-at}
+use Rattle.crc.proofs.ByTable.{tabulated-at}
 use Rattle.frames.specs.Frame.{Content}
 use Rattle.packets.specs.declared.packet.Packet.{Packet}
 use Rattle.packets.proofs.Recognitions.{formed, n-small, time-small}
@@ -119,7 +119,7 @@ module _ (s : List ℕ) (x : Content) (report : List ℕ) (long : stateSize ≤ 
       by (given (i, p)) e =
           let h : i < 8 = eight s x e in
           let c = stateIn s in
-          let own : getD (tabulated (placeIn s) 8) i idle ≡ placeIn s i = listed-at (placeIn s) 8 i idle h in
+          let own : getD (tabulated (placeIn s) 8) i idle ≡ placeIn s i = tabulated-at (placeIn s) 8 i idle h in
           let same : stepIn s i p ≡ stepped (getD (c .places) i idle .run) p = ap (λ (q : Place). stepped (q .run) p) (sym own) in
           record {
             state =

@@ -13,7 +13,7 @@ use Rattle.wire.specs.Number.{Bytes, numberAt}
 use Rattle.wire.proofs.Numbers.{bytes-take, bytes-drop, number-byte, number-past}
 use Rattle.crc.specs.Crc.{crcFrom}
 use Rattle.crc.specs.Table.{Rule, crcBy}
-use Rattle.crc.proofs.Table.{crc-by-table}
+use Rattle.crc.proofs.ByTable.{crc-by-table}
 use Rattle.frames.specs.Step.{stepOf, stepAt, passed}
 use Rattle.frames.specs.Decides.{left, size, sum, sent, frame, Decides, finished, junk, headless, cut, bad, found}
 use Rattle.frames.specs.Reading.{stops}

@@ -13,7 +13,7 @@ use Rattle.observation.specs.Edition.{Observed, obs, fitting, countIn, Head, fi
 use Rattle.observation.specs.Obs.{entryAt, readEntryOf}
 use Rattle.observation.specs.declared.entry.Observation.{Observation}
 use Rattle.observation.proofs.ObsReading.{of-21, entriesFrom, length-entries, entries-in, read-whole}
-use Rattle.obs_reader.specs.Walk.{answers, standing, Walk, observationsIn, pastThem}
+use Rattle.obs_reader.specs.Walk.{answers, standing, Walk, HandsOut, observationsIn, pastThem}
 use Rattle.obs_reader.proofs.OneQuestion.{stays, past-22, past-25, hands-out, before-the-last}
 
 module _ (kind : ℕ) (s : List ℕ) where
@@ -41,19 +41,15 @@ module _ (kind : ℕ) (s : List ℕ) where
         stands = ap (standing (n + more) kind s) moved ∙ rest .stands;
       })
 
-  -- these observations are handed out in order, each once, and then 25
-  abbrev pub Handed : ℕ → List Observation → Type 0
-  Handed more os = Walk (length os + more) kind s 0 (map given os ++ replicate more (refused 25)) (length os)
-
   -- over an observation's payload of a right length
-  whole : isObs kind ≡ true → fitting first (length s) ≡ true → (more : ℕ) → Handed more (inside (obs first) s .observations)
-  whole is fits more = subst (Handed more) (entries-in first s) (rw length-entries (walk-from is fits (countIn first (length s)) 0 (omega arith) more))
+  whole : isObs kind ≡ true → fitting first (length s) ≡ true → (more : ℕ) → HandsOut kind s more (inside (obs first) s .observations)
+  whole is fits more = subst (HandsOut kind s more) (entries-in first s) (rw length-entries (walk-from is fits (countIn first (length s)) 0 (omega arith) more))
 
   -- what is read whole is what is handed out
-  pub read-walk : isObs kind ≡ true → (r : Observed Head Observation) → readAs (obs first) s ≡ given r → (more : ℕ) → Handed more (r .observations)
+  pub read-walk : isObs kind ≡ true → (r : Observed Head Observation) → readAs (obs first) s ≡ given r → (more : ℕ) → HandsOut kind s more (r .observations)
   read-walk is r g more =
       let read = read-whole first s r g in
-      subst (λ (r : Observed Head Observation). Handed more (r .observations)) (read .1) (whole is (read .0) more)
+      subst (λ (r : Observed Head Observation). HandsOut kind s more (r .observations)) (read .1) (whole is (read .0) more)
 
   abbrev Whole : ℕ → Type 0
   Whole more = Walk (length (observationsIn kind s) + more) kind s 0 (map given (observationsIn kind s) ++ replicate more (pastThem kind s)) (length (observationsIn kind s))

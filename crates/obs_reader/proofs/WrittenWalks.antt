@@ -7,8 +7,9 @@ use Rattle.observation.specs.Edition.{Observed, obs, Head, first}
 use Rattle.observation.specs.declared.entry.Observation.{Observation}
 use Rattle.observation.proofs.Editions.{first-is-obs}
 use Rattle.observation.proofs.ObsThrough.{held-whole}
-use Rattle.obs_reader.proofs.HandedOut.{Handed, read-walk}
+use Rattle.obs_reader.specs.Walk.{HandsOut}
+use Rattle.obs_reader.proofs.HandedOut.{read-walk}
 
 pub written-walk : (r : Observed Head Observation) → length (r .observations) ≤ 15 → HeldBody (obs first .layout) (obs first .row r)
-    → (more : ℕ) → Handed (first .kind) (encodeBody (obs first .layout) (obs first .row r)) more (r .observations)
+    → (more : ℕ) → HandsOut (first .kind) (encodeBody (obs first .layout) (obs first .row r)) more (r .observations)
 written-walk r few held more = read-walk (first .kind) (encodeBody (obs first .layout) (obs first .row r)) first-is-obs r (held-whole r few held) more

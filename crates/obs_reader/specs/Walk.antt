@@ -1,10 +1,10 @@
 -- A reader that is asked again and again: what it answers and where it then stands, and what document 01 wants of that. Assumes nothing.
-use Prim.Native.Nat.{ℕ, zero, suc}
+use Prim.Native.Nat.{ℕ, zero, suc, _+_}
 use mathlib.Core.Path.{_≡_}
 use mathlib.Core.Bool.{_&&_, cond}
-use mathlib.Core.List.{List, [], _∷_}
-use lib.ListN.{length}
-use Rattle.wire.specs.Refusals.{refused, Answer}
+use mathlib.Core.List.{List, [], _∷_, _++_, map}
+use lib.ListN.{length, replicate}
+use Rattle.wire.specs.Refusals.{refused, given, Answer}
 use Rattle.wire.specs.Description.{inside}
 use Rattle.observation.specs.Edition.{obs, fitting, first, isObs}
 use Rattle.observation.specs.Obs.{readEntryOf}
@@ -31,6 +31,10 @@ askedTimes (suc n) r = askedTimes n (asked r)
 pub record Walk (n : ℕ) (kind : ℕ) (s : List ℕ) (i : ℕ) (handed : List (Answer Observation)) (j : ℕ) : Type 0 where
   pub answered : answers n kind s i ≡ handed
   pub stands : standing n kind s i ≡ j
+
+-- from the first on a reader hands out these, in order and each once, and then 25 for good
+abbrev pub HandsOut : ℕ → List ℕ → ℕ → List Observation → Type 0
+HandsOut kind s more os = Walk (length os + more) kind s 0 (map given os ++ replicate more (refused 25)) (length os)
 
 -- a payload's observations: none where its type is no observation's or its length is wrong
 unfoldable pub observationsIn : ℕ → List ℕ → List Observation

@@ -23,7 +23,7 @@ use Rattle.frames.proofs.Promised.{faithful}
 use Rattle.observation.specs.Edition.{Observed, obs, Head, observation, first}
 use Rattle.observation.specs.Obs.{readObs, readEntry, shown}
 use Rattle.observation.specs.ObsWriter.{obsWriteAnswer, observed, obsWritten, headOf}
-use Rattle.observation.specs.ObsFaithful.{written, obsFrame, after, ObsFaithful}
+use Rattle.observation.specs.ObsFaithful.{written, obsFrame, bufferAfter, ObsFaithful}
 use Rattle.observation.specs.declared.entry.Observation.{Observation}
 use Rattle.observation.specs.declared.obs.Obs.{Obs}
 use Rattle.observation.proofs.Editions.{rows-counted}
@@ -47,43 +47,43 @@ pub held-whole : (r : Observed Head Observation) → length (r .observations) �
 held-whole r few held = reads-same (obs first) (lit≤ tt) r held (allowed-rows (observation .fields) (λ v. refl) (rowsOf observation (r .observations))) (rw (rows-counted first (r .observations)) (le-leb (length (r .observations)) 15 few)) (settled r held)
 
 module _ (sender : ℕ) (o : Obs) (entries : List Observation) (buf : List ℕ) (enough : o .count ≤ length entries) where
-  as-message : after sender o entries buf ≡ writtenAs (obs first) sender (written sender o entries) buf
+  as-message : bufferAfter sender o entries buf ≡ writtenAs (obs first) sender (written o entries) buf
   as-message = same-written first sender (headOf o) (o .count) entries buf enough (λ v. refl) (λ v. refl)
 
   module _ {n : ℕ} (s : sender < 65536) (g : obsWriteAnswer first (o .count) (length buf) ≡ given n) where
-    answered : writeAnswer (obs first) (written sender o entries) (length buf) ≡ given n
+    answered : writeAnswer (obs first) (written o entries) (length buf) ≡ given n
     answered = sym (same-answer first sender (headOf o) (o .count) entries buf enough (λ v. refl) (λ v. refl) (length buf)) ∙ g
 
-    found-through : stepAt (after sender o entries buf) 0 ≡ Found (obsFrame sender o entries)
-    found-through = ap (λ (t : List ℕ). stepAt t 0) as-message ∙ message .found sender (written sender o entries) buf s answered
+    found-through : stepAt (bufferAfter sender o entries buf) 0 ≡ Found (obsFrame sender o entries)
+    found-through = ap (λ (t : List ℕ). stepAt t 0) as-message ∙ message .found sender (written o entries) buf s answered
 
-    module _ (held : HeldBody (obs first .layout) (obs first .row (written sender o entries))) where
+    module _ (held : HeldBody (obs first .layout) (obs first .row (written o entries))) where
       abbrev payload : List ℕ
-      payload = payloadIn (after sender o entries buf) (obsFrame sender o entries)
+      payload = payloadIn (bufferAfter sender o entries buf) (obsFrame sender o entries)
 
       counted : length (take (o .count) entries) ≡ o .count
       counted = length-take-le (o .count) entries enough
 
-      whole : readAs (obs first) payload ≡ given (written sender o entries)
+      whole : readAs (obs first) payload ≡ given (written o entries)
       whole =
           ap (λ (t : List ℕ). readAs (obs first) (payloadIn t (obsFrame sender o entries))) as-message
-          ∙ message .same sender (written sender o entries) buf s answered held (settled (written sender o entries) held)
+          ∙ message .same sender (written o entries) buf s answered held (settled (written o entries) held)
 
       back-through : readObs payload ≡ given o
       back-through =
-          shown-read payload (written sender o entries) whole
+          shown-read payload (written o entries) whole
           ∙ ap (λ (k : ℕ). given (record { tow = o .tow; wn = o .wn; «n_obs» = o .«n_obs»; count = k })) counted
 
       each-through : (i : ℕ) (d : Observation) → i < o .count → readEntry first payload i ≡ given (getD entries i d)
-      each-through i d h = each-read first payload (written sender o entries) whole i d (omega (arith, counted)) ∙ ap given (getD-take (o .count) entries i d h)
+      each-through i d h = each-read first payload (written o entries) whole i d (omega (arith, counted)) ∙ ap given (getD-take (o .count) entries i d h)
 
 again-through : (sender : ℕ) (o : Obs) (buf s : List ℕ) → Bytes s → readObs s ≡ given o
-    → after sender o (inside (obs first) s .observations) buf ≡ withFrame (first .kind) sender s buf
+    → bufferAfter sender o (inside (obs first) s .observations) buf ≡ withFrame (first .kind) sender s buf
 again-through sender o buf s bytes g =
     let r = inside (obs first) s in
     let read = only-shown s o g in
     let all : take (length (r .observations)) (r .observations) ≡ r .observations = take-all (length (r .observations)) (r .observations) (omega arith) in
-    ap (λ (o : Obs). after sender o (r .observations) buf) (read .1)
+    ap (λ (o : Obs). bufferAfter sender o (r .observations) buf) (read .1)
     ∙ as-message sender (shown r) (r .observations) buf (omega arith)
     ∙ ap (λ (os : List Observation). writtenAs (obs first) sender (record { header = r .header; observations = os }) buf) all
     ∙ message .again sender r buf s bytes (read .0)

@@ -19,25 +19,24 @@ use Rattle.observation.specs.declared.entry.Observation.{Observation}
 use Rattle.observation.specs.declared.obs.Obs.{Obs}
 
 -- what the code writes for a summary and some observations: the message, its frame, and the buffer after it
-module _ (sender : ℕ) (o : Obs) (entries : List Observation) where
-  abbrev pub written : Observed Head Observation
-  written = observed first (headOf o) (o .count) entries
+abbrev pub written : Obs → List Observation → Observed Head Observation
+written o entries = observed first (headOf o) (o .count) entries
 
-  abbrev pub obsFrame : Frame
-  obsFrame = frameWritten (obs first) sender written
+abbrev pub obsFrame : ℕ → Obs → List Observation → Frame
+obsFrame sender o entries = frameWritten (obs first) sender (written o entries)
 
-  abbrev pub after : List ℕ → List ℕ
-  after buf = obsWritten first sender (headOf o) (o .count) entries buf
+abbrev pub bufferAfter : ℕ → Obs → List Observation → List ℕ → List ℕ
+bufferAfter sender o entries buf = obsWritten first sender (headOf o) (o .count) entries buf
 
 pub record ObsFaithful : Type 0 where
   pub message : Faithful (obs first)
   -- written it is found as its frame, whose payload gives the header with the count back, and each observation, at any default
   pub found : (sender : ℕ) (o : Obs) (entries : List Observation) (buf : List ℕ) {n : ℕ} → sender < 65536 → o .count ≤ length entries
-      → obsWriteAnswer first (o .count) (length buf) ≡ given n → stepAt (after sender o entries buf) 0 ≡ Found (obsFrame sender o entries)
+      → obsWriteAnswer first (o .count) (length buf) ≡ given n → stepAt (bufferAfter sender o entries buf) 0 ≡ Found (obsFrame sender o entries)
   pub back : (sender : ℕ) (o : Obs) (entries : List Observation) (buf : List ℕ) {n : ℕ} → sender < 65536 → o .count ≤ length entries
-      → obsWriteAnswer first (o .count) (length buf) ≡ given n → HeldBody (obs first .layout) (obs first .row (written sender o entries))
-      → (readObs (payloadIn (after sender o entries buf) (obsFrame sender o entries)) ≡ given o)
-      × ((i : ℕ) (d : Observation) → i < o .count → readEntry first (payloadIn (after sender o entries buf) (obsFrame sender o entries)) i ≡ given (getD entries i d))
+      → obsWriteAnswer first (o .count) (length buf) ≡ given n → HeldBody (obs first .layout) (obs first .row (written o entries))
+      → (readObs (payloadIn (bufferAfter sender o entries buf) (obsFrame sender o entries)) ≡ given o)
+      × ((i : ℕ) (d : Observation) → i < o .count → readEntry first (payloadIn (bufferAfter sender o entries buf) (obsFrame sender o entries)) i ≡ given (getD entries i d))
   -- an accepted payload, with its observations, written again gives a frame of the same bytes
   pub again : (sender : ℕ) (o : Obs) (buf s : List ℕ) → Bytes s → readObs s ≡ given o
-      → after sender o (inside (obs first) s .observations) buf ≡ withFrame (first .kind) sender s buf
+      → bufferAfter sender o (inside (obs first) s .observations) buf ≡ withFrame (first .kind) sender s buf

@@ -19,7 +19,7 @@ use Rattle.observation.specs.declared.obs.Obs.{Obs}
 use Rattle.observation.proofs.ObsReading.{allowed, obs-shown}
 use Rattle.system.specs.Log as system
 use Rattle.system.specs.Log.{logLength, readingLog, logIn, readLog}
-use Rattle.payloads.specs.Payloads.{Named, messages, Entry, readIn, entryOf, noEntry, table, entryFor, testsOf, readFor, named, Typed, TypedIn, PromisedIn, Promised, AllOf}
+use Rattle.payloads.specs.Payloads.{Described, messages, Entry, readIn, entryOf, noEntry, table, entryFor, testsOf, readFor, named, Typed, TypedIn, PromisedIn, Promised, AllOf}
 use Rattle.payloads.specs.declared.Message.{Message}
 use Rattle.payloads.specs.declared.Message.the-variants as M
 
@@ -83,19 +83,19 @@ sound-layout (bytes most) h = tt
 sound-layout (rows fs most) h = leb-true 1 (size fs) h
 
 -- its type is a u16, and no message before it has it
-abbrev distinct : List Entry → List Named → Bool
+abbrev distinct : List Entry → List Described → Bool
 distinct before [] = true
 distinct before (m ∷ ms) =
     let d = m .description in
     lacks before (d .kind) && (ltb (d .kind) 65536 && (sound (d .layout) && distinct (before ++ (entryOf m ∷ [])) ms))
 
 -- payloads of its type read as its reader reads them, where its entry is found
-module _ (m : Named) (es : List Entry) (found : entryFor es (m .description .kind) ≡ entryOf m) where
+module _ (m : Described) (es : List Entry) (found : entryFor es (m .description .kind) ≡ entryOf m) where
   read-own : TypedIn es (m .description .kind) (m .name) (readAs (m .description))
   unfolding readAs
   read-own s = ap (λ (e : Entry). ordered (testsOf e s) (e .holds s)) found ∙ named-ordered (m .name) (reading (m .description) s) (inside (m .description) s)
 
-all-promised : (before : List Entry) (ms : List Named) → distinct before ms ≡ true → AllOf (PromisedIn (before ++ map entryOf ms)) ms
+all-promised : (before : List Entry) (ms : List Described) → distinct before ms ≡ true → AllOf (PromisedIn (before ++ map entryOf ms)) ms
 all-promised before [] h = tt
 all-promised before (m ∷ ms) h =
     let d = m .description in

@@ -38,16 +38,16 @@ readingAnswer (Refused n) = refused n
 -- ---- the messages
 
 -- what a description describes, under its name
-pub record Named : Type 1 where
+pub record Described : Type 1 where
   pub Of : Type 0
   pub description : Description Of
   pub name : Of → Message
 
-abbrev pub under : {R : Type 0} → Description R → (R → Message) → Named
+abbrev pub under : {R : Type 0} → Description R → (R → Message) → Described
 under {R} d name = record { Of = R; description = d; name = name }
 
 -- every message; of an OBS the code shows the header and how many observations follow, of a LOG the level and how long the text is
-abbrev pub messages : List Named
+abbrev pub messages : List Described
 messages =
     under gpsTime (λ r. M.GpsTime r) ∷
     under dops (λ r. M.Dops r) ∷
@@ -79,7 +79,7 @@ pub record Entry : Type 0 where
   pub holds : List ℕ → Message
 
 -- all of it as the description says
-abbrev pub entryOf : Named → Entry
+abbrev pub entryOf : Described → Entry
 entryOf m = let d = m .description in record { kind = d .kind; known = true; tests = reading d; holds = λ s. m .name (inside d s) }
 
 -- of a type without a reading: 21, so what it holds is never given
@@ -131,12 +131,12 @@ abbrev pub Typed : {R : Type 0} → ℕ → (R → Message) → (List ℕ → An
 Typed = TypedIn table
 
 -- a message keeps its promise, and under the number by which it is written its own reader reads it
-abbrev pub PromisedIn : List Entry → Named → Type 0
+abbrev pub PromisedIn : List Entry → Described → Type 0
 PromisedIn es m = let d = m .description in Faithful d × TypedIn es (d .kind) (m .name) (readAs d)
 
-abbrev pub Promised : Named → Type 0
+abbrev pub Promised : Described → Type 0
 Promised = PromisedIn table
 
-abbrev pub AllOf : (Named → Type 0) → List Named → Type 0
+abbrev pub AllOf : (Described → Type 0) → List Described → Type 0
 AllOf P [] = Unit {0}
 AllOf P (m ∷ ms) = P m × AllOf P ms

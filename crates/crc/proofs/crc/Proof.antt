@@ -3,7 +3,7 @@
 use mathlib.Core.Path.{_∙_}
 use borrow.Author.Needs.{needs}
 use lib.Dec.{lit<}
-use Rattle.crc.proofs.Table.{crc-by-table}
+use Rattle.crc.proofs.ByTable.{crc-by-table}
 use Rattle.crc.proofs.crc.Statement.{statement}
 use Rattle.crc.proofs.crc.Tie as tie
 

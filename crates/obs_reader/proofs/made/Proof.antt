@@ -32,7 +32,7 @@ use denote.Struct.Rest.{own-shut}
 use denote.Triple.Entry.{Vals, onEntry}
 use denote.Triple.Spec.{Meets, tripleOf}
 use denote.Triple.Table.{entered}
-use denote.Triple.Walked.{says, Stays, stay-none, stay-none-slice, walkOf, goes-none, goes-none-slice, Walks, ends-at, walked, walk-meets}
+use denote.Triple.Walked.{says, Stays, stay-none, stay-none-slice, walkOf, goes-none, goes-none-slice, ends-at, walked, walk-meets}
 use denote.Exit.{yes}
 use Rattle.obs_reader.specs.declared.ObsReader.{ObsReader}
 use Rattle.obs_reader.proofs.ObsReader as T
@@ -89,17 +89,14 @@ module _ {M : Type 1} (𝓤 : URA M) (H : Heap 𝓤) (A : Atoms 𝓤) (W : Given
         assigns ! (agg ! (and-then ! (load ! (from ! (stop !)) (look ! 2 refl)) (and-then ! (load ! (from ! (stop !)) (look ! 0 refl)) (and-then ! (lit ! tt) (no-more !))))) (from ! (stop !)) (init ! 4 refl (tt, (record { fits = kind-fits }, (slice .1, (record { fits = lit< tt }, tt))))) $
         returns ! (look ! 4 refl) $ forget ! 0 refl $ forget ! 2 refl $ forget ! 4 refl $ move ! (4 ∷ 5 ∷ []) $ free1 ! $ move ! (2 ∷ 3 ∷ []) $ free1 ! $ free1 ! $ free0 ! $ by ! exits)))
 
-module _ {M : Type 1} (𝓤 : URA M) (H : Heap 𝓤) (A : Atoms 𝓤) (W : Given 𝓤 H A) (mem : Memory → SProp 𝓤) (run : Routine → Fun 𝓤) where
-  made-walks : (C : Calls 𝓤 H) (Λ : Loops 𝓤 H) → Walks 𝓤 H A made.ended stayed (WpFn 𝓤 H C Λ code.function) (made.clauses 𝓤 H A mem run)
-  made-walks C Λ = walked 𝓤 H A made.ended stayed (made.clauses 𝓤 H A mem run) (WpFn 𝓤 H C Λ code.function)
-      (λ κs. (uint-vals w16, (slice-vals, tt))) (λ κs. (uint-tells w16, (shr-slice-tells (named 0) (κs .0) u8, tt)))
-      (λ κs qs bounds a g are. via 𝓤 _ (fst∗ 𝓤 _ (emp 𝓤)) (walk 𝓤 H A W mem run (κs .0) (qs .0) (a .0) (are .0 .1) (a .1 .0) C Λ (are .1 .0)))
-
 made-meets : {M : Type 1} (𝓤 : URA M) (H : Heap 𝓤) (A : Atoms 𝓤) → Given 𝓤 H A → (mem : Memory → SProp 𝓤) (run : Routine → Fun 𝓤) (𝓣 : Tables 𝓤 H)
     → Meets 𝓤 H A made.signature (WpFn 𝓤 H (𝓣 .C) (𝓣 .Λ) code.function) (made.spec 𝓤 H A mem run)
 made-meets 𝓤 H A W mem run 𝓣 =
     walk-meets 𝓤 H A made.ended stayed W (goes-none 𝓤 H A W 1 (λ _. u16) yes (λ κs x f. refl), (goes-none-slice 𝓤 H A W 1 (0 ∷ []) tt (plain (λ _. u8)) yes, tt)) (made.clauses 𝓤 H A mem run)
-    (WpFn 𝓤 H (𝓣 .C) (𝓣 .Λ) code.function) (WpFn-mono 𝓤 H (W .laws) 𝓣 code.function) (made-walks 𝓤 H A W mem run (𝓣 .C) (𝓣 .Λ))
+    (WpFn 𝓤 H (𝓣 .C) (𝓣 .Λ) code.function) (WpFn-mono 𝓤 H (W .laws) 𝓣 code.function)
+    (walked 𝓤 H A made.ended stayed (made.clauses 𝓤 H A mem run) (WpFn 𝓤 H (𝓣 .C) (𝓣 .Λ) code.function)
+    (λ κs. (uint-vals w16, (slice-vals, tt))) (λ κs. (uint-tells w16, (shr-slice-tells (named 0) (κs .0) u8, tt)))
+    (λ κs qs bounds a g are. via 𝓤 _ (fst∗ 𝓤 _ (emp 𝓤)) (walk 𝓤 H A W mem run (κs .0) (qs .0) (a .0) (are .0 .1) (a .1 .0) (𝓣 .C) (𝓣 .Λ) (are .1 .0))))
 
 pub made-spec : {M : Type 1} → stated.statement M
 unfolding code.routine tablesOf

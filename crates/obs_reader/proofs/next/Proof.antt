@@ -29,14 +29,13 @@ use denote.Memory.{mem, cellAt}
 use denote.Laws.{Is, shows}
 use denote.Plain.{uint-makes, uint-lawful}
 use denote.Builtin.{u8, u16, usize}
-use denote.Ref.{RefT, NamedLft, MutRef, ptr-vals, mut-tells, now}
+use denote.Ref.{RefT, MutRef, ptr-vals, mut-tells, now}
 use denote.Signature.{Slot, plain, namedLft}
 use denote.Slice.{sliceVal, ShrSlice}
 use denote.Steps.{only, opens, closes, owned, peeks, heard, nothing}
 use denote.Enum.Laws as EL
-use denote.Struct.Declared.{Declared}
 use denote.Struct.Laws as LL
-use denote.Struct.Rest.{all-own, own-open, own-put}
+use denote.Struct.Rest.{own-open, own-put}
 use denote.Struct.Steps.{spelt}
 use denote.Triple.Statement.{Contract, Triple}
 use denote.Triple.Call.{calls-at}
@@ -44,7 +43,7 @@ use denote.Triple.Clauses.{ensured, lasts}
 use denote.Triple.Entry.{Vals, onEntry}
 use denote.Triple.Spec.{Meets, tripleOf}
 use denote.Triple.Table.{entered, cited}
-use denote.Triple.Walked.{says, Stays, stay-ref, walkOf, goes-ref, Walks, ends-at, walked, walk-meets}
+use denote.Triple.Walked.{says, Stays, stay-ref, walkOf, goes-ref, ends-at, walked, walk-meets}
 use Rattle.observation.specs.Obs.{readEntryOf, entryAnswer}
 use Rattle.observation.specs.declared.entry.ObservationRead.{ObservationRead}
 use Rattle.observation.proofs.entry.ObservationRead as S
@@ -57,6 +56,7 @@ use Rattle.obs_reader.specs.Reader.{atAfter}
 use Rattle.obs_reader.specs.declared.ObsReader.{ObsReader}
 use Rattle.obs_reader.proofs.ObsReader as T
 use Rattle.obs_reader.proofs.ObsReader.Laws as T′
+use Rattle.obs_reader.proofs.Loans.{type, laws, reader, twice}
 use Rattle.obs_reader.proofs.at_after as after
 use Rattle.obs_reader.proofs.at_after.Symbol as after-def
 use Rattle.obs_reader.proofs.at_after.Symbol.{name as #after}
@@ -82,18 +82,8 @@ module _ {M : Type 1} (𝓤 : URA M) (H : Heap 𝓤) (A : Atoms 𝓤) (mem : Mem
   After = tripleOf 𝓤 H A after.signature (after.spec 𝓤 H A mem run)
 
 module _ {M : Type 1} (𝓤 : URA M) (H : Heap 𝓤) (A : Atoms 𝓤) (W : Given 𝓤 H A) (at-mem : Memory → SProp 𝓤) (run : Routine → Fun 𝓤) (κ κ′ : Lft) (q q′ : Share) (bounds : AllOutlive 2 (next.signature .outlives) (κ, (κ′, tt))) (b o : ℕ) (γ : GName) (h : ObsReader) where
-  abbrev α : NamedLft
-  α = record { mir = named 1; lft = κ′ }
-
-  -- the reader's type and laws
-  abbrev D : Declared
-  D = T.the-type α
-
-  abbrev L : LL.Laws D
-  L = T′.the-laws α
-
   abbrev R : RattleType
-  R = T.the-row α
+  R = reader κ′
 
   -- the reader where it stands next
   abbrev moved : ℕ → ObsReader
@@ -128,15 +118,15 @@ module _ {M : Type 1} (𝓤 : URA M) (H : Heap 𝓤) (A : Atoms 𝓤) (W : Given
   goes : ent 𝓤 (⋆ 𝓤 H A ((‵ Token ⊛ ‵ ftrue) ∷ ‵ Own ∷ [])) (sep 𝓤 (After 𝓤 H A at-mem run .pre to-after) (sem 𝓤 H A Own))
   goes =
       qed W ((‵ Token ⊛ ‵ ftrue) ∷ ‵ Own ∷ []) ∵
-      move ! (1 ∷ []) $ use1 W (‵ Own ⊛ ‵ Own) (LL.copy D (T′.the-copy α) 𝓤 H A W .twice h (T′.lowered h ∷ [])) $ split ! $
-      use1 W (given (T′.lowered h ∷ [] ≡ T′.lowered h ∷ []) (‵ (all-own (D .parts) L args))) (own-open 𝓤 H A W D L args (T′.lowered h)) $ learn ! (λ _.
+      move ! (1 ∷ []) $ use1 W (‵ Own ⊛ ‵ Own) (twice 𝓤 H A W κ′ h) $ split ! $
+      use1 W (given (T′.lowered h ∷ [] ≡ T′.lowered h ∷ []) (‵ (owns (u16 ∷ ShrSlice (named 0) κ′ u8 ∷ usize ∷ []) args passed))) (own-open 𝓤 H A W (type κ′) (laws κ′) args (T′.lowered h)) $ learn ! (λ _.
       -- [what its three fields own; what the reader owns; the token]
       move ! (2 ∷ 0 ∷ []) $
       use2 W (raw (After 𝓤 H A at-mem run .pre to-after)) (qed W ((‵ Token ⊛ ‵ ftrue) ∷ ‵ (owns (u16 ∷ ShrSlice (named 0) κ′ u8 ∷ usize ∷ []) args passed) ∷ []) ∵ join ! $ frame ! $ done !) $ frame ! $ done !)
 
   -- the machine value has the reader's MIR type, and so has each field
   typed : Is R h (T′.lowered h ∷ []) → Holds (hasTy (T′.mir (named 1)) (T′.lowered h)) × WT (T′.lowered h)
-  typed g = LL.lawful D L 𝓤 H A W .typed h _ g .0
+  typed g = LL.lawful (type κ′) (laws κ′) 𝓤 H A W .typed h _ g .0
 
   -- what each says of its result
   abbrev Read : ObservationRead → Type 0
@@ -153,7 +143,7 @@ module _ {M : Type 1} (𝓤 : URA M) (H : Heap 𝓤) (A : Atoms 𝓤) (W : Given
 
   -- what the payload owns is kept, and the last number's facts are made anew
   again : (n : ℕ) → n < 2 ^ 64 → ent 𝓤 (sem 𝓤 H A Own) (sem 𝓤 H A (R .own (moved n) (T′.lowered (moved n) ∷ [])))
-  again n fits = qed W (‵ Own ∷ []) ∵ owned ! usize (Is usize) (uint-makes 𝓤 H A W w64) n _ (refl, fits) $ move ! (1 ∷ 0 ∷ []) $ by ! (own-put 𝓤 H A W D L 2 args n (T′.lowered h))
+  again n fits = qed W (‵ Own ∷ []) ∵ owned ! usize (Is usize) (uint-makes 𝓤 H A W w64) n _ (refl, fits) $ move ! (1 ∷ 0 ∷ []) $ by ! (own-put 𝓤 H A W (type κ′) (laws κ′) 2 args n (T′.lowered h))
 
   exits : (r : ObservationRead) (u : Val) (n : ℕ) → Read r → Stands n
       → ent 𝓤 (⋆ 𝓤 H A (‵ (fobs γ (R .coded .code (moved n))) ∷ ‵ (fbor κ (Body (mem R) b o γ)) ∷ ‵ (flft κ q) ∷ (‵ Token ⊛ ‵ ftrue) ∷ ‵ (S.the-row .own r (u ∷ [])) ∷ [])) (Post u)
@@ -169,7 +159,7 @@ module _ {M : Type 1} (𝓤 : URA M) (H : Heap 𝓤) (A : Atoms 𝓤) (W : Given
         alloc1 ! (λ l₀. alloc1 ! (λ l₁. alloc1 ! (λ l₂. alloc1 ! (λ l₃. alloc1 ! (λ l₄. alloc1 ! (λ l₅. alloc1 ! (λ l₆. alloc0 ! $ params1 ! $ pass1 ! (init ! 10 refl (tt, tt)) $ pass0 ! $
         -- the borrow is opened
         move ! (15 ∷ []) $ fsplit ! $ fsplit3 ! $ drop ! $ move ! (17 ∷ []) $ split ! $ move ! (2 ∷ 3 ∷ 0 ∷ []) $
-        opens ! tt R {h = h} b o (λ vs. spelt ! R (Is R) (shows 𝓤 H A R) (LL.vals D L) (LL.tells D L) fullShare h vs b o $
+        opens ! tt R {h = h} b o (λ vs. spelt ! R (Is R) (shows 𝓤 H A R) (LL.vals (type κ′) (laws κ′)) (LL.tells (type κ′) (laws κ′)) fullShare h vs b o $
         use1 W (‵ (fat fullShare (T′.mir erased) b o (T′.lowered h))) (W .laws .raw-at fullShare (T′.mir erased) b o (T′.lowered h)) $
         move ! (1 ∷ []) $ peeks ! R (Is R) (shows 𝓤 H A R) h (T′.lowered h ∷ []) (λ g. move ! (1 ∷ 0 ∷ []) $
         -- [the reader's cell; what the reader owns; the open borrow; obs; auth; the token; true; _6; …; _5; …; _4; …; _3; …; _2; …; _1; …; room for _0; …]
@@ -202,17 +192,14 @@ module _ {M : Type 1} (𝓤 : URA M) (H : Heap 𝓤) (A : Atoms 𝓤) (W : Given
         move ! (19 ∷ 20 ∷ []) $ free1 ! $ move ! (17 ∷ 18 ∷ []) $ free1 ! $ move ! (15 ∷ 16 ∷ []) $ free1 ! $ move ! (13 ∷ 14 ∷ []) $ free1 ! $ move ! (11 ∷ 12 ∷ []) $ free1 ! $ move ! (9 ∷ 10 ∷ []) $ free1 ! $ move ! (7 ∷ 8 ∷ []) $ free1 ! $ free0 ! $
         keep ! (0 ∷ 1 ∷ 2 ∷ 4 ∷ 5 ∷ []) $ by ! (exits r u n read stands))))))))))))))))))
 
-module _ {M : Type 1} (𝓤 : URA M) (H : Heap 𝓤) (A : Atoms 𝓤) (W : Given 𝓤 H A) (mem : Memory → SProp 𝓤) (run : Routine → Fun 𝓤) where
-  next-walks : (C : Calls 𝓤 H) (Λ : Loops 𝓤 H) → FmC 𝓤 H (W .laws) C → Triple 𝓤 (C #reads) (Reads 𝓤 H A mem run) → Triple 𝓤 (C #after) (After 𝓤 H A mem run)
-      → Walks 𝓤 H A next.ended stayed (WpFn 𝓤 H C Λ code.function) (next.clauses 𝓤 H A mem run)
-  next-walks C Λ fm known-reads known-after = walked 𝓤 H A next.ended stayed (next.clauses 𝓤 H A mem run) (WpFn 𝓤 H C Λ code.function) (λ κs. (ptr-vals, tt)) (λ κs. (mut-tells (named 0) (κs .0) (T.the-row (namedLft 2 1 tt κs)), tt))
-      (λ κs qs bounds a g are. via 𝓤 _ (fst∗ 𝓤 _ (emp 𝓤)) (walk 𝓤 H A W mem run (κs .0) (κs .1 .0) (qs .0) (qs .1 .0) bounds (a .0 .ptr .0) (a .0 .ptr .1) (a .0 .name) (a .0 .now) C Λ fm known-reads known-after))
-
 next-meets : {M : Type 1} (𝓤 : URA M) (H : Heap 𝓤) (A : Atoms 𝓤) → Given 𝓤 H A → (mem : Memory → SProp 𝓤) (run : Routine → Fun 𝓤) (𝓣 : Tables 𝓤 H) → Triple 𝓤 (𝓣 .C #reads) (Reads 𝓤 H A mem run) → Triple 𝓤 (𝓣 .C #after) (After 𝓤 H A mem run)
     → Meets 𝓤 H A next.signature (WpFn 𝓤 H (𝓣 .C) (𝓣 .Λ) code.function) (next.spec 𝓤 H A mem run)
 next-meets 𝓤 H A W mem run 𝓣 known-reads known-after =
     walk-meets 𝓤 H A next.ended stayed W (goes-ref 𝓤 H A W 2 0 tt behind, tt) (next.clauses 𝓤 H A mem run)
-    (WpFn 𝓤 H (𝓣 .C) (𝓣 .Λ) code.function) (WpFn-mono 𝓤 H (W .laws) 𝓣 code.function) (next-walks 𝓤 H A W mem run (𝓣 .C) (𝓣 .Λ) (fmOf 𝓤 H (W .laws) 𝓣) known-reads known-after)
+    (WpFn 𝓤 H (𝓣 .C) (𝓣 .Λ) code.function) (WpFn-mono 𝓤 H (W .laws) 𝓣 code.function)
+    (walked 𝓤 H A next.ended stayed (next.clauses 𝓤 H A mem run) (WpFn 𝓤 H (𝓣 .C) (𝓣 .Λ) code.function)
+    (λ κs. (ptr-vals, tt)) (λ κs. (mut-tells (named 0) (κs .0) (T.the-row (namedLft 2 1 tt κs)), tt))
+    (λ κs qs bounds a g are. via 𝓤 _ (fst∗ 𝓤 _ (emp 𝓤)) (walk 𝓤 H A W mem run (κs .0) (κs .1 .0) (qs .0) (qs .1 .0) bounds (a .0 .ptr .0) (a .0 .ptr .1) (a .0 .name) (a .0 .now) (𝓣 .C) (𝓣 .Λ) (fmOf 𝓤 H (W .laws) 𝓣) known-reads known-after)))
 
 pub next-spec : {M : Type 1} → stated.statement M
 unfolding code.routine tablesOf

@@ -14,15 +14,15 @@ use Rattle.crc.specs.Table.{tabulated, Rule, byteBy, crcBy}
 use Rattle.crc.proofs.Split.{split}
 use Rattle.crc.proofs.Fold.{byteStep-fits}
 
-pub listed-at : {A : Type 0} (f : ℕ → A) (n k : ℕ) (d : A) → k < n → getD (tabulated f n) k d ≡ f k
+pub tabulated-at : {A : Type 0} (f : ℕ → A) (n k : ℕ) (d : A) → k < n → getD (tabulated f n) k d ≡ f k
 unfolding tabulated
-listed-at f zero k d h = absurd (not-suc-le-zero h)
-listed-at f (suc n) zero d h = refl
-listed-at f (suc n) (suc k) d h = listed-at (λ j. f (suc j)) n k d (le-of-suc-le-suc h)
+tabulated-at f zero k d h = absurd (not-suc-le-zero h)
+tabulated-at f (suc n) zero d h = refl
+tabulated-at f (suc n) (suc k) d h = tabulated-at (λ j. f (suc j)) n k d (le-of-suc-le-suc h)
 
 -- the rule at an entry
 rule-at : (t : List ℕ) → Rule t → (k : ℕ) → k < 256 → getD t k 0 ≡ bitSteps 8 (k * 256)
-rule-at t rule k h = ap (λ (l : List ℕ). getD l k 0) rule ∙ listed-at (λ (k : ℕ). bitSteps 8 (k * 256)) 256 k 0 h
+rule-at t rule k h = ap (λ (l : List ℕ). getD l k 0) rule ∙ tabulated-at (λ (k : ℕ). bitSteps 8 (k * 256)) 256 k 0 h
 
 -- a byte is added to the upper half, and the lower stays
 added : (c b : ℕ) → bitXor c (b * 256) ≡ bitXor (c / 256) b * 256 + c % 256
