@@ -1,4 +1,4 @@
--- Whose epochs are listed, in document 01's words: the first eight different senders of frames of type OBS, malformed ones too, in order of
+-- Whose epochs a listing shows, in document 01's words: the first eight different senders of frames of type OBS, malformed ones too, in order of
 -- appearance. Nothing here looks at a collator. Assumes nothing.
 use Prim.Native.Nat.{ℕ}
 use mathlib.Core.Bool.{cond}

@@ -57,7 +57,7 @@ outcomesIn s = outcomes (made (rosterIn s) .collator) (contentsOf s)
 abbrev pub textOf : List ℕ → List ℕ
 textOf s = framesText s (framesOf (closedSteps s)) (outcomesIn s) ++ totalsLine s
 
--- the longest capture that is listed, and the number for a longer one
+-- the longest capture that has a listing, and the number for a longer one
 abbrev pub mostListed : ℕ
 mostListed = 65536
 
