@@ -139,7 +139,9 @@ def bits(flags, table):
     return "".join(" %d" % (flags >> k & 1) for k in table.values())
 
 
-def entry(payload, i):
+def entry(payload, i, kind=OBS):
+    if kind != OBS:
+        return "refused 21"
     if not is_obs(len(payload)):
         return "refused 22"
     if i >= (len(payload) - 7) // 16:
@@ -175,12 +177,12 @@ def observations():
 
 
 def walks():
-    """A reader over each of the rover's payloads, asked five times: it goes on after an observation, and stays at a refusal."""
+    """A reader over each of the rover's payloads and one of another type, asked five times: it stays at a refusal."""
     s, t = mixed(3, 37, 300), mixed(9, 41, 300)
-    for payload in s[:39], s[:8], s[:7], t[:55]:
+    for kind, payload in (OBS, s[:39]), (OBS, s[:8]), (OBS, s[:7]), (OBS, t[:55]), (0x004A, s[:39]):
         at, line = 0, "walk %d" % len(payload)
         for _ in range(5):
-            outcome = entry(payload, at)
+            outcome = entry(payload, at, kind)
             at += not outcome.startswith("refused")
             line += " %s at %d" % (outcome, at)
         yield line

@@ -3,6 +3,8 @@ ghost use mathlib.Core.Path.{_≡_};
 ghost use Rattle.wire.specs.Field.{decode, rowStored};
 ghost use Rattle.observation.specs.Edition.{observation, first};
 ghost use Rattle.observation.specs.Obs.{readEntry, readEntryOf, entryAnswer};
+use crate::obs::EACH;
+use crate::obs::HEAD;
 use crate::obs::is_obs;
 use crate::obs::is_obs_length;
 
@@ -57,9 +59,9 @@ pub fn read_observation(s: &[u8], i: usize) -> ObservationRead
     ensures { λ r. ⌜ entryAnswer r ≡ readEntry first (now (s .entry)) i ⌝ }
 {
     if is_obs_length(s.len()) {
-        if i < (s.len() - 7) / 16 {
-            let start = 7 + i * 16;
-            let end = start + 16;
+        if i < (s.len() - HEAD) / EACH {
+            let start = HEAD + i * EACH;
+            let end = start + EACH;
             return ObservationRead::Record(take(&s[start..end]));
         }
         return ObservationRead::Refused(25);

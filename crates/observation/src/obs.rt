@@ -3,6 +3,13 @@ ghost use mathlib.Core.Path.{_≡_};
 ghost use Rattle.observation.specs.Edition.{fitting, first, isObs};
 ghost use Rattle.observation.specs.Obs.{readObs, obsAnswer};
 
+// The first edition's sizes (specs/Edition.antt says them by its fields): of the header, of one observation, and how many at most.
+pub const HEAD: usize = 7;
+
+pub const EACH: usize = 16;
+
+pub const MOST: usize = 15;
+
 // The observations themselves stay in the payload: `read_observation` gives one by its index, below count.
 pub struct Obs {
     pub tow: u32,
@@ -27,13 +34,13 @@ pub fn is_obs(kind: u16) -> bool
 pub fn is_obs_length(n: usize) -> bool
     ensures { λ r. ⌜ r ≡ fitting first n ⌝ }
 {
-    if n < 7 {
+    if n < HEAD {
         return false;
     }
-    if (n - 7) % 16 != 0 {
+    if (n - HEAD) % EACH != 0 {
         return false;
     }
-    (n - 7) / 16 <= 15
+    (n - HEAD) / EACH <= MOST
 }
 
 pub fn read_obs(s: &[u8]) -> ObsRead
@@ -44,7 +51,7 @@ pub fn read_obs(s: &[u8]) -> ObsRead
             tow: wire::read_u32(s, 0),
             wn: wire::read_u16(s, 4),
             n_obs: wire::read_u8(s, 6),
-            count: ((s.len() - 7) / 16) as u8,
+            count: ((s.len() - HEAD) / EACH) as u8,
         });
     }
     ObsRead::Refused(22)

@@ -10,9 +10,15 @@ ghost use Rattle.observation.specs.Edition.{head, observation, first};
 ghost use Rattle.observation.specs.ObsWriter.{headOf, obsWriteAnswer, obsWritten};
 use crate::entry::Observation;
 use crate::entry::put;
+use crate::obs::EACH;
+use crate::obs::HEAD;
+use crate::obs::MOST;
 use crate::obs::Obs;
 use frames::Sender;
 use frames::Written;
+
+// Where the observations go in a frame: behind the six bytes before the payload, and the header.
+const ENTRIES: usize = 6 + HEAD;
 
 // Stores the header at buf[6..].
 fn put_head(buf: &mut [u8], obs: Obs)
@@ -24,14 +30,14 @@ fn put_head(buf: &mut [u8], obs: Obs)
 }
 
 // Stores the first k observations one after the other at buf[13..].
-fn put_entries(buf: &mut [u8], entries: [Observation; 15], k: usize)
+fn put_entries(buf: &mut [u8], entries: [Observation; MOST], k: usize)
     requires { ⌜ k ≤ 15 ⌝ }
     requires { ⌜ 13 + k * 16 ≤ length (now buf) ⌝ }
     ensures { λ _. ⌜ now (buf .exit) ≡ rowsStored (observation .fields) (rowsOf observation (take k entries)) (now (buf .entry)) 13 ⌝ }
 {
     let mut i = 0;
     while i < k {
-        let start = 13 + i * 16;
+        let start = ENTRIES + i * EACH;
         let o = entries[i];
         put(&mut buf[start..], o);
         i += 1;
@@ -39,15 +45,15 @@ fn put_entries(buf: &mut [u8], entries: [Observation; 15], k: usize)
 }
 
 // A header and the first count of the observations: 31 for over 15, then 32.
-pub fn write_obs(buf: &mut [u8], sender: Sender, obs: Obs, entries: [Observation; 15]) -> Written
+pub fn write_obs(buf: &mut [u8], sender: Sender, obs: Obs, entries: [Observation; MOST]) -> Written
     ensures { λ w. ⌜ writtenAnswer w ≡ obsWriteAnswer first (obs .count) (length (now (buf .entry))) ⌝ }
     ensures { λ _. ⌜ now (buf .exit) ≡ obsWritten first (senderOf sender) (headOf obs) (obs .count) entries (now (buf .entry)) ⌝ }
 {
     let k = obs.count as usize;
-    if 15 < k {
+    if MOST < k {
         return Written::Refused(31);
     }
-    let n = 7 + k * 16;
+    let n = HEAD + k * EACH;
     let answer = frames::plan(n, buf.len());
     if let Written::Bytes(_) = answer {
         put_head(buf, obs);

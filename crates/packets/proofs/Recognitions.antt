@@ -10,8 +10,8 @@ use Rattle.wire.specs.Number.{Bytes}
 use Rattle.wire.specs.Refusals.{refused, given, Answer}
 use Rattle.wire.proofs.Numbers.{number-lt}
 use Rattle.wire.proofs.Ordered.{exactly-all}
-use Rattle.observation.specs.Edition.{fitting, first, isObs}
-use Rattle.observation.specs.Obs.{obsIn, readObs}
+use Rattle.observation.specs.Edition.{first, isObs}
+use Rattle.observation.specs.Obs.{readingObs, obsIn, readObs}
 use Rattle.observation.proofs.Editions.{whole}
 use Rattle.packets.specs.Packet.{packetOf, packetIn, shape, numbering, readPacket, numbered, recognised, Formed}
 use Rattle.packets.specs.declared.packet.Packet.{Packet}
@@ -27,7 +27,7 @@ module _ (kind : ℕ) (s : List ℕ) where
   -- of an observation type it is as OBS is read
   pub read-obs : isObs kind ≡ true → mapped packetOf (readObs s) ≡ readPacket kind s
   unfolding shape packetIn readObs
-  read-obs e = rw e (sym (ordered-mapped packetOf (obsIn s) ((fitting first (length s), 22) ∷ [])))
+  read-obs e = rw e (sym (ordered-mapped packetOf (obsIn s) (readingObs first s)))
 
 module _ (p : Packet) where
   pub numbered-44 : p .key .n ≡ 0 → refused 44 ≡ numbered p

@@ -4,10 +4,9 @@ use Prim.Native.Nat.{ℕ, _/_, _%_, _≤_, _<_}
 use mathlib.Core.Bool.{Bool, _&&_, not}
 use mathlib.Core.List.{List, [], _∷_, _++_}
 use lib.Dec.{eqb, ltb}
-use lib.ListN.{length}
 use Rattle.wire.specs.Refusals.{refused, given, Answer, Tests, ordered}
-use Rattle.observation.specs.Edition.{fitting, first, isObs}
-use Rattle.observation.specs.Obs.{obsIn}
+use Rattle.observation.specs.Edition.{first, isObs}
+use Rattle.observation.specs.Obs.{readingObs, obsIn}
 use Rattle.observation.specs.declared.obs.Obs.{Obs}
 use Rattle.packets.specs.declared.packet.Key.{Key}
 use Rattle.packets.specs.declared.packet.Packet.{Packet}
@@ -27,7 +26,7 @@ packetIn s = packetOf (obsIn s)
 
 -- 46, 22: the type is an observation's, and the length one of the type's
 unfoldable pub shape : ℕ → List ℕ → Tests
-shape kind s = (isObs kind, 46) ∷ (fitting first (length s), 22) ∷ []
+shape kind s = (isObs kind, 46) ∷ readingObs first s
 
 -- 44, 45: n is not 0, and the counter is below n
 unfoldable pub numbering : Packet → Tests

@@ -13,6 +13,8 @@ pub fn run() {
     let mut buf = [0u8; 300];
     let n = filled(&mut buf, &s, &t);
     frame_by_frame(front(&buf, n));
+    // of another type: 21, and it stays
+    walk(0x004a, front(&s, 39));
 }
 
 // Frames of a base and of the rover that it relays as sender 0, one of them of a wrong length.
