@@ -14,7 +14,7 @@ use Rattle.observation.proofs.Phases.{phase-parts, parts-phase}
 use Rattle.system.proofs.Logs.{log-faithful}
 use Rattle.obs_reader.proofs.HandedOut.{whole-walk}
 use Rattle.obs_reader.proofs.Readers.{asked-times}
-use Rattle.payloads.proofs.Entries.{promised}
+use Rattle.payloads.proofs.Entries.{promised, obs-read, log-read}
 use Rattle.runs.proofs.Fronts.{in-words}
 use Rattle.epochs.specs.Epoch.{after, reportsOf, Epochs, contentsOf}
 use Rattle.epochs.specs.declared.collating.Report.{Report}
@@ -46,7 +46,9 @@ read-and-written : ReadAndWritten
 read-and-written = record {
   messages = promised;
   obs = obs-faithful;
+  obs-read = obs-read;
   log = log-faithful;
+  log-read = log-read;
   obs-asked = asked-times;
   obs-walk = whole-walk;
   phase = (phase-parts, parts-phase);

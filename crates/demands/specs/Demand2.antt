@@ -20,13 +20,18 @@ use Rattle.frames.specs.Decides.{Decides}
 use Rattle.frames.specs.declared.step.Frame.{Frame}
 use Rattle.frames.specs.declared.step.Step.{Step}
 use Rattle.frames.specs.declared.step.Step.the-variants.{Found}
+use Rattle.observation.specs.Edition.{first}
+use Rattle.observation.specs.Obs.{readObs}
 use Rattle.observation.specs.ObsFaithful.{ObsFaithful}
 use Rattle.observation.specs.Phase.{phaseOf, partsOf}
 use Rattle.observation.specs.declared.phase.Phase.{Phase}
+use Rattle.system.specs.Log as system
+use Rattle.system.specs.Log.{readLog}
 use Rattle.system.specs.LogFaithful.{LogFaithful}
 use Rattle.obs_reader.specs.Walk.{Walk, standing, askedTimes, observationsIn, pastThem}
 use Rattle.obs_reader.specs.declared.ObsReader.{ObsReader}
-use Rattle.payloads.specs.Payloads.{messages, Promised, AllOf}
+use Rattle.payloads.specs.Payloads.{messages, Typed, Promised, AllOf}
+use Rattle.payloads.specs.declared.Message.the-variants as M
 use Rattle.packets.specs.declared.packet.Packet.{Packet}
 use Rattle.runs.specs.InWords.{EpochEnds, InWords}
 use Rattle.epochs.specs.Search.{names}
@@ -71,7 +76,9 @@ pub record ReadAndWritten : Type 0 where
   pub messages : AllOf Promised messages
   -- what is read and written of OBS, and of LOG, is that message
   pub obs : ObsFaithful
+  pub obs-read : Typed (first .kind) (λ r. M.Obs r) readObs
   pub log : LogFaithful
+  pub log-read : Typed (system.log .kind) (λ r. M.Log r) readLog
   -- "a reader that keeps the lent payload and its place": asked n times it keeps its payload and stands where n questions lead
   pub obs-asked : (n : ℕ) (r : ObsReader) → askedTimes n r ≡ record { kind = r .kind; payload = r .payload; at = standing n (r .kind) (now (r .payload)) (r .at) }
   -- from the start they are answered by the payload's observations in order, each once, and by a refusal from then on

@@ -20,7 +20,7 @@ use Rattle.exports.specs.Totals.{totalling, totalsFor}
 use Rattle.exports.specs.State.{stateIn}
 use Rattle.exports.specs.Feed.{making, madeIn, madeStored, reportSize, feedingIn, forPlaceIn, fedIn, afterIn}
 
--- an epoch's numbers in a row of bytes, each where the C header has it
+-- an epoch's numbers in a row of bytes, each where link/include/sbp.h has it
 pub record Shown (row : List ℕ) (e : Report) : Type 0 where
   pub sender : numberAt 2 row 0 ≡ e .sender
   pub week : numberAt 2 row 2 ≡ e .wn

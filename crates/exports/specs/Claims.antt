@@ -4,10 +4,9 @@ use mathlib.Core.Path.{_≡_}
 use mathlib.Core.Bool.{Bool}
 use mathlib.Core.List.{List, [], _∷_}
 use lib.ListN.{length, getD}
-use Rattle.wire.specs.Number.{Bytes, numberAt}
+use Rattle.wire.specs.Number.{Bytes}
 use Rattle.frames.specs.Frame.{Content}
 use Rattle.epochs.specs.Collator.{made}
-use Rattle.epochs.specs.declared.collating.Report.{Report}
 use Rattle.listing.specs.Listing.{withListing}
 use Rattle.exports.specs.Found.{nextAnswer, nextStored}
 use Rattle.exports.specs.Totals.{totalsAnswer, totalsStored}
@@ -36,11 +35,3 @@ pub record Filled (roster s report : List ℕ) (xs : List Content) : Type 0 wher
   pub long : stateSize ≤ length s
   pub room : reportSize ≤ length report
   pub bytes : AllBytes xs
-
--- an epoch's numbers in a row of bytes, each where link/include/sbp.h has it
-pub record Shown (row : List ℕ) (e : Report) : Type 0 where
-  pub sender : numberAt 2 row 0 ≡ e .sender
-  pub week : numberAt 2 row 2 ≡ e .wn
-  pub time : numberAt 4 row 4 ≡ e .tow
-  pub packets : numberAt 1 row 8 ≡ e .n
-  pub observations : numberAt 2 row 9 ≡ e .observations
