@@ -6,12 +6,12 @@ use mathlib.Core.List.{List, _∷_, _++_}
 use Prim.Native.Nat.{ℕ, _<_}
 use native.Mathlib.Omega.{arith}
 use lib.ListN.{length}
-use Rattle.wire.specs.Refusals.{refused, given, Answer, Tests, ordered}
+use Rattle.wire.specs.Refusals.{refused, given, Answer, Tests, ordered, mapped}
 use Rattle.wire.proofs.Distinct.{same-given, never-both}
 use Rattle.frames.specs.Frame.{Content}
 use Rattle.packets.specs.Packet.{packetIn, shape, numbering, readPacket}
 use Rattle.packets.specs.declared.packet.Packet.{Packet}
-use Rattle.packets.proofs.Joined.{mapped, ordered-mapped, andThen, ordered-joined}
+use Rattle.wire.proofs.Joined.{ordered-joined, andThen, ordered-mapped}
 use Rattle.epochs.specs.Search.{seatOf, isAt, names}
 use Rattle.epochs.specs.Collator.{seatNumber, forPlace}
 use Rattle.epochs.specs.Epoch.{ownPacket}

@@ -9,10 +9,9 @@ use lib.Dec.{eqb}
 use lib.ListN.{length, getD, set, take, replicate, length-map, List·getD-append}
 use lib.Seq.{take-take, take-append-seam, getD-take, take-set-lt, set-append-left}
 use borrow.Author.Tests.{eq-eqb, ne-eqb}
-use Rattle.wire.specs.Refusals.{refused, given, Answer}
+use Rattle.wire.specs.Refusals.{refused, given, Answer, mapped}
 use Rattle.frames.specs.Frame.{Content}
 use Rattle.packets.specs.declared.packet.Packet.{Packet}
-use Rattle.packets.proofs.Joined.{mapped}
 use Rattle.runs.specs.Run.{stepped, runOf}
 use Rattle.runs.specs.declared.running.Run.{Run}
 use Rattle.epochs.specs.Search.{seatOf, names, repeats}

@@ -10,7 +10,7 @@ use lib.ListN.{length, getD, replicate, length-append, getD-replicate}
 use lib.Seq.{length-take-le, getD-take}
 use borrow.Author.Tests.{le-leb, lt-leb}
 use Rattle.wire.specs.Refusals.{refused, given, Answer, ordered, leaves}
-use Rattle.packets.proofs.Joined.{andThen, ordered-joined}
+use Rattle.wire.proofs.Joined.{ordered-joined, andThen}
 use Rattle.epochs.specs.Search.{repeats}
 use Rattle.epochs.specs.Collator.{idle, fresh, rostering, asMade, made}
 use Rattle.epochs.specs.declared.collating.Collator.{Collator}

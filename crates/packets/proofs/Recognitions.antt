@@ -7,7 +7,7 @@ use native.Mathlib.Omega.{arith}
 use lib.ListN.{length}
 use borrow.Author.Tests.{eq-eqb, ne-eqb, lt-ltb, le-ltb, ltb-true}
 use Rattle.wire.specs.Number.{Bytes}
-use Rattle.wire.specs.Refusals.{refused, given, Answer}
+use Rattle.wire.specs.Refusals.{refused, given, Answer, mapped}
 use Rattle.wire.proofs.Numbers.{number-lt}
 use Rattle.wire.proofs.Ordered.{exactly-all}
 use Rattle.observation.specs.Edition.{first, isObs}
@@ -15,7 +15,7 @@ use Rattle.observation.specs.Obs.{readingObs, obsIn, readObs}
 use Rattle.observation.proofs.Editions.{whole}
 use Rattle.packets.specs.Packet.{packetOf, packetIn, shape, numbering, readPacket, numbered, recognised, Formed}
 use Rattle.packets.specs.declared.packet.Packet.{Packet}
-use Rattle.packets.proofs.Joined.{mapped, ordered-mapped, andThen, ordered-joined}
+use Rattle.wire.proofs.Joined.{ordered-joined, andThen, ordered-mapped}
 
 -- ---- the two steps, refusal by refusal
 

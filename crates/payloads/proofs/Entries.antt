@@ -11,7 +11,8 @@ use Rattle.wire.specs.Number.{numberAt}
 use Rattle.wire.specs.Field.{size}
 use Rattle.wire.specs.Layout.{Layout, run, then, bytes, rows, Sound, allowedBody, decodeBody}
 use Rattle.wire.specs.Description.{readAs, reading, inside}
-use Rattle.wire.specs.Refusals.{refused, Answer, Tests, ordered}
+use Rattle.wire.specs.Refusals.{Answer, ordered, mapped}
+use Rattle.wire.proofs.Joined.{ordered-mapped}
 use Rattle.frames.proofs.Promised.{faithful}
 use Rattle.observation.specs.Edition.{fitting, obs, first}
 use Rattle.observation.specs.Obs.{readingObs, obsIn, readObs}
@@ -19,23 +20,13 @@ use Rattle.observation.specs.declared.obs.Obs.{Obs}
 use Rattle.observation.proofs.ObsReading.{allowed, obs-shown}
 use Rattle.system.specs.Log as system
 use Rattle.system.specs.Log.{logLength, readingLog, logIn, readLog}
-use Rattle.payloads.specs.Payloads.{Described, messages, Entry, readIn, entryOf, noEntry, table, entryFor, testsOf, readFor, named, Typed, TypedIn, PromisedIn, Promised, AllOf}
+use Rattle.payloads.specs.Payloads.{Described, messages, Entry, readIn, entryOf, noEntry, table, entryFor, testsOf, readFor, Typed, TypedIn, PromisedIn, Promised, AllOf}
 use Rattle.payloads.specs.declared.Message.{Message}
 use Rattle.payloads.specs.declared.Message.the-variants as M
 
--- ---- a name inside or outside of the tests
-
-named-ordered : {R : Type 0} (name : R → Message) (ts : Tests) (r : R) → ordered ts (name r) ≡ named name (ordered ts r)
-named-ordered name [] r = refl
-named-ordered name (t ∷ ts) r = by (t .0) (named-ordered name ts r)
-  where
-    by : (b : Bool) → ordered ts (name r) ≡ named name (ordered ts r) → cond b (ordered ts (name r)) (refused (t .1)) ≡ named name (cond b (ordered ts r) (refused (t .1)))
-    by true rest = rest
-    by false rest = refl
-
 -- e is what a reader returned, and x the case of it that was met
-pub under-name : {R E : Type 0} (name : R → Message) (answer : E → Answer R) {e x : E} {a : Answer R} → answer e ≡ a → e ≡ x → named name (answer x) ≡ named name a
-under-name name answer p q = ap (named name) (sym (ap answer q) ∙ p)
+pub under-name : {R E : Type 0} (name : R → Message) (answer : E → Answer R) {e x : E} {a : Answer R} → answer e ≡ a → e ≡ x → mapped name (answer x) ≡ mapped name a
+under-name name answer p q = ap (mapped name) (sym (ap answer q) ∙ p)
 
 -- ---- the entry of a type
 
@@ -93,7 +84,7 @@ distinct before (m ∷ ms) =
 module _ (m : Described) (es : List Entry) (found : entryFor es (m .description .kind) ≡ entryOf m) where
   read-own : TypedIn es (m .description .kind) (m .name) (readAs (m .description))
   unfolding readAs
-  read-own s = ap (λ (e : Entry). ordered (testsOf e s) (e .holds s)) found ∙ named-ordered (m .name) (reading (m .description) s) (inside (m .description) s)
+  read-own s = ap (λ (e : Entry). ordered (testsOf e s) (e .holds s)) found ∙ ordered-mapped (m .name) (inside (m .description) s) (reading (m .description) s)
 
 all-promised : (before : List Entry) (ms : List Described) → distinct before ms ≡ true → AllOf (PromisedIn (before ++ map entryOf ms)) ms
 all-promised before [] h = tt
@@ -121,10 +112,10 @@ pub obs-read : Typed (first .kind) (λ r. M.Obs r) readObs
 unfolding entryFor readObs
 obs-read s =
     ap₂ (λ (t : Bool) (o : Obs). ordered ((fitting first (length s), 22) ∷ (t, 23) ∷ []) (M.Obs o)) (obs-allowed s) (sym (obs-shown s))
-    ∙ named-ordered (λ r. M.Obs r) (readingObs first s) (obsIn s)
+    ∙ ordered-mapped (λ r. M.Obs r) (obsIn s) (readingObs first s)
 
 pub log-read : Typed (system.log .kind) (λ r. M.Log r) readLog
 unfolding entryFor readLog
 log-read s =
     ap (λ (k : ℕ). ordered ((logLength (length s), 22) ∷ []) (M.Log (record { level = numberAt 1 s 0; length = k }))) (length-drop 1 s)
-    ∙ named-ordered (λ r. M.Log r) (readingLog s) (logIn s)
+    ∙ ordered-mapped (λ r. M.Log r) (logIn s) (readingLog s)

@@ -7,7 +7,7 @@ use mathlib.Core.Bool.{Bool, true, false, cond}
 use mathlib.Core.List.{List, [], _∷_, map}
 use lib.Dec.{eqb}
 use Rattle.wire.specs.Description.{Description, inside, reading, readAs}
-use Rattle.wire.specs.Refusals.{refused, given, Answer, Tests, ordered}
+use Rattle.wire.specs.Refusals.{refused, given, Answer, Tests, mapped, ordered}
 use Rattle.frames.specs.Faithful.{Faithful}
 use Rattle.navigation.specs.Dops.{dops}
 use Rattle.navigation.specs.Ecef.{baselineEcef, velEcef}
@@ -118,14 +118,9 @@ answerFor kind s = numberOf (readFor kind s)
 
 -- ---- what is promised of every message
 
--- a record under its message's name, or the refusal
-abbrev pub named : {R : Type 0} → (R → Message) → Answer R → Answer Message
-named name (given r) = given (name r)
-named name (refused n) = refused n
-
--- payloads of a type read as one reader reads them
+-- payloads of a type read as one reader reads them, the record under its message's name
 abbrev pub TypedIn : {R : Type 0} → List Entry → ℕ → (R → Message) → (List ℕ → Answer R) → Type 0
-TypedIn es kind name reads = (s : List ℕ) → readIn es kind s ≡ named name (reads s)
+TypedIn es kind name reads = (s : List ℕ) → readIn es kind s ≡ mapped name (reads s)
 
 abbrev pub Typed : {R : Type 0} → ℕ → (R → Message) → (List ℕ → Answer R) → Type 0
 Typed = TypedIn table

@@ -4,7 +4,8 @@
 ghost use mathlib.Core.Path.{_≡_};
 ghost use Rattle.observation.specs.Obs.{readObs};
 ghost use Rattle.system.specs.Log.{readLog};
-ghost use Rattle.payloads.specs.Payloads.{readFor, answerFor, readingAnswer, named};
+ghost use Rattle.payloads.specs.Payloads.{readFor, answerFor, readingAnswer};
+ghost use Rattle.wire.specs.Refusals.{mapped};
 
 mod check;
 
@@ -40,7 +41,7 @@ pub enum Reading {
 }
 
 fn obs(s: &[u8]) -> Reading
-    ensures { λ r. ⌜ readingAnswer r ≡ named (λ x. Message.Obs x) (readObs (now (s .entry))) ⌝ }
+    ensures { λ r. ⌜ readingAnswer r ≡ mapped (λ x. Message.Obs x) (readObs (now (s .entry))) ⌝ }
 {
     match observation::read_obs(s) {
         ObsRead::Record(r) => Reading::Record(Message::Obs(r)),
@@ -49,7 +50,7 @@ fn obs(s: &[u8]) -> Reading
 }
 
 fn log(s: &[u8]) -> Reading
-    ensures { λ r. ⌜ readingAnswer r ≡ named (λ x. Message.Log x) (readLog (now (s .entry))) ⌝ }
+    ensures { λ r. ⌜ readingAnswer r ≡ mapped (λ x. Message.Log x) (readLog (now (s .entry))) ⌝ }
 {
     match system::read_log(s) {
         LogRead::Record(r) => Reading::Record(Message::Log(r)),

@@ -6,5 +6,6 @@ pub mod Layouts
 pub mod Copies
 pub mod Distinct
 pub mod Ordered
+pub mod Joined
 pub mod Descriptions
 pub mod OneBit

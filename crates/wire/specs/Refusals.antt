@@ -12,6 +12,11 @@ pub data Answer (A : Type 0) : Type 0 where
   given : A → Answer A
   refused : ℕ → Answer A
 
+-- the same answer of what f makes of it
+abbrev pub mapped : {A B : Type 0} → (A → B) → Answer A → Answer B
+mapped f (given x) = given (f x)
+mapped f (refused n) = refused n
+
 -- what has to be so, and the number of the refusal where it is not
 abbrev pub Tests : Type 0
 Tests = List (Bool × ℕ)

@@ -2,9 +2,8 @@
 -- Assumes nothing.
 use mathlib.Core.Path.{sym, ap, _∙_}
 use Rattle.observation.specs.Obs.{obsAnswer}
-use Rattle.wire.specs.Refusals.{given}
+use Rattle.wire.specs.Refusals.{given, mapped}
 use Rattle.packets.specs.Packet.{packetOf}
-use Rattle.packets.proofs.Joined.{mapped}
 use Rattle.packets.proofs.Recognitions.{read-46, read-obs}
 use borrow.Author.Needs.{needs}
 use Rattle.packets.proofs.packet.read_packet.Statement.{statement}

@@ -2,12 +2,7 @@
 use mathlib.Core.Path.{_≡_, refl}
 use mathlib.Core.Bool.{Bool, true, false, cond}
 use mathlib.Core.List.{[], _∷_, _++_}
-use Prim.Native.Nat.{ℕ}
-use Rattle.wire.specs.Refusals.{refused, given, Answer, Tests, ordered}
-
-abbrev pub mapped : {A B : Type 0} → (A → B) → Answer A → Answer B
-mapped f (given x) = given (f x)
-mapped f (refused n) = refused n
+use Rattle.wire.specs.Refusals.{refused, given, Answer, Tests, mapped, ordered}
 
 module _ {A B : Type 0} (f : A → B) (x : A) where
   pub ordered-mapped : (ts : Tests) → ordered ts (f x) ≡ mapped f (ordered ts x)
