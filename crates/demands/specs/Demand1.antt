@@ -3,7 +3,7 @@
 -- on all inputs, and none has a `requires` (crate `determined`); that calls of `next` stop is in demand 2 (`handed-out`). Here is what calls
 -- answer and what a refusal leaves. Assumes nothing.
 use mathlib.Core.Path.{_≡_}
-use mathlib.Core.List.{List, [], _∷_}
+use mathlib.Core.List.{List, []}
 use mathlib.Core.Logic.{_↔_, _⊎_}
 use Prim.Native.Nat.{ℕ, _+_, _<_}
 use lib.IntN.{ℤ}
@@ -16,8 +16,8 @@ use Rattle.wire.specs.Refusals.{refused, given, Tests, ordered, FirstFails, All
 use Rattle.frames.specs.Frame.{Content}
 use Rattle.frames.specs.Writer.{writingFrame, planned, withFrame}
 use Rattle.frames.specs.Faithful.{writing, writeAnswer, writtenAs}
-use Rattle.observation.specs.Edition.{first, startOf, isObs, Head}
-use Rattle.observation.specs.Obs.{entryAt, oneObservation, readEntry, readEntryOf, obsIn, readingObs, readObs}
+use Rattle.observation.specs.Edition.{first, startOf, Head}
+use Rattle.observation.specs.Obs.{entryAt, oneObservation, oneOfFrame, readEntry, readEntryOf, obsIn, readingObs, readObs}
 use Rattle.observation.specs.ObsWriter.{writingObs, obsWriteAnswer, obsWritten}
 use Rattle.observation.specs.Phase.{partsOf, phaseRange, readPhase}
 use Rattle.observation.specs.declared.entry.Observation.{Observation}
@@ -25,9 +25,7 @@ use Rattle.system.specs.Log.{Logged, log, logIn, readingLog, readLog, writingLo
 use Rattle.obs_reader.specs.Reader.{asked}
 use Rattle.obs_reader.specs.declared.ObsReader.{ObsReader}
 use Rattle.payloads.specs.Payloads.{table, entryFor, readingAny, readFor}
-use Rattle.packets.specs.Packet.{packetIn}
-use Rattle.epochs.specs.Search.{seatOf}
-use Rattle.epochs.specs.Collator.{feeding, seatNumber, acted, rosterOf, fedFrame, fresh, rostering, asMade, made}
+use Rattle.epochs.specs.Collator.{feeding, ownPlace, acted, rosterOf, fedFrame, fresh, rostering, asMade, made}
 use Rattle.epochs.specs.Epoch.{after}
 use Rattle.epochs.specs.Capture.{begun, collated}
 use Rattle.epochs.specs.declared.collating.Collator.{Collator}
@@ -47,7 +45,7 @@ pub record RefusedByNumber : Type 1 where
   pub log-payload : (s : List ℕ) → readLog s ≡ ordered (readingLog s) (logIn s)
   -- an index: 22, 25; an observation reader looks at the type first, which may be none of an observation's
   pub index : (s : List ℕ) (i : ℕ) → readEntry first s i ≡ ordered (oneObservation first s i) (entryAt first s i)
-  pub reader-index : (kind : ℕ) (s : List ℕ) (i : ℕ) → readEntryOf kind s i ≡ ordered ((isObs kind, 21) ∷ oneObservation first s i) (entryAt first s i)
+  pub reader-index : (kind : ℕ) (s : List ℕ) (i : ℕ) → readEntryOf kind s i ≡ ordered (oneOfFrame kind s i) (entryAt first s i)
   -- a buffer: 23, 31, 32; for a record of any message, for what is handed in of OBS and of LOG, and for a raw frame
   pub record-buffer : (R : Type 0) (d : Description R) (r : R) (room : ℕ) → writeAnswer d r room ≡ ordered (writing d r room) (bodySize (d .layout) (d .row r) + 8)
   pub obs-buffer : (k room : ℕ) → obsWriteAnswer first k room ≡ ordered (writingObs first k room) (startOf first k + 8)
@@ -61,7 +59,7 @@ pub record RefusedByNumber : Type 1 where
   pub roster : (roster : List ℕ) → made roster ≡ asMade (ordered (rostering roster) (fresh roster))
   -- a frame: 46, 22, 43, 44, 45, whatever the collator
   pub frame : (c : Collator) (x : Content)
-      → fedFrame c x ≡ acted c (x .sender) (ordered (feeding (rosterOf c) x) (seatNumber (seatOf (rosterOf c) (x .sender) 0), packetIn (x .payload)))
+      → fedFrame c x ≡ acted c (x .sender) (ordered (feeding (rosterOf c) x) (ownPlace (rosterOf c) x))
 
 -- "and a refusal writes nothing"
 pub record WritesNothing : Type 1 where

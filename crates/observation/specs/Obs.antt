@@ -36,8 +36,11 @@ module _ {H O : Type 0} (e : Edition H O) where
 -- ---- the first edition, which the code reads
 
 -- an observation of a frame's payload, whose type is looked at first: 21, 22, 25
+abbrev pub oneOfFrame : ℕ → List ℕ → ℕ → Tests
+oneOfFrame kind s i = (isObs kind, 21) ∷ oneObservation first s i
+
 unfoldable pub readEntryOf : ℕ → List ℕ → ℕ → Answer Observation
-readEntryOf kind s i = ordered ((isObs kind, 21) ∷ oneObservation first s i) (entryAt first s i)
+readEntryOf kind s i = ordered (oneOfFrame kind s i) (entryAt first s i)
 
 abbrev pub entryAnswer : ObservationRead → Answer Observation
 entryAnswer (entry.Record r) = given r
