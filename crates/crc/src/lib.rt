@@ -285,9 +285,9 @@ fn byte(s: &[u8], i: usize) -> usize
     0
 }
 
-// The register after a byte is the entry that the byte picked with the old lower half added to its upper one. So the place in the table that
-// the next byte picks is the entry's upper half, added to what waited: the old lower half and that byte.
-fn place(waiting: usize, entry: u16) -> usize
+// The register after a byte is the entry that the byte picked with the old lower half added to its upper one. So what the next byte picks in
+// the table is at the entry's upper half, added to what waited: the old lower half and that byte.
+fn picked(waiting: usize, entry: u16) -> usize
     requires { ⌜ waiting < 256 ⌝ }
     ensures { λ r. ⌜ (r ≡ bitXor waiting (entry / 256)) × (r < 256) ⌝ }
 {
@@ -314,13 +314,13 @@ pub fn crc_by(table: &[u16; 256], s: &[u8]) -> u16
     // a byte is known to be there, but for the last two
     while 2 < s.len() - i {
         let entry = table[upper];
-        upper = place(lower, entry);
+        upper = picked(lower, entry);
         lower = waits(entry, s[i + 2] as usize);
         i += 1;
     }
     while i < s.len() {
         let entry = table[upper];
-        upper = place(lower, entry);
+        upper = picked(lower, entry);
         lower = waits(entry, 0);
         i += 1;
     }

@@ -59,7 +59,7 @@ pub struct Stepped {
     pub at: usize,
 }
 
-// What a reader answers at any place of a payload, and where it then stands.
+// What a reader answers anywhere in a payload, and where it then stands.
 pub fn step_from(kind: u16, payload: &[u8], at: usize) -> Stepped
     ensures { λ r. ⌜ (entryAnswer (r .answer) ≡ readEntryOf kind (now (payload .entry)) at) × (r .at ≡ atAfter kind (now (payload .entry)) at) ⌝ }
 {

@@ -43,8 +43,8 @@ mul-entry c = omega (arith, c .before .loop .inv .upper-fits)
 element-copy-out-entry : tie.Need-element-copy-out-entry Inv-loop μ-loop Inv-loop2 μ-loop2
 element-copy-out-entry c = c .before .loop .inv .upper-fits
 
-place-requires : tie.Need-place-requires Inv-loop μ-loop Inv-loop2 μ-loop2
-place-requires c κs = c .before .before .loop .inv .lower-fits
+picked-requires : tie.Need-picked-requires Inv-loop μ-loop Inv-loop2 μ-loop2
+picked-requires c κs = c .before .before .loop .inv .lower-fits
 
 add-waits : tie.Need-add-waits Inv-loop μ-loop Inv-loop2 μ-loop2
 add-waits c = search needs
@@ -68,7 +68,7 @@ loop-again : tie.Need-loop-again Inv-loop μ-loop Inv-loop2 μ-loop2
 loop-again c =
     let a = c .before .before .before .before .before .before .before .before .before .args in
     let at = c .before .before .before .before .before .loop in
-    carried-more (a .table .now) (a .s .now) (at .inv) (omega (arith, c .before .before .before .before .loop-test .taken)) (c .before .before .place .ensures) (c .waits .ensures)
+    carried-more (a .table .now) (a .s .now) (at .inv) (omega (arith, c .before .before .before .before .loop-test .taken)) (c .before .before .picked .ensures) (c .waits .ensures)
 
 loop2-holds : tie.Need-loop2-holds Inv-loop μ-loop Inv-loop2 μ-loop2
 loop2-holds c = (omega (arith, c .loop-test .left), c .before .loop .inv)
@@ -79,8 +79,8 @@ mul-entry-2 c = omega (arith, c .before .loop2 .inv .1 .upper-fits)
 element-copy-out-entry-2 : tie.Need-element-copy-out-entry-2 Inv-loop μ-loop Inv-loop2 μ-loop2
 element-copy-out-entry-2 c = c .before .loop2 .inv .1 .upper-fits
 
-place-requires-2 : tie.Need-place-requires-2 Inv-loop μ-loop Inv-loop2 μ-loop2
-place-requires-2 c κs = c .before .before .loop2 .inv .1 .lower-fits
+picked-requires-2 : tie.Need-picked-requires-2 Inv-loop μ-loop Inv-loop2 μ-loop2
+picked-requires-2 c κs = c .before .before .loop2 .inv .1 .lower-fits
 
 waits-requires-2 : tie.Need-waits-requires-2 Inv-loop μ-loop Inv-loop2 μ-loop2
 waits-requires-2 c κs = lit< tt
@@ -97,7 +97,7 @@ loop2-again c =
     let at = c .before .before .before .before .loop2 in
     let none = none-later (a .s .now) (at .i + 2) (at .inv .0) in (
       omega (arith, at .inv .0),
-      carried-more (a .table .now) (a .s .now) (at .inv .1) (c .before .before .before .loop2-test .taken) (c .before .place2 .ensures)
+      carried-more (a .table .now) (a .s .now) (at .inv .1) (c .before .before .before .loop2-test .taken) (c .before .picked2 .ensures)
           (c .waits2 .ensures .0 ∙ ap (bitXor (getD (a .table .now) (at .upper) 0 % 256)) none, c .waits2 .ensures .1),
     )
 
@@ -127,7 +127,7 @@ crc-by-spec =
     sub-loop
     mul-entry
     element-copy-out-entry
-    place-requires
+    picked-requires
     add-waits
     shared-slice-read-waits
     cast-waits
@@ -138,7 +138,7 @@ crc-by-spec =
     loop2-holds
     mul-entry-2
     element-copy-out-entry-2
-    place-requires-2
+    picked-requires-2
     waits-requires-2
     add-i-2
     loop2-less
