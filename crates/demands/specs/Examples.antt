@@ -34,7 +34,7 @@ pub data Example : Type 0 where
   step : List ℕ → ℕ → Step → ℕ → Example
   -- what a frame's payload reads as
   payload : List ℕ → Frame → Answer Message → Example
-  -- the first answer about a capture, open (opened) or closed
+  -- the first answer about a capture, in open reading or in closed
   reading : Bool → List ℕ → Next.Next → Example
   -- the counts of the whole capture, closed
   counts : List ℕ → Counts → Example

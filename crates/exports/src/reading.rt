@@ -83,7 +83,8 @@ fn put_found(buf: &mut [u8], f: FoundRow)
     wire::store_u8(buf, 52, f.length);
 }
 
-// The next frame from a position on, closed or (opened) open: 0, 1 or 2, and its row at the start of found; 32 where that has no room.
+// The next frame from a position on, in closed reading or, where opened says so, in open: 0, 1 or 2, and its row at the start of found; 32
+// where that has no room.
 #[no_mangle]
 pub extern "C" fn sbp_next(capture: &[u8], at: usize, opened: bool, found: &mut [u8]) -> u8
     ensures { λ r. ⌜ r ≡ nextAnswer (now (capture .entry)) at opened (length (now (found .entry))) ⌝ }

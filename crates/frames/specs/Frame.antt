@@ -14,7 +14,7 @@ unfoldable pub frameBytes : ℕ → ℕ → List ℕ → List ℕ
 unfolding covered
 frameBytes kind sender payload = 0x55 ∷ covered kind sender payload ++ bytesOf 2 (crcFrom 0 (covered kind sender payload))
 
--- a frame to be written, and what its fields have room for
+-- what a frame carries, to be written or to be fed to a collator; and what its fields have room for
 pub record Content : Type 0 where
   pub kind : ℕ
   pub sender : ℕ

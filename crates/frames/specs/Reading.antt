@@ -17,7 +17,7 @@ pub record Positioned : Type 0 where
   pub at : ℕ
   pub step : Step
 
--- where a reading stops: at the end and, where the capture is opened (open reading), at a short
+-- where a reading stops: at the end and, in open reading, at a short
 abbrev pub stops : Bool → Step → Bool
 stops opened Finished = true
 stops opened Junk = false
