@@ -6,8 +6,11 @@ use mathlib.Core.Path.{_≡_}
 use mathlib.Core.Bool.{Bool, true, false, cond}
 use mathlib.Core.List.{List, [], _∷_, map}
 use lib.Dec.{eqb}
+use Rattle.wire.specs.Layout.{Layout, run}
 use Rattle.wire.specs.Description.{Description, inside, reading, readAs}
 use Rattle.wire.specs.Refusals.{refused, given, Answer, Tests, mapped, ordered}
+use Rattle.formats.specs.Digits.{shapeOf}
+use Rattle.formats.specs.declared.Shape.{Shape}
 use Rattle.frames.specs.Faithful.{Faithful}
 use Rattle.navigation.specs.Dops.{dops}
 use Rattle.navigation.specs.Ecef.{baselineEcef, velEcef}
@@ -71,20 +74,21 @@ messages =
 
 -- ---- the table
 
--- a row of it: a type, whether it has a reading, its reader's tests, and what a payload that passes them holds
+-- a row of it: a type, whether it has a reading, its layout, its reader's tests, and what a payload that passes them holds
 pub record Entry : Type 0 where
   pub kind : ℕ
   pub known : Bool
+  pub layout : Layout
   pub tests : List ℕ → Tests
   pub holds : List ℕ → Message
 
 -- all of it as the description says
 abbrev pub entryOf : Described → Entry
-entryOf m = let d = m .description in record { kind = d .kind; known = true; tests = reading d; holds = λ s. m .name (inside d s) }
+entryOf m = let d = m .description in record { kind = d .kind; known = true; layout = d .layout; tests = reading d; holds = λ s. m .name (inside d s) }
 
 -- of a type without a reading: 21, so what it holds is never given
 abbrev pub noEntry : ℕ → Entry
-noEntry kind = record { kind = kind; known = false; tests = λ s. []; holds = λ s. M.SettingsSave }
+noEntry kind = record { kind = kind; known = false; layout = run []; tests = λ s. []; holds = λ s. M.SettingsSave }
 
 abbrev pub table : List Entry
 table = map entryOf messages
@@ -92,6 +96,17 @@ table = map entryOf messages
 unfoldable pub entryFor : List Entry → ℕ → Entry
 entryFor [] kind = noEntry kind
 entryFor (e ∷ es) kind = cond (eqb kind (e .kind)) e (entryFor es kind)
+
+-- what a type's payloads are made of, and that as digits; of a type without a reading nothing
+abbrev pub layoutFor : ℕ → Layout
+layoutFor kind = entryFor table kind .layout
+
+abbrev pub shapeFor : ℕ → Shape
+shapeFor kind = shapeOf (layoutFor kind)
+
+-- a type has a reading
+abbrev pub knownFor : ℕ → Bool
+knownFor kind = entryFor table kind .known
 
 -- ---- the answer to any type and payload
 

@@ -1,0 +1,2 @@
+pub mod Wide
+pub mod Digits

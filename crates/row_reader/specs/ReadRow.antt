@@ -1,0 +1,50 @@
+-- A payload's fields as a row of numbers of 64 bits in a lent buffer, over the type's layout; and one observation's. Assumes nothing.
+use Prim.Native.Nat.{ℕ}
+use mathlib.Core.List.{List, [], _∷_, _++_}
+use lib.Dec.{leb}
+use lib.ListN.{length}
+use Rattle.wire.specs.Refusals.{Answer, Tests, ordered, leaves}
+use Rattle.wire.specs.Field.{decode}
+use Rattle.wire.specs.Layout.{decodeBody}
+use Rattle.formats.specs.Wide.{wideRow, wideBody, numbersIn}
+use Rattle.frames.specs.Writer.{startingWith}
+use Rattle.observation.specs.Edition.{first, startOf}
+use Rattle.observation.specs.Obs.{oneOfFrame}
+use Rattle.payloads.specs.Payloads.{layoutFor, readingAny}
+
+-- 32 where so many numbers have no room
+abbrev pub rowRoom : ℕ → ℕ → Tests
+rowRoom n room = (leb n room, 32) ∷ []
+
+-- a row that begins with these numbers, the numbers after as they were
+abbrev pub beginning : List ℕ → List ℕ → List ℕ
+beginning ns row = startingWith ns (length ns) row
+
+-- ---- a payload of any type: 21, 22, 23, then 32
+
+abbrev pub readingRow : ℕ → List ℕ → ℕ → Tests
+readingRow kind s room = readingAny kind s ++ rowRoom (numbersIn (layoutFor kind)) room
+
+-- one number for each field in order; of observations and of text, how many
+abbrev pub numbersFor : ℕ → List ℕ → List ℕ
+numbersFor kind s = wideBody (layoutFor kind) (decodeBody (layoutFor kind) s)
+
+unfoldable pub readRow : ℕ → List ℕ → ℕ → Answer (List ℕ)
+readRow kind s room = ordered (readingRow kind s room) (numbersFor kind s)
+
+abbrev pub rowAfter : ℕ → List ℕ → List ℕ → List ℕ
+rowAfter kind s row = leaves beginning (readRow kind s (length row)) row
+
+-- ---- one observation: 21, 22, 25, then 32
+
+abbrev pub readingOne : ℕ → List ℕ → ℕ → ℕ → Tests
+readingOne kind s i room = oneOfFrame kind s i ++ rowRoom (length (first .row .fields)) room
+
+abbrev pub observationNumbers : List ℕ → ℕ → List ℕ
+observationNumbers s i = wideRow (first .row .fields) (decode (first .row .fields) s (startOf first i))
+
+unfoldable pub readOne : ℕ → List ℕ → ℕ → ℕ → Answer (List ℕ)
+readOne kind s i room = ordered (readingOne kind s i room) (observationNumbers s i)
+
+abbrev pub rowAfterOne : ℕ → List ℕ → ℕ → List ℕ → List ℕ
+rowAfterOne kind s i row = leaves beginning (readOne kind s i (length row)) row

@@ -1,0 +1,3 @@
+pub mod WriteRow
+pub mod WriteObsRow
+pub mod AsTyped

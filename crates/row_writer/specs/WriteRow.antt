@@ -1,0 +1,49 @@
+-- A frame written from a row of numbers of 64 bits, one for each field: every message without a tail, over its type's layout. Assumes nothing.
+use Prim.Native.Nat.{ℕ, _+_}
+use mathlib.Core.Bool.{Bool, true, false, _&&_}
+use mathlib.Core.List.{List, [], _∷_}
+use lib.Dec.{eqb}
+use lib.ListN.{length}
+use Rattle.wire.specs.Refusals.{Answer, Tests, ordered, leaves}
+use Rattle.wire.specs.Layout.{Layout, run, then, bytes, rows, Body, allowedBody, bodySize, encodeBody}
+use Rattle.formats.specs.Wide.{narrowRow, fitsRow, numbersIn}
+use Rattle.formats.specs.Digits.{headOf}
+use Rattle.frames.specs.Frame.{frameBytes}
+use Rattle.frames.specs.Writer.{writingFrame, startingWith}
+use Rattle.payloads.specs.Payloads.{layoutFor, knownFor}
+
+-- fields and nothing after them
+abbrev pub alone : Layout → Bool
+alone (run fs) = true
+alone (then fs l) = false
+alone (bytes most) = false
+alone (rows fs most) = false
+
+-- the value of these numbers, with nothing after the fields
+abbrev pub bodyOf : (l : Layout) → List ℕ → Body l
+bodyOf (run fs) ns = narrowRow fs ns 0
+bodyOf (then fs l) ns = (narrowRow fs ns 0, bodyOf l [])
+bodyOf (bytes most) ns = []
+bodyOf (rows fs most) ns = []
+
+-- 21 for a type that has no reading or has a tail, 22 for another number of fields, 23 for a number that its field cannot hold or that is outside
+-- its range, then 31 and 32 as every frame
+abbrev pub writingRow : ℕ → List ℕ → ℕ → Tests
+writingRow kind ns room =
+    let l = layoutFor kind in
+    (knownFor kind && alone l, 21) ∷
+    (eqb (length ns) (numbersIn l), 22) ∷
+    (fitsRow (headOf l) ns 0 && allowedBody l (bodyOf l ns), 23) ∷
+    writingFrame (bodySize l (bodyOf l ns)) room
+
+unfoldable pub writeRow : ℕ → List ℕ → ℕ → Answer ℕ
+writeRow kind ns room = ordered (writingRow kind ns room) (bodySize (layoutFor kind) (bodyOf (layoutFor kind) ns) + 8)
+
+-- the buffer after it: the frame and the bytes after it as they were, or all as it was
+unfoldable pub rowWritten : ℕ → ℕ → List ℕ → List ℕ → List ℕ
+rowWritten kind sender ns buf =
+    leaves (startingWith (frameBytes kind sender (encodeBody (layoutFor kind) (bodyOf (layoutFor kind) ns)))) (writeRow kind ns (length buf)) buf
+
+-- the number that the caller lends: how many bytes were written, or what stood there
+abbrev pub sizeLeft : Answer ℕ → ℕ → ℕ
+sizeLeft a before = leaves (λ n size. n) a before

@@ -1,0 +1,3 @@
+// Frames written from rows of numbers of 64 bits.
+// Read specs/WriteRow.antt first, then specs/WriteObsRow.antt; specs/AsTyped.antt says that this is what the typed writers write.
+ghost use mathlib.Core.Path.{_≡_};
