@@ -3,6 +3,7 @@ use mathlib.Core.Path.{_≡_, sym, ap, _∙_}
 use mathlib.Core.Bool.{true≢false}
 use mathlib.Core.List.{List, []}
 use Prim.Native.Nat.{ℕ}
+use Rattle.frames.specs.Frame.{Content}
 use Rattle.epochs.specs.Search.{names}
 use Rattle.epochs.specs.Collator.{made}
 use Rattle.epochs.specs.Epoch.{after, reports, reportsOf, Epochs, contentsOf}
@@ -14,16 +15,17 @@ use Rattle.demands.specs.Demand3.{Demand3}
 use Rattle.demands.proofs.Between.{sent}
 use Rattle.demands.proofs.Shuffled.{change-places, nobodys}
 
-reported : (roster : List ℕ) → made roster .number ≡ 0 → (s : List ℕ) (es : List Report) → Epochs roster [] (contentsOf s) es → es ≡ reports (made roster .collator) (contentsOf s)
+-- the epochs of demand 2 are what is reported
+pub reported : (roster : List ℕ) → made roster .number ≡ 0 → (xs : List Content) (es : List Report) → Epochs roster [] xs es → es ≡ reports (made roster .collator) xs
 unfolding after
-reported roster ok s es w = only-epochs w _ (came-to roster (seated roster ok) [] (contentsOf s))
+reported roster ok xs es w = only-epochs w _ (came-to roster (seated roster ok) [] xs)
 
 pub demand-3 : Demand3
 demand-3 = record {
   unmixed = λ roster ok a b es fs first second same.
       let all = same-captures roster (seated roster ok) a b same in
-      let of-a = reported roster ok a es first in
-      let of-b = reported roster ok b fs second in
+      let of-a = reported roster ok (contentsOf a) es first in
+      let of-b = reported roster ok (contentsOf b) fs second in
       record {
         first-reported = of-a;
         second-reported = of-b;

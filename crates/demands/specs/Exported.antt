@@ -1,8 +1,8 @@
 -- The demands of the functions that C and Rust link, which live on lent bytes: a refusal writes nothing and moves no state, the frames are those
 -- of the reading, an epoch is reported exactly where document 01 says, and senders don't mix. Assumes nothing.
 use mathlib.Core.Path.{_≡_}
-use mathlib.Core.Bool.{Bool}
-use mathlib.Core.List.{List}
+use mathlib.Core.Bool.{Bool, true}
+use mathlib.Core.List.{List, []}
 use mathlib.Core.Logic.{_↔_}
 use Prim.Native.Nat.{ℕ, _^_, _≤_, _<_}
 use lib.ListN.{length}
@@ -12,11 +12,12 @@ use Rattle.frames.specs.Frame.{Content}
 use Rattle.frames.specs.Reading.{steps, closedSteps, framesOf, countsOf}
 use Rattle.frames.specs.Cursors.{nextOf, Says}
 use Rattle.epochs.specs.Collator.{ownPlace, rosterOf, fresh}
-use Rattle.epochs.specs.Epoch.{SameFrames, EndsEpoch}
+use Rattle.epochs.specs.Search.{names}
+use Rattle.epochs.specs.Epoch.{reportsOf, SameFrames, EndsEpoch, Epochs}
 use Rattle.epochs.specs.declared.collating.Report.{Report}
-use Rattle.exports.specs.Claims.{Kept, Filled}
-use Rattle.exports.specs.Found.{startAt, finding, nextFrom}
-use Rattle.exports.specs.Totals.{totalling, totalsFor}
+use Rattle.exports.specs.Claims.{Kept, FoundShown, CountsShown, reportedIn, Filled}
+use Rattle.exports.specs.Found.{foundSize, startAt, foundIn, finding, nextFrom, nextStored}
+use Rattle.exports.specs.Totals.{totalsSize, totalling, totalsFor, totalsStored}
 use Rattle.exports.specs.State.{stateIn}
 use Rattle.exports.specs.Feed.{making, madeIn, madeStored, reportSize, feedingIn, forPlaceIn, fedIn, afterIn}
 
@@ -43,12 +44,22 @@ pub record Exported : Type 0 where
   -- demand 2: from a position on `sbp_next` shows the first frame left of the reading there, and where the others are left, or that there is none
   pub frames-left : (s : List ℕ) → length s < 2 ^ 64 → (at : ℕ) (opened : Bool) → at ≤ length s
       → Says opened s (framesOf (steps opened s at)) (nextOf s (startAt at opened))
+  -- and the lent bytes show it, number by number
+  pub frame-shown : (s : List ℕ) → Bytes s → length s < 2 ^ 64 → (at : ℕ) → at < 2 ^ 64 → (opened : Bool) (buf : List ℕ) → foundSize ≤ length buf
+      → FoundShown (nextStored s at opened buf) (foundIn (nextOf s (startAt at opened)))
+  -- `sbp_totals` shows the counts of the whole closed reading
+  pub totals-shown : (s : List ℕ) → length s < 2 ^ 64 → (buf : List ℕ) → totalsSize ≤ length buf → CountsShown (totalsStored s buf) (countsOf (closedSteps s))
   -- `sbp_feed` answers 1 exactly where the frame ends an epoch
   pub epochs-answered : (roster s report : List ℕ) (xs : List Content) → Filled roster s report xs → (x : Content) → Bytes (x .payload) → (lent : List ℕ) → reportSize ≤ length lent
       → (fedIn (afterIn (madeStored roster s) report xs) x lent .answer ≡ 1) ↔ ((e : Report) × EndsEpoch roster xs x e)
   -- and then the lent bytes show that epoch
   pub epochs-stored : (roster s report : List ℕ) (xs : List Content) → Filled roster s report xs → (x : Content) → Bytes (x .payload) → (lent : List ℕ) → reportSize ≤ length lent
       → (e : Report) → EndsEpoch roster xs x e → Shown (fedIn (afterIn (madeStored roster s) report xs) x lent .report) e
-  -- demand 3: the same frames of every listed sender leave bytes that stand for the same state
-  pub unmixed : (roster s t report other : List ℕ) (xs ys : List Content) → Filled roster s report xs → Filled roster t other ys → SameFrames roster xs ys
+  -- so the reports that a caller reads off the bytes are demand 2's epochs in order
+  pub epochs-read : (roster s report : List ℕ) (xs : List Content) → Filled roster s report xs → (es : List Report) → Epochs roster [] xs es → es ≡ reportedIn (madeStored roster s) report xs
+  -- demand 3: with the same frames of every listed sender, each of them gets the same reports in the same order, and the two end states are equal
+  pub same-reports : (roster s t report other : List ℕ) (xs ys : List Content) → Filled roster s report xs → Filled roster t other ys → SameFrames roster xs ys
+      → (sender : ℕ) → names roster sender ≡ true
+      → reportsOf sender (reportedIn (madeStored roster s) report xs) ≡ reportsOf sender (reportedIn (madeStored roster t) other ys)
+  pub same-state : (roster s t report other : List ℕ) (xs ys : List Content) → Filled roster s report xs → Filled roster t other ys → SameFrames roster xs ys
       → stateIn (afterIn (madeStored roster s) report xs) ≡ stateIn (afterIn (madeStored roster t) other ys)

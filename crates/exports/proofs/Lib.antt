@@ -5,4 +5,6 @@ pub mod States
 pub mod Feeds
 pub mod Makes
 pub mod Lives
+pub mod Shown
+pub mod Reported
 pub mod Untouched

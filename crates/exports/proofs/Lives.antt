@@ -38,10 +38,10 @@ length-ended sender p Not report room = refl
 length-ended sender p (Whole total) report room = ap length (sym (stored-front reportFields _ report room)) ∙ length-row reportFields _ report 0
 
 module _ (s : List ℕ) (x : Content) (report : List ℕ) (room : reportSize ≤ length report) where
-  abbrev Kept : FedIn → Type 0
+  abbrev pub Kept : FedIn → Type 0
   Kept out = (length (out .state) ≡ length s) × (length (out .report) ≡ length report)
 
-  lengths : Kept (fedIn s x report)
+  pub lengths : Kept (fedIn s x report)
   unfolding fedIn
   lengths = by (forPlaceIn s (length report) x)
     where
@@ -79,7 +79,7 @@ unfolding forPlace shape numbering
 refusal-from roster x {n} e =
     first-from 22 (feeding roster x) (omega arith, (omega arith, (omega arith, (omega arith, (omega arith, tt))))) (exactly-first (ownPlace roster x) (feeding roster x) n .0 e)
 
-one-happened : (c : Collator) (x : Content) → happenedNumber (fedFrame c x .happened) ≡ 1 → (e : Report) × (fedFrame c x .happened ≡ H.Epoch e)
+pub one-happened : (c : Collator) (x : Content) → happenedNumber (fedFrame c x .happened) ≡ 1 → (e : Report) × (fedFrame c x .happened ≡ H.Epoch e)
 unfolding fedFrame
 one-happened c x = by (forPlace (rosterOf c) x) refl
   where

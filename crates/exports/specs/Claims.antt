@@ -1,11 +1,15 @@
 -- What is claimed of the exported functions beyond each one's contract, and what the claims are made of. Assumes nothing.
 use Prim.Native.Nat.{ℕ, _≤_, _<_}
 use mathlib.Core.Path.{_≡_}
-use mathlib.Core.Bool.{Bool}
+use mathlib.Core.Bool.{Bool, cond}
 use mathlib.Core.List.{List, [], _∷_}
+use lib.Dec.{eqb}
 use lib.ListN.{length, getD}
-use Rattle.wire.specs.Number.{Bytes}
+use Rattle.wire.specs.Number.{Bytes, numberAt}
 use Rattle.frames.specs.Frame.{Content}
+use Rattle.frames.specs.declared.cursor.Counts.{Counts}
+use Rattle.epochs.specs.declared.collating.Report.{Report}
+use Rattle.exports.specs.declared.reading.FoundRow.{FoundRow}
 use Rattle.epochs.specs.Collator.{made}
 use Rattle.listing.specs.Listing.{withListing}
 use Rattle.exports.specs.Found.{nextAnswer, nextStored}
@@ -22,6 +26,40 @@ pub record Kept : Type 0 where
   pub collator : (roster s : List ℕ) → (madeAnswer roster (length s) ≡ 0 → ⊥) → madeStored roster s ≡ s
   -- 0 and 1 are the answers of a frame that was taken
   pub feed : (s : List ℕ) (x : Content) (report : List ℕ) → 2 ≤ fedIn s x report .answer → (fedIn s x report .state ≡ s) × (fedIn s x report .report ≡ report)
+
+-- ---- the rows, each number where link/include/sbp.h has it
+
+pub record FoundShown (row : List ℕ) (f : FoundRow) : Type 0 where
+  pub at : numberAt 8 row 0 ≡ f .at
+  pub next : numberAt 8 row 8 ≡ f .next
+  pub needed : numberAt 8 row 16 ≡ f .needed
+  pub junk : numberAt 8 row 24 ≡ f .junk
+  pub bad : numberAt 8 row 32 ≡ f .bad
+  pub short : numberAt 8 row 40 ≡ f .short
+  pub kind : numberAt 2 row 48 ≡ f .kind
+  pub sender : numberAt 2 row 50 ≡ f .sender
+  pub length : numberAt 1 row 52 ≡ f .length
+
+pub record CountsShown (row : List ℕ) (c : Counts) : Type 0 where
+  pub framed : numberAt 8 row 0 ≡ c .framed
+  pub junk : numberAt 8 row 8 ≡ c .junk
+  pub bad : numberAt 8 row 16 ≡ c .bad
+  pub short : numberAt 8 row 24 ≡ c .short
+
+-- the report that a row shows
+abbrev pub shownReport : List ℕ → Report
+shownReport row = record { sender = numberAt 2 row 0; wn = numberAt 2 row 2; tow = numberAt 4 row 4; n = numberAt 1 row 8; observations = numberAt 2 row 9 }
+
+-- what a caller gets of frames fed one after the other: the report that the row shows, wherever the answer is 1
+unfoldable pub reportedIn : List ℕ → List ℕ → List Content → List Report
+unfolding fedIn
+reportedIn state report [] = []
+reportedIn state report (x ∷ xs) =
+    let out = fedIn state x report in
+    let rest = reportedIn (out .state) (out .report) xs in
+    cond (eqb (out .answer) 1) (shownReport (out .report) ∷ rest) rest
+
+-- ---- what they are claimed of
 
 -- frames whose payloads are bytes
 abbrev pub AllBytes : List Content → Type 0
