@@ -1,3 +1,5 @@
 pub mod Formats
 pub mod Steps
 pub mod Rows
+pub mod Extended
+pub mod Cut

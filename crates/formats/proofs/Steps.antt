@@ -76,6 +76,9 @@ few (suc m) d = by (eqb d 0) refl (few m (d / 16))
     by true e rest = rw e (omega arith, omega arith)
     by false e rest = rw e (omega (arith, rest .0), omega (arith, rest .1, at-most-eight (d % 16)))
 
+pub counted-some : (digits rest i : ℕ) → digits < 2 ^ 64 → (rest ≡ 0 → ⊥) → Counted digits rest i → i < length (formatsBy digits)
+counted-some digits rest i h some passed = omega (arith, passed .1, ap length (first-format rest (below digits rest h (passed .0)) some))
+
 pub counted-few : (digits rest i : ℕ) → Counted digits rest i → i ≤ 16
 counted-few digits rest i passed = omega (arith, passed .1, few 16 digits .0)
 
