@@ -3,3 +3,4 @@ pub mod Steps
 pub mod Rows
 pub mod Extended
 pub mod Cut
+pub mod Unpacked
