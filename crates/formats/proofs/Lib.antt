@@ -1,1 +1,4 @@
+pub mod Formats
+pub mod Steps
+pub mod Rows
 pub mod Narrow
