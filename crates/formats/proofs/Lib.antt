@@ -1,4 +1,5 @@
 pub mod Formats
 pub mod Steps
 pub mod Rows
+pub mod Widened
 pub mod Narrow
