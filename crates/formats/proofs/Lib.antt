@@ -4,3 +4,5 @@ pub mod Rows
 pub mod Extended
 pub mod Cut
 pub mod Unpacked
+pub mod Widened
+pub mod Narrow
