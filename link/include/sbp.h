@@ -82,10 +82,10 @@ extern "C" {
 #define SBP_NOT_OBS 46             /* the frame fed is not OBS */
 
 /* What sbp_fix answers. */
-#define SBP_FIX_SINGLE 0
+#define SBP_FIX_SINGLE_POINT 0
 #define SBP_FIX_FLOAT 1
 #define SBP_FIX_FIXED 2
-#define SBP_FIX_UNNAMED 3
+#define SBP_FIX_RESERVED 3
 
 /* Bytes of the rows and of a collator's state. */
 #define SBP_FOUND 53
@@ -172,7 +172,7 @@ uint8_t sbp_observation(uint16_t kind, const uint8_t *payload, size_t n, size_t 
 
 /* ---- what flags mean. kind is the type of the message that the flags stand in, for the tables differ. */
 
-/* SBP_FIX_SINGLE, SBP_FIX_FLOAT or SBP_FIX_FIXED by the message's own table, and SBP_FIX_UNNAMED for a mode that its table leaves out;
+/* SBP_FIX_SINGLE_POINT, SBP_FIX_FLOAT or SBP_FIX_FIXED by the message's own table, and SBP_FIX_RESERVED for a mode that its table leaves out;
  * SBP_UNKNOWN_TYPE for another type than POS_ECEF, POS_LLH, BASELINE_ECEF, BASELINE_NED and BASELINE_HEADING. */
 uint8_t sbp_fix(uint16_t kind, uint8_t flags);
 
