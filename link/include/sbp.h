@@ -234,8 +234,8 @@ uint8_t sbp_collator(uint8_t *state, size_t room, const uint16_t *roster, size_t
  * The caller keeps: room bytes to write are at state. */
 uint8_t sbp_growing(uint8_t *state, size_t room);
 
-/* To be called before sbp_feed with the same frame: where it is of type OBS, its sender is listed if it is not yet and fewer than
- * SBP_ROSTER_MOST are. A ninth sender is not, and sbp_feed answers SBP_NOT_LISTED for it. SBP_OK; or SBP_NO_ROOM.
+/* To be called before sbp_feed with the same frame: where it is of type OBS, well-formed or not, its sender is listed if it is not yet and
+ * fewer than SBP_ROSTER_MOST are. A ninth sender is not, and sbp_feed answers SBP_NOT_LISTED for it. SBP_OK; or SBP_NO_ROOM.
  * The caller keeps: room bytes to read and write are at state. */
 uint8_t sbp_enlist(uint8_t *state, size_t room, uint16_t kind, uint16_t sender);
 
