@@ -2,7 +2,7 @@
 # The C header and its examples: compiled as C99 and C++17 without a warning, every inline function called (tests/inline.c), the examples run on
 # captures and on what goes wrong. A comparison that fails is a line 'differs: ..'; the last line is 'N passed, M failed'.
 # gcc and g++ are needed; clang and clang++ are asked too where they are. LIB names another library than link/library's.
-# usage: tests/header.sh [compile] [inline] [examples] (all three where none is named; after link/library and, for examples, rt check sbplist)
+# usage: tests/header.sh [compile] [inline] [epochs] [grows] [writes] [errors] (all where none is named; after link/library and rt check sbplist)
 set -eu
 cd "$(dirname "$0")/.."
 lib=${LIB:-target/lib/libyaqtumeer.a}
@@ -238,24 +238,21 @@ errors() {
     ends "writes to a full disk" 1 sh -c '"$1" >/dev/full' sh "$work/writes"
 }
 
-examples() {
+prepared() { # the examples and the captures are there
     [ -x target/bin/sbplist ] || missing "target/bin/sbplist (rt check sbplist makes it)"
     local program
     for program in epochs grows writes; do
-        held "not built: $program" gcc -std=c99 $flags -o "$work/$program" "link/examples/$program.c" "$lib"
-        [ -x "$work/$program" ] || return 0
+        [ -x "$work/$program" ] || held "not built: $program" gcc -std=c99 $flags -o "$work/$program" "link/examples/$program.c" "$lib"
+        [ -x "$work/$program" ] || return 1
     done
-    captures
-    epochs
-    grows
-    writes
-    errors
+    [ -f "$work/written" ] || captures
 }
 
-[ $# -gt 0 ] || set -- compile inline examples
+[ $# -gt 0 ] || set -- compile inline epochs grows writes errors
 for part; do
     case $part in
-    compile | inline | examples) "$part" ;;
+    compile | inline) "$part" ;;
+    epochs | grows | writes | errors) ! prepared || "$part" ;;
     *) missing "a part $part" ;;
     esac
 done
