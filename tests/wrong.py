@@ -29,7 +29,7 @@ def copied(folder):
     listed = subprocess.run(["git", "ls-files", "-z", "--cached", "--others", "--exclude-standard"], cwd=ROOT, stdout=subprocess.PIPE, check=True)
     for name in filter(None, listed.stdout.decode().split("\0")):
         source, copy = os.path.join(ROOT, name), os.path.join(folder, name)
-        if os.path.exists(source):
+        if os.path.isfile(source):
             os.makedirs(os.path.dirname(copy), exist_ok=True)
             shutil.copy2(source, copy)
     os.makedirs(os.path.join(folder, "target"))
