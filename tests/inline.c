@@ -1,5 +1,6 @@
-/* Calls every inline function of sbp.h and looks at every name in it. What is not as it should be is a line 'differs: ..'; the last line is
- * 'N passed, M failed'. No two bytes of a row are alike, so that a field from another place, of another width or without its sign shows.
+/* Calls every inline function of sbp.h, looks at every name in it and holds its sizes to the library. What is not as it should be is a line
+ * 'differs: ..'; the last line is 'N passed, M failed'. No two bytes of a row are alike, so that a field from another place, of another width or
+ * without its sign shows.
  * usage: inline (tests/header.sh builds and runs it) */
 #include <inttypes.h>
 #include <stdio.h>
@@ -473,6 +474,100 @@ static void refusal_names(void) {
     }
 }
 
+/* ---- the library's own sizes: lent memory of so many bytes or numbers has room, and of one less has none */
+
+static void rows_have_room(void) {
+    uint8_t bytes[SBP_STATE];
+    const uint16_t roster[] = {1228};
+    const uint8_t capture[] = {0};
+    SAME("sbp_next", sbp_next(capture, 1, 0, false, bytes, SBP_FOUND), SBP_END);
+    SAME("sbp_next with less", sbp_next(capture, 1, 0, false, bytes, SBP_FOUND - 1), SBP_NO_ROOM);
+    SAME("sbp_totals", sbp_totals(capture, 1, bytes, SBP_TOTALS), SBP_OK);
+    SAME("sbp_totals with less", sbp_totals(capture, 1, bytes, SBP_TOTALS - 1), SBP_NO_ROOM);
+    SAME("sbp_collator", sbp_collator(bytes, SBP_STATE, roster, 1), SBP_OK);
+    SAME("sbp_collator with less", sbp_collator(bytes, SBP_STATE - 1, roster, 1), SBP_NO_ROOM);
+    SAME("sbp_growing", sbp_growing(bytes, SBP_STATE), SBP_OK);
+    SAME("sbp_growing with less", sbp_growing(bytes, SBP_STATE - 1), SBP_NO_ROOM);
+}
+
+static void rosters_have_room(void) {
+    uint8_t state[SBP_STATE];
+    const uint16_t roster[SBP_ROSTER_MOST + 1] = {0, 1, 2, 3, 4, 5, 6, 7, 8};
+    SAME("sbp_collator for the most", sbp_collator(state, sizeof state, roster, SBP_ROSTER_MOST), SBP_OK);
+    SAME("sbp_collator for one more", sbp_collator(state, sizeof state, roster, SBP_ROSTER_MOST + 1), SBP_WRONG_ROSTER);
+}
+
+static void report_has_room(void) {
+    uint8_t state[SBP_STATE], row[SBP_REPORT];
+    const uint8_t packet[] = {0, 0, 0, 0, 0, 0, 0x10};
+    sbp_growing(state, sizeof state);
+    SAME("sbp_enlist", sbp_enlist(state, sizeof state, SBP_MSG_OBS, 1228), SBP_OK);
+    SAME("sbp_enlist with less", sbp_enlist(state, sizeof state - 1, SBP_MSG_OBS, 1228), SBP_NO_ROOM);
+    SAME("sbp_feed", sbp_feed(state, sizeof state, SBP_MSG_OBS, 1228, packet, sizeof packet, row, SBP_REPORT), SBP_EPOCH);
+    SAME("sbp_feed with less", sbp_feed(state, sizeof state, SBP_MSG_OBS, 1228, packet, sizeof packet, row, SBP_REPORT - 1), SBP_NO_ROOM);
+}
+
+/* A type, the length of a payload of it, and how many numbers that gives. */
+static const struct {
+    uint16_t kind;
+    size_t length, fields;
+} kinds[] = {
+    {SBP_MSG_BASE_POS_LLH, 24, SBP_BASE_POS_LLH_FIELDS},
+    {SBP_MSG_BASE_POS_ECEF, 24, SBP_BASE_POS_ECEF_FIELDS},
+    {SBP_MSG_OBS, 7, SBP_OBS_FIELDS},
+    {SBP_MSG_SETTINGS_SAVE, 0, SBP_SETTINGS_SAVE_FIELDS},
+    {SBP_MSG_SETTINGS_READ_BY_INDEX_REQ, 2, SBP_READ_BY_INDEX_REQ_FIELDS},
+    {SBP_MSG_SETTINGS_READ_BY_INDEX_DONE, 0, SBP_READ_BY_INDEX_DONE_FIELDS},
+    {SBP_MSG_GPS_TIME, 11, SBP_GPS_TIME_FIELDS},
+    {SBP_MSG_POS_ECEF, 32, SBP_POS_ECEF_FIELDS},
+    {SBP_MSG_POS_LLH, 34, SBP_POS_LLH_FIELDS},
+    {SBP_MSG_BASELINE_ECEF, 20, SBP_BASELINE_ECEF_FIELDS},
+    {SBP_MSG_BASELINE_NED, 22, SBP_BASELINE_NED_FIELDS},
+    {SBP_MSG_VEL_ECEF, 20, SBP_VEL_ECEF_FIELDS},
+    {SBP_MSG_VEL_NED, 22, SBP_VEL_NED_FIELDS},
+    {SBP_MSG_DOPS, 14, SBP_DOPS_FIELDS},
+    {SBP_MSG_BASELINE_HEADING, 10, SBP_BASELINE_HEADING_FIELDS},
+    {SBP_MSG_LOG, 1, SBP_LOG_FIELDS},
+    {SBP_MSG_STARTUP, 4, SBP_STARTUP_FIELDS},
+    {SBP_MSG_HEARTBEAT, 4, SBP_HEARTBEAT_FIELDS},
+};
+
+static void fields_have_room(void) {
+    const uint8_t payload[34] = {0};
+    for (size_t i = 0; i < sizeof kinds / sizeof *kinds; i++) {
+        uint64_t row[SBP_FIELDS_MOST];
+        SAME("sbp_read", sbp_read(kinds[i].kind, payload, kinds[i].length, row, kinds[i].fields), SBP_OK);
+        if (kinds[i].fields > 0) {
+            SAME("sbp_read with less", sbp_read(kinds[i].kind, payload, kinds[i].length, row, kinds[i].fields - 1), SBP_NO_ROOM);
+        }
+    }
+}
+
+static void observations_have_room(void) {
+    const uint8_t payload[7 + 16] = {0};
+    uint64_t row[SBP_OBSERVATION_FIELDS];
+    SAME("sbp_observation", sbp_observation(SBP_MSG_OBS, payload, sizeof payload, 0, row, SBP_OBSERVATION_FIELDS), SBP_OK);
+    SAME("sbp_observation with less", sbp_observation(SBP_MSG_OBS, payload, sizeof payload, 0, row, SBP_OBSERVATION_FIELDS - 1), SBP_NO_ROOM);
+}
+
+/* The longest of each, and one more. */
+static void frames_have_room(void) {
+    uint8_t out[SBP_FRAME_MOST];
+    const uint8_t bytes[SBP_PAYLOAD_MOST + 1] = {0};
+    const uint64_t head[SBP_OBS_HEAD] = {0}, rows[(SBP_OBSERVATIONS_MOST + 1) * SBP_OBSERVATION_FIELDS] = {0};
+    const size_t all = SBP_OBSERVATIONS_MOST * SBP_OBSERVATION_FIELDS;
+    uint64_t size = 0;
+    SAME("sbp_write_frame", sbp_write_frame(out, SBP_FRAME_MOST, 1, SBP_NO_SENDER, bytes, SBP_PAYLOAD_MOST, &size), SBP_OK);
+    SAME("its size", size, SBP_FRAME_MOST);
+    SAME("with less room", sbp_write_frame(out, SBP_FRAME_MOST - 1, 1, SBP_NO_SENDER, bytes, SBP_PAYLOAD_MOST, &size), SBP_NO_ROOM);
+    SAME("with more", sbp_write_frame(out, SBP_FRAME_MOST, 1, SBP_NO_SENDER, bytes, SBP_PAYLOAD_MOST + 1, &size), SBP_TOO_MUCH);
+    SAME("sbp_write_log", sbp_write_log(out, SBP_FRAME_MOST, SBP_NO_SENDER, 6, bytes, SBP_TEXT_MOST, &size), SBP_OK);
+    SAME("with more text", sbp_write_log(out, SBP_FRAME_MOST, SBP_NO_SENDER, 6, bytes, SBP_TEXT_MOST + 1, &size), SBP_TOO_MUCH);
+    SAME("sbp_write_obs", sbp_write_obs(out, SBP_FRAME_MOST, SBP_MSG_OBS, SBP_NO_SENDER, head, SBP_OBS_HEAD, rows, all, &size), SBP_OK);
+    SAME("with one observation more",
+         sbp_write_obs(out, SBP_FRAME_MOST, SBP_MSG_OBS, SBP_NO_SENDER, head, SBP_OBS_HEAD, rows, all + SBP_OBSERVATION_FIELDS, &size), SBP_TOO_MUCH);
+}
+
 int main(void) {
     messages_both_ways();
     found();
@@ -487,6 +582,12 @@ int main(void) {
     fields();
     version();
     refusal_names();
+    rows_have_room();
+    rosters_have_room();
+    report_has_room();
+    fields_have_room();
+    observations_have_room();
+    frames_have_room();
     printf("%u passed, %u failed\n", passed, failed);
     return failed != 0;
 }
