@@ -7,8 +7,8 @@
  * a pointer and its length agree (so many bytes or numbers are there, for the length of the call), that memory lent to be written overlaps no
  * other argument, and that a pointer to uint16_t, int32_t or uint64_t is aligned. A length of 0 may come with any pointer.
  *
- * What a function answers with is a uint8_t: 0 or another small number where it was done, or one of the refusals below. A refusal writes
- * nothing: no buffer, no row, no size, no state. Where several hold, the first in the order in which they are named at the function is given. */
+ * A function that can refuse answers with a uint8_t: 0 or another small number where it was done, or one of the refusals below. A refusal
+ * writes nothing: no buffer, no row, no size, no state. Where several hold, it is the first in the order in which the function names them. */
 #ifndef SBP_H
 #define SBP_H
 
@@ -183,7 +183,7 @@ uint8_t sbp_raim_repaired(uint16_t kind, uint8_t flags);
 /* Of POS_LLH: 1 where its height is above mean sea level, 0 where it is above the ellipsoid; SBP_UNKNOWN_TYPE for another type. */
 uint8_t sbp_above_sea(uint16_t kind, uint8_t flags);
 
-/* Of HEARTBEAT. */
+/* Of HEARTBEAT: whether there is an error in the system, in input or output, in the SwiftNAP; and whether an external antenna is there. */
 bool sbp_system_error(uint32_t flags);
 bool sbp_io_error(uint32_t flags);
 bool sbp_nap_error(uint32_t flags);
