@@ -1,0 +1,130 @@
+#!/usr/bin/env python3
+"""Tries wrong edits of what stands around the proved functions (header, wrapper, tool, examples): its test has to refuse each.
+
+An edit is a file tests/wrong/NAME.edit as in crates/*/must-fail (lines 'file: PATH' from the root, 'old: TEXT', which is there once, 'new:
+TEXT'), with a line 'test: COMMAND'. Without the edit the command passes. With it the command fails, and at a comparison: it prints a line that
+begins with 'differs: ', which nothing prints that is not compiled. All happens in one copy of the repository. The last line is 'N passed, M
+failed'.
+usage: wrong.py [NAME..] (after link/library and rt check sbplist)
+"""
+import os
+import shutil
+import signal
+import subprocess
+import sys
+import tempfile
+
+ROOT = os.path.dirname(os.path.dirname(os.path.abspath(__file__)))
+EDITS = os.path.join(ROOT, "tests", "wrong")
+BUILT = ("lib", "bin")
+SECONDS = 600
+
+
+class Wrong(Exception):
+    """An edit that cannot be tried."""
+
+
+def copied(folder):
+    """The repository's files as they are now, and what was built of it by a link."""
+    listed = subprocess.run(["git", "ls-files", "-z", "--cached", "--others", "--exclude-standard"], cwd=ROOT, stdout=subprocess.PIPE, check=True)
+    for name in filter(None, listed.stdout.decode().split("\0")):
+        source, copy = os.path.join(ROOT, name), os.path.join(folder, name)
+        if os.path.isfile(source):
+            os.makedirs(os.path.dirname(copy), exist_ok=True)
+            shutil.copy2(source, copy)
+    os.makedirs(os.path.join(folder, "target"))
+    for part in BUILT:
+        os.symlink(os.path.join(ROOT, "target", part), os.path.join(folder, "target", part))
+
+
+def read(name):
+    """An edit's test and its steps: (path, old, new)."""
+    path, old, test, steps = None, None, None, []
+    with open(os.path.join(EDITS, name + ".edit"), encoding="utf-8") as lines:
+        for line in lines.read().splitlines():
+            word, _, text = line.partition(": ")
+            if word == "file":
+                path = text
+            elif word == "old":
+                old = text
+            elif word == "new" and path and old:
+                steps.append((path, old, text))
+            elif word == "test":
+                test = text
+            else:
+                raise Wrong("no edit has the line '%s'" % line)
+    if not test or not steps:
+        raise Wrong("a test or an edit is missing")
+    return test, steps
+
+
+def run(folder, command):
+    """Its exit status, or None where it did not end, and its output."""
+    with subprocess.Popen(["bash", "-c", command], cwd=folder, stdin=subprocess.DEVNULL, stdout=subprocess.PIPE, stderr=subprocess.STDOUT,
+                          start_new_session=True) as program:
+        try:
+            said = program.communicate(timeout=SECONDS)[0]
+            return program.returncode, said.decode(errors="replace")
+        except subprocess.TimeoutExpired:
+            os.killpg(program.pid, signal.SIGKILL)
+            return None, program.communicate()[0].decode(errors="replace")
+
+
+def write(path, text):
+    with open(path, "w", encoding="utf-8") as file:
+        file.write(text)
+
+
+def edited(folder, steps):
+    """Makes the edit, and hands back what puts all as it was."""
+    before = {}
+    for path, old, new in steps:
+        there = os.path.join(folder, path)
+        with open(there, encoding="utf-8") as file:
+            text = file.read()
+        before.setdefault(there, text)
+        if text.count(old) != 1:
+            for touched, was in before.items():
+                write(touched, was)
+            raise Wrong("'%s' is %d times in %s" % (old, text.count(old), path))
+        write(there, text.replace(old, new))
+    return before
+
+
+def refused(folder, name, sound):
+    """Tries an edit; raises Wrong where its test does not refuse it. sound has what each test said without an edit."""
+    test, steps = read(name)
+    if test not in sound:
+        sound[test] = run(folder, test)
+    if sound[test][0] != 0:
+        raise Wrong("without it '%s' does not pass:\n%s" % (test, sound[test][1]))
+    before = edited(folder, steps)
+    status, said = run(folder, test)
+    for path, was in before.items():
+        write(path, was)
+    if status is None:
+        raise Wrong("'%s' does not end" % test)
+    if status == 0:
+        raise Wrong("'%s' passes" % test)
+    if not any(line.startswith("differs: ") for line in said.splitlines()):
+        raise Wrong("'%s' does not fail at a comparison:\n%s" % (test, said))
+
+
+def main():
+    names = sys.argv[1:] or sorted(name[:-5] for name in os.listdir(EDITS) if name.endswith(".edit"))
+    passed, failed, sound = 0, 0, {}
+    with tempfile.TemporaryDirectory() as folder:
+        copied(folder)
+        for name in names:
+            try:
+                refused(folder, name, sound)
+                passed += 1
+            except Wrong as why:
+                failed += 1
+                print("not refused: %s: %s" % (name, why))
+    print("%d passed, %d failed" % (passed, failed))
+    return 1 if failed or not passed else 0
+
+
+if __name__ == "__main__":
+    sys.exit(main())
