@@ -20,6 +20,7 @@ fn main() {
         );
         std::process::exit(1);
     }
+    let folder = folder.canonicalize().expect("a folder that holds a file");
     println!("cargo:rustc-link-search=native={}", folder.display());
     println!("cargo:rustc-link-lib=static=yaqtumeer");
 }

@@ -2,6 +2,8 @@
 //! what the caller keeps. A slice crosses as a pointer and a length: slices
 //! keep that these agree, and borrows that what is written overlaps nothing.
 
+const _: () = assert!(usize::BITS == 64, "the library is for 64-bit processors");
+
 unsafe extern "C" {
     pub fn sbp_crc(bytes: *const u8, n: usize) -> u16;
     pub fn sbp_answer(kind: u16, payload: *const u8, n: usize) -> u8;

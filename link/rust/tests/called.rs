@@ -20,6 +20,13 @@ fn text_of(folder: &Path) -> String {
     text
 }
 
+/// The name stands before a parenthesis, and is no end of a longer one.
+fn calls(text: &str, name: &str) -> bool {
+    let call = format!("{name}(");
+    let mut places = text.match_indices(&call).map(|(at, _)| &text[..at]);
+    places.any(|before| !before.ends_with(|c: char| c.is_alphanumeric() || c == '_'))
+}
+
 #[test]
 fn every_public_function() {
     let home = Path::new(env!("CARGO_MANIFEST_DIR"));
@@ -30,12 +37,6 @@ fn every_public_function() {
     let names = ours.filter_map(|rest| rest.split(['(', '<']).next());
     let names: Vec<&str> = names.filter(|name| !name.starts_with("sbp_")).collect();
     same!("functions found", names.len() > 40, true);
-    let uncalled = names
-        .into_iter()
-        .filter(|name| !tests.contains(&format!("{name}(")));
-    same!(
-        "called by no test",
-        uncalled.collect::<Vec<_>>(),
-        Vec::<&str>::new()
-    );
+    let uncalled: Vec<&str> = names.into_iter().filter(|n| !calls(&tests, n)).collect();
+    same!("called by no test", uncalled, [""; 0]);
 }
