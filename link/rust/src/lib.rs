@@ -23,6 +23,10 @@
 //! }
 //! println!("{} bytes were junk", frames.counts().junk);
 //! ```
+//!
+//! The library, libyaqtumeer.a, is linked from the folder that `YAQTUMEER_LIB`
+//! names at compile time; by default from target/lib of the repository, where
+//! `link/library` puts it.
 #![warn(missing_docs)]
 
 mod collator;
