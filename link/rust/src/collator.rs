@@ -2,14 +2,14 @@
 
 use crate::frames::Frame;
 use crate::raw;
-use crate::refusal::{Refusal, answered};
+use crate::refusal::{Refusal, answered, never_refused};
 use crate::rows::number;
 
 const STATE: usize = 105;
 const REPORT: usize = 11;
 
-/// A whole epoch of a sender: all of its packets came, in order, with nothing
-/// of that sender's between them.
+/// A whole epoch of a sender: all of its packets came, in order, with no other
+/// packet of that sender between them.
 ///
 /// ```
 /// use yaqtumeer::{Collator, Epoch, Obs};
@@ -98,7 +98,7 @@ impl Collator {
     /// ```
     pub fn growing() -> Collator {
         let mut state = [0; STATE];
-        unsafe { raw::sbp_growing(state.as_mut_ptr(), STATE) };
+        never_refused(unsafe { raw::sbp_growing(state.as_mut_ptr(), STATE) });
         Collator { state, grows: true }
     }
 
@@ -139,7 +139,8 @@ impl Collator {
         payload: &[u8],
     ) -> Result<Option<Epoch>, Refusal> {
         if self.grows {
-            unsafe { raw::sbp_enlist(self.state.as_mut_ptr(), STATE, kind, sender) };
+            let told = unsafe { raw::sbp_enlist(self.state.as_mut_ptr(), STATE, kind, sender) };
+            never_refused(told);
         }
         let mut row = [0; REPORT];
         let told = unsafe {

@@ -3,6 +3,7 @@
 use std::ops::{Add, AddAssign};
 
 use crate::raw;
+use crate::refusal::never_refused;
 use crate::rows::number;
 
 const TOTALS: usize = 32;
@@ -82,7 +83,9 @@ impl AddAssign for Counts {
 /// ```
 pub fn totals(capture: &[u8]) -> Counts {
     let mut row = [0; TOTALS];
-    unsafe { raw::sbp_totals(capture.as_ptr(), capture.len(), row.as_mut_ptr(), TOTALS) };
+    let told =
+        unsafe { raw::sbp_totals(capture.as_ptr(), capture.len(), row.as_mut_ptr(), TOTALS) };
+    never_refused(told);
     Counts {
         framed: number(&row, 0, 8),
         junk: number(&row, 8, 8),

@@ -5,10 +5,13 @@ use std::iter::FusedIterator;
 use crate::counts::Counts;
 use crate::messages::Message;
 use crate::raw;
-use crate::refusal::{Refusal, answered};
+use crate::refusal::{Refusal, answered, never_refused};
 use crate::rows::number;
 
 const FOUND: usize = 53;
+// what is told beside 0, a frame
+const END: u8 = 1;
+const NEEDS: u8 = 2;
 // what stands before a payload: 0x55, type, sender, length
 const HEAD: usize = 6;
 
@@ -241,13 +244,15 @@ impl<'a> Iterator for Frames<'a> {
         let place = |at| number(&row, at, 8) as usize;
         let short_number = |at| number(&row, at, 2) as u16;
         self.position = place(8);
-        self.needs = (told == 2).then(|| place(16));
+        self.needs = (told == NEEDS).then(|| place(16));
         // passed over on the way, whatever stands at its end
         self.counts.junk += number(&row, 24, 8);
         self.counts.bad += number(&row, 32, 8);
         self.counts.short += number(&row, 40, 8);
-        if told != 0 {
-            return None;
+        match told {
+            0 => {}
+            END | NEEDS => return None,
+            refused => never_refused(refused),
         }
         let frame = self.frame(place(0), short_number(48), short_number(50), row[52].into());
         self.counts.framed += frame.size() as u64;

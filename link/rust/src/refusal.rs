@@ -95,6 +95,12 @@ pub(crate) fn answered(number: u8) -> Result<(), Refusal> {
     }
 }
 
+/// Of a call that lends all the room that the library asks for, and has no
+/// other refusal.
+pub(crate) fn never_refused(number: u8) {
+    answered(number).expect("the library has the rows and the state that this crate knows");
+}
+
 impl fmt::Display for Refusal {
     fn fmt(&self, f: &mut fmt::Formatter<'_>) -> fmt::Result {
         f.write_str(self.sentence())
