@@ -2,11 +2,13 @@
 
 #[macro_use]
 mod macros;
+mod logging;
 mod navigation;
 mod observation;
 mod settings;
 mod system;
 
+pub use logging::*;
 pub use navigation::*;
 pub use observation::*;
 pub use settings::*;
