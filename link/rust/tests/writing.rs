@@ -1,0 +1,168 @@
+//! Frames of any type, the CRC, whole captures in one call, the version.
+
+#[macro_use]
+mod common;
+
+use common::{Noise, crc as bit_by_bit, frame, sample, writes};
+use yaqtumeer::*;
+
+#[test]
+fn frames_of_any_length() {
+    let mut noise = Noise(0x5eed_0004);
+    for n in 0..=255 {
+        let (kind, sender) = (noise.number() as u16, noise.number() as u16);
+        let payload = noise.bytes(n);
+        let whole = frame(kind, sender, &payload);
+        writes("a frame", &whole, |out| {
+            write_frame(out, kind, Some(sender), &payload)
+        });
+    }
+    same!("the longest", LONGEST_FRAME, frame(1, 2, &[3; 255]).len());
+}
+
+/// Every sender is one like the others; none given is 0x42.
+#[test]
+fn senders() {
+    let beat = Heartbeat { flags: 0xa4a3a2a1 };
+    let payload = beat.flags.to_le_bytes();
+    for sender in [0, 1, 0x42, 1228, 65535] {
+        let whole = frame(Heartbeat::KIND, sender, &payload);
+        writes("a sender", &whole, |out| beat.write(Some(sender), out));
+        writes("a sender", &whole, |out| {
+            write_frame(out, 0xffff, Some(sender), &payload)
+        });
+    }
+    let whole = frame(Heartbeat::KIND, 0x42, &payload);
+    writes("no sender", &whole, |out| beat.write(None, out));
+    writes("no sender", &whole, |out| {
+        write_frame(out, 0xffff, None, &payload)
+    });
+    let obs = frame(Obs::KIND, 0x42, &[0; 7]);
+    writes("no sender of OBS", &obs, |out| {
+        Obs::default().write(None, out)
+    });
+    let log = frame(Log::KIND, 0x42, &[0]);
+    writes("no sender of LOG", &log, |out| {
+        Log::default().write(None, out)
+    });
+}
+
+#[test]
+fn crcs() {
+    same!("of nothing", crc(b""), 0);
+    same!("the published check", crc(b"123456789"), 0x31c3);
+    let mut noise = Noise(0x5eed_0005);
+    for n in 0..300 {
+        let bytes = noise.bytes(n);
+        same!(format!("of {n} bytes"), crc(&bytes), bit_by_bit(&bytes));
+    }
+}
+
+#[test]
+fn totals_name_by_name() {
+    let damaged = {
+        let mut whole = frame(1, 2, &[0; 9]);
+        whole[8] ^= 1;
+        whole
+    };
+    let capture = [
+        b"abc".to_vec(),
+        frame(1, 2, &[0; 5]),
+        damaged,
+        vec![0x55; 2],
+    ]
+    .concat();
+    // of the damaged frame 0x55 is bad, the other 16 bytes are junk
+    let expected = Counts {
+        framed: 13,
+        junk: 3 + 16,
+        bad: 1,
+        short: 2,
+    };
+    same!("totals", totals(&capture), expected);
+}
+
+#[test]
+fn listings() {
+    let example = [
+        &[0x00][..],
+        &[
+            0x55, 0x02, 0x02, 0xcc, 0x04, 0x14, 0x70, 0x3d, 0xd0, 0x18, 0xcf, 0xef, 0xff, 0xff,
+            0xef, 0xe8, 0xff, 0xff, 0xf0, 0x18, 0x00, 0x00, 0x00, 0x00, 0x05, 0x00, 0x43, 0x94,
+        ],
+        &[
+            0x55, 0x49, 0x00, 0x00, 0x00, 0x07, 0xe8, 0x03, 0x00, 0x00, 0x6c, 0x07, 0x10, 0x87,
+            0x22,
+        ],
+        &[0x55],
+    ]
+    .concat();
+    let text = "F 1 514 1228 20 0\nF 29 73 0 7 0\nE 0 1900 1000 1 0\nT 45 43 1 0 1\n";
+    same!("the example", list(&example), Ok(text.to_string()));
+    same!("nothing", list(b""), Ok("T 0 0 0 0 0\n".to_string()));
+    same!(
+        "65536 bytes",
+        list(&[0; 65536]),
+        Ok("T 65536 0 65536 0 0\n".to_string())
+    );
+    same!("a byte more", list(&[0; 65537]), Err(Refusal::TooLong));
+}
+
+/// The listing is what frames, answers, epochs and counts come to.
+#[test]
+fn the_sample_s_listing() {
+    let capture = sample();
+    let mut frames = Frames::closed(&capture);
+    let mut collator = Collator::growing();
+    let mut text = String::new();
+    for f in &mut frames {
+        let answer = f.answer().map_or_else(Refusal::number, |()| 0);
+        text += &format!(
+            "F {} {} {} {} {answer}\n",
+            f.at,
+            f.kind,
+            f.sender,
+            f.payload.len()
+        );
+        if let Ok(Some(e)) = collator.feed(&f) {
+            text += &format!(
+                "E {} {} {} {} {}\n",
+                e.sender, e.wn, e.tow, e.n, e.observations
+            );
+        }
+    }
+    let c = frames.counts();
+    text += &format!(
+        "T {} {} {} {} {}\n",
+        capture.len(),
+        c.framed,
+        c.junk,
+        c.bad,
+        c.short
+    );
+    same!("the sample's listing", list(&capture), Ok(text));
+}
+
+#[test]
+fn versions() {
+    same!(
+        "linked",
+        version(),
+        Version {
+            major: 0,
+            minor: 8,
+            patch: 0
+        }
+    );
+    same!(
+        "the crate's",
+        version().to_string(),
+        env!("CARGO_PKG_VERSION")
+    );
+    let other = Version {
+        major: 1,
+        minor: 23,
+        patch: 45,
+    };
+    same!("printed", other.to_string(), "1.23.45");
+}
