@@ -1,10 +1,14 @@
 pub mod Parts
 pub mod Tables
 pub mod LentRows
+pub mod Tabled
 pub mod States
 pub mod Feeds
 pub mod Makes
 pub mod Lives
 pub mod Shown
 pub mod Reported
+pub mod Enlists
+pub mod Tells
+pub mod Grows
 pub mod Untouched

@@ -77,7 +77,7 @@ module _ (roster s : List ℕ) where
 
 -- ---- tied to the collator
 
-fresh-held : (roster : List ℕ) → length roster ≤ 8 → ((i : ℕ) → getD roster i 0 < 65536) → Held (fresh roster)
+pub fresh-held : (roster : List ℕ) → length roster ≤ 8 → ((i : ℕ) → getD roster i 0 < 65536) → Held (fresh roster)
 fresh-held roster few senders =
     let all = roster ++ replicate 8 0 in
     let enough : 8 ≤ length all = omega (arith, length-append roster (replicate 8 0)) in

@@ -2,6 +2,11 @@ pub mod Lent
 pub mod Found
 pub mod Totals
 pub mod Text
+pub mod Flagged
+pub mod Phased
 pub mod State
 pub mod Feed
+pub mod Enlist
+pub mod Told
+pub mod Growing
 pub mod Claims

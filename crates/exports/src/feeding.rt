@@ -25,7 +25,7 @@ fn seat_in(s: &[u8], i: usize) -> u16
     wire::read_u16(s, SEATS_AT + i * SEAT_SIZE)
 }
 
-fn seats_in(s: &[u8]) -> [u16; 8]
+pub(crate) fn seats_in(s: &[u8]) -> [u16; 8]
     ensures { λ r. ⌜ r ≡ seatsIn (now (s .entry)) ⌝ }
 {
     [

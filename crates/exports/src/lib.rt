@@ -1,21 +1,40 @@
 // What C and Rust link: `extern "C"` functions over numbers, lent slices and, for a length, one lent number. None has a `requires`.
 // A refusal is document 01's number and writes nothing. A collator lives in lent bytes.
 // Read specs/Lent.antt (what a call hands back and leaves), specs/Found.antt (the row of a frame), specs/Totals.antt, specs/Text.antt,
-// specs/State.antt (what a collator's bytes stand for), specs/Feed.antt and specs/Claims.antt; proofs/Feeds.antt, Makes.antt and Lives.antt tie
-// the bytes to the collator of `epochs`.
+// specs/Flagged.antt and specs/Phased.antt (flags, carrier phase), specs/State.antt (what a collator's bytes stand for), specs/Feed.antt,
+// specs/Enlist.antt, specs/Growing.antt (a roster that grows) and specs/Claims.antt; proofs/Feeds.antt, Makes.antt, Lives.antt and Grows.antt
+// tie the bytes to the collators of `epochs` and `enlisting`.
 mod answering;
+mod beating;
 mod counting;
 mod feeding;
+mod flagging;
+mod growing;
 mod making;
+mod phasing;
 mod placing;
 mod reading;
 mod sizes;
 mod texting;
+mod versioning;
 
 pub use answering::sbp_answer;
 pub use answering::sbp_crc;
+pub use beating::sbp_external_antenna;
+pub use beating::sbp_io_error;
+pub use beating::sbp_nap_error;
+pub use beating::sbp_system_error;
 pub use counting::sbp_totals;
 pub use feeding::sbp_feed;
+pub use flagging::sbp_above_sea;
+pub use flagging::sbp_fix;
+pub use flagging::sbp_raim_available;
+pub use flagging::sbp_raim_repaired;
+pub use growing::sbp_enlist;
+pub use growing::sbp_growing;
 pub use making::sbp_collator;
+pub use phasing::sbp_carrier_phase;
+pub use phasing::sbp_phase_parts;
 pub use reading::sbp_next;
 pub use texting::sbp_list;
+pub use versioning::sbp_version;

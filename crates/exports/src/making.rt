@@ -33,7 +33,7 @@ fn put_places(s: &mut [u8], places: [Place; 8])
 }
 
 // A whole collator.
-fn put_collator(s: &mut [u8], c: Collator)
+pub(crate) fn put_collator(s: &mut [u8], c: Collator)
     requires { ⌜ c .count ≤ 8 ⌝ }
     ensures { λ _. ⌜ now (s .exit) ≡ collatorStored c (now (s .entry)) ⌝ }
 {

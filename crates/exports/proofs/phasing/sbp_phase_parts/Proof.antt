@@ -1,0 +1,43 @@
+-- `exports::phasing::sbp_phase_parts` meets its contract: it hands on the pair, or leaves both numbers.
+use mathlib.Core.Path.{refl, sym, ap, _∙_}
+use mir.Syntax.{w32, w64}
+use Rattle.wire.specs.Refusals.{Answer, leaves}
+use Rattle.wire.proofs.Signed.{came-back}
+use Rattle.observation.specs.Phase.{readPhase, partsAnswer}
+use Rattle.observation.specs.declared.phase.Phase.{Phase}
+use Rattle.exports.specs.Lent.{asNumber}
+use borrow.Author.Needs.{needs}
+use Rattle.exports.proofs.phasing.sbp_phase_parts.Statement.{statement}
+use Rattle.exports.proofs.phasing.sbp_phase_parts.Tie as tie
+
+phase-parts-requires : tie.Need-phase-parts-requires
+phase-parts-requires c κs = search needs
+
+enum-known-parts : tie.Need-enum-known-parts
+enum-known-parts c = search needs
+
+enum-known-parts-2 : tie.Need-enum-known-parts-2
+enum-known-parts-2 c = search needs
+
+returns : tie.Need-returns
+returns c =
+    let a = c .before .before .before .before .before .args in
+    let e = sym (ap partsAnswer (c .before .before .parts .given .1)) ∙ c .before .before .before .before .phase-parts .ensures ∙ ap readPhase (came-back w64 (c .before .before .before .before .before .fits .phase .sfits) refl) in (
+      ap (asNumber (λ p. 0)) e,
+      (
+        came-back w32 (c .struct-told .given .0 .1) (ap (λ (x : Answer Phase). leaves (λ p was. p .«l_i») x (a .l-i .now)) e),
+        ap (λ (x : Answer Phase). leaves (λ p was. p .«l_f») x (a .l-f .now)) e,
+      ),
+    )
+
+returns-2 : tie.Need-returns-2
+returns-2 c =
+    let a = c .before .before .before .before .args in
+    let e = sym (ap partsAnswer (c .before .parts2 .given .1)) ∙ c .before .before .before .phase-parts .ensures ∙ ap readPhase (came-back w64 (c .before .before .before .before .fits .phase .sfits) refl) in (
+      ap (asNumber (λ p. 0)) e,
+      (ap (λ (x : Answer Phase). leaves (λ p was. p .«l_i») x (a .l-i .now)) e, ap (λ (x : Answer Phase). leaves (λ p was. p .«l_f») x (a .l-f .now)) e),
+    )
+
+pub sbp-phase-parts-spec : {M : Type 1} → statement M
+sbp-phase-parts-spec =
+    tie.close (tie.spec phase-parts-requires enum-known-parts enum-known-parts-2 returns returns-2)

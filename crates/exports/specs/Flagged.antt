@@ -1,0 +1,95 @@
+-- What the functions that read one flag of a message answer: 21 for a type that has no such flag, then the flag by that message's own table.
+-- Assumes nothing.
+use Prim.Native.Nat.{ℕ}
+use mathlib.Core.Bool.{Bool, true, false, cond, _||_}
+use mathlib.Core.List.{[], _∷_}
+use lib.Dec.{eqb}
+use Rattle.wire.specs.Refusals.{Answer, Tests, ordered}
+use Rattle.navigation.specs.Flags.{ecefFix, llhFix, baselineFix, raimAvailable, raimRepaired, llhAboveSea, llhRaimAvailable, llhRaimRepaired}
+use Rattle.navigation.specs.Ecef.{baselineEcef}
+use Rattle.navigation.specs.Heading.{baselineHeading}
+use Rattle.navigation.specs.Ned.{baselineNed}
+use Rattle.navigation.specs.PosEcef.{posEcef}
+use Rattle.navigation.specs.PosLlh.{posLlh}
+use Rattle.navigation.specs.declared.flags.Fix.{Fix}
+use Rattle.navigation.specs.declared.flags.Fix.the-variants.{SinglePoint, Float, Fixed, Reserved}
+use Rattle.exports.specs.Lent.{asNumber}
+use Rattle.exports.specs.declared.flagging.Table.{Table}
+use Rattle.exports.specs.declared.flagging.Table.the-variants.{Ecef, Llh, Baseline, Nothing}
+
+-- ---- whose flags a type has
+
+abbrev pub isBaseline : ℕ → Bool
+isBaseline kind = eqb kind (baselineEcef .kind) || (eqb kind (baselineNed .kind) || eqb kind (baselineHeading .kind))
+
+unfoldable pub tableFor : ℕ → Table
+tableFor kind = cond (eqb kind (posEcef .kind)) Ecef (cond (eqb kind (posLlh .kind)) Llh (cond (isBaseline kind) Baseline Nothing))
+
+abbrev pub isTable : Table → Bool
+isTable Ecef = true
+isTable Llh = true
+isTable Baseline = true
+isTable Nothing = false
+
+-- ---- the flags of a table; of no table they are never given
+
+abbrev pub fixBy : Table → ℕ → Fix
+fixBy Ecef = ecefFix
+fixBy Llh = llhFix
+fixBy Baseline = baselineFix
+fixBy Nothing = λ flags. Reserved
+
+abbrev pub availableBy : Table → ℕ → Bool
+availableBy Ecef = raimAvailable
+availableBy Llh = llhRaimAvailable
+availableBy Baseline = raimAvailable
+availableBy Nothing = λ flags. false
+
+abbrev pub repairedBy : Table → ℕ → Bool
+repairedBy Ecef = raimRepaired
+repairedBy Llh = llhRaimRepaired
+repairedBy Baseline = raimRepaired
+repairedBy Nothing = λ flags. false
+
+-- ---- as numbers
+
+-- 3 is a mode that the table leaves out
+abbrev pub fixNumber : Fix → ℕ
+fixNumber SinglePoint = 0
+fixNumber Float = 1
+fixNumber Fixed = 2
+fixNumber Reserved = 3
+
+abbrev pub bitNumber : Bool → ℕ
+bitNumber false = 0
+bitNumber true = 1
+
+-- ---- the answers
+
+-- 21
+abbrev pub flagging : Bool → Tests
+flagging has = (has, 21) ∷ []
+
+-- of a table, so that each is said once: whether it has the flag, and the flag
+abbrev pub fixIn : Table → ℕ → Answer Fix
+fixIn t flags = ordered (flagging (isTable t)) (fixBy t flags)
+
+abbrev pub availableIn : Table → ℕ → Answer Bool
+availableIn t flags = ordered (flagging (isTable t)) (availableBy t flags)
+
+abbrev pub repairedIn : Table → ℕ → Answer Bool
+repairedIn t flags = ordered (flagging (isTable t)) (repairedBy t flags)
+
+-- of a type
+abbrev pub fixAnswer : ℕ → ℕ → ℕ
+fixAnswer kind flags = asNumber fixNumber (fixIn (tableFor kind) flags)
+
+abbrev pub availableAnswer : ℕ → ℕ → ℕ
+availableAnswer kind flags = asNumber bitNumber (availableIn (tableFor kind) flags)
+
+abbrev pub repairedAnswer : ℕ → ℕ → ℕ
+repairedAnswer kind flags = asNumber bitNumber (repairedIn (tableFor kind) flags)
+
+-- only a POS_LLH says what its height is above
+abbrev pub aboveSeaAnswer : ℕ → ℕ → ℕ
+aboveSeaAnswer kind flags = asNumber bitNumber (ordered (flagging (eqb kind (posLlh .kind))) (llhAboveSea flags))

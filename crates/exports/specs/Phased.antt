@@ -1,0 +1,17 @@
+-- What `sbp_phase_parts` hands back, and what it leaves in the two numbers that it is lent: 33, or the one pair. Assumes nothing.
+use Prim.Native.Nat.{ℕ}
+use lib.IntN.{ℤ}
+use Rattle.wire.specs.Refusals.{leaves}
+use Rattle.observation.specs.Phase.{readPhase}
+use Rattle.exports.specs.Lent.{zeroOr}
+
+abbrev pub partsNumber : ℤ → ℕ
+partsNumber phase = zeroOr (readPhase phase)
+
+-- the whole cycles, or what stood there
+abbrev pub cyclesAfter : ℤ → ℤ → ℤ
+cyclesAfter phase before = leaves (λ p was. p .«l_i») (readPhase phase) before
+
+-- the 256ths, or what stood there
+abbrev pub partsAfter : ℤ → ℕ → ℕ
+partsAfter phase before = leaves (λ p was. p .«l_f») (readPhase phase) before

@@ -1,0 +1,97 @@
+// One flag of a message, as a number: the fix mode and the RAIM flags of positions, baselines and the heading, and what a POS_LLH's height is above.
+ghost use mathlib.Core.Path.{_≡_};
+ghost use Rattle.exports.specs.Flagged.{tableFor, fixNumber, bitNumber, fixAnswer, availableAnswer, repairedAnswer, aboveSeaAnswer};
+use navigation::Fix;
+
+// Whose flags a message has. Those of the two positions differ; both baselines and the heading have one table.
+pub enum Table {
+    Ecef,
+    Llh,
+    Baseline,
+    Nothing,
+}
+
+fn table_of(kind: u16) -> Table
+    ensures { λ r. ⌜ r ≡ tableFor kind ⌝ }
+{
+    match kind {
+        0x0200 => Table::Ecef,
+        0x0201 => Table::Llh,
+        0x0202 => Table::Baseline,
+        0x0203 => Table::Baseline,
+        0x0207 => Table::Baseline,
+        _ => Table::Nothing,
+    }
+}
+
+fn fix_number(fix: Fix) -> u8
+    ensures { λ r. ⌜ r ≡ fixNumber fix ⌝ }
+{
+    match fix {
+        Fix::SinglePoint => 0,
+        Fix::Float => 1,
+        Fix::Fixed => 2,
+        Fix::Reserved => 3,
+    }
+}
+
+fn bit_number(bit: bool) -> u8
+    ensures { λ r. ⌜ r ≡ bitNumber bit ⌝ }
+{
+    if bit {
+        return 1;
+    }
+    0
+}
+
+// 0 single point, 1 float, 2 fixed, 3 a mode that the table leaves out; 21 for a type that has none.
+#[no_mangle]
+pub extern "C" fn sbp_fix(kind: u16, flags: u8) -> u8
+    ensures { λ r. ⌜ r ≡ fixAnswer kind flags ⌝ }
+{
+    let table = table_of(kind);
+    match table {
+        Table::Ecef => fix_number(navigation::pos_ecef_fix(flags)),
+        Table::Llh => fix_number(navigation::pos_llh_fix(flags)),
+        Table::Baseline => fix_number(navigation::baseline_fix(flags)),
+        Table::Nothing => 21,
+    }
+}
+
+// 0 or 1; 21 for a type that has no such flag.
+#[no_mangle]
+pub extern "C" fn sbp_raim_available(kind: u16, flags: u8) -> u8
+    ensures { λ r. ⌜ r ≡ availableAnswer kind flags ⌝ }
+{
+    let table = table_of(kind);
+    match table {
+        Table::Ecef => bit_number(navigation::raim_available(flags)),
+        Table::Llh => bit_number(navigation::pos_llh_raim_available(flags)),
+        Table::Baseline => bit_number(navigation::raim_available(flags)),
+        Table::Nothing => 21,
+    }
+}
+
+#[no_mangle]
+pub extern "C" fn sbp_raim_repaired(kind: u16, flags: u8) -> u8
+    ensures { λ r. ⌜ r ≡ repairedAnswer kind flags ⌝ }
+{
+    let table = table_of(kind);
+    match table {
+        Table::Ecef => bit_number(navigation::raim_repaired(flags)),
+        Table::Llh => bit_number(navigation::pos_llh_raim_repaired(flags)),
+        Table::Baseline => bit_number(navigation::raim_repaired(flags)),
+        Table::Nothing => 21,
+    }
+}
+
+// POS_LLH: 1 where the height is above mean sea level, 0 where it is above the ellipsoid; 21 for any other type.
+#[no_mangle]
+pub extern "C" fn sbp_above_sea(kind: u16, flags: u8) -> u8
+    ensures { λ r. ⌜ r ≡ aboveSeaAnswer kind flags ⌝ }
+{
+    if kind == 0x0201 {
+        return bit_number(navigation::pos_llh_above_sea(flags));
+    }
+    21
+}
