@@ -1,1 +1,6 @@
+pub mod Formats
+pub mod Steps
+pub mod Rows
+pub mod Extended
+pub mod Cut
 pub mod Widened

@@ -10,7 +10,7 @@ use borrow.Author.Tests.{eq-eqb, ne-eqb}
 use Rattle.wire.specs.Number.{bytesStored}
 use Rattle.wire.proofs.Layouts.{bytes-sets}
 use Rattle.formats.specs.Digits.{formatsBy, sizeOf, numbersAt}
-use Rattle.formats.proofs.Widened.{length-numbers}
+use Rattle.formats.proofs.Rows.{length-numbers}
 use Rattle.row_reader.specs.ReadRow.{beginning}
 use Rattle.row_reader.specs.ByDigits.{runThen, tailIn}
 
@@ -36,9 +36,10 @@ back-after ns ms row n e {l} {t} p q =
     let after : drop n l ≡ drop n row = ap (drop n) p ∙ drop-at ns (drop (length ns) row) n e ∙ ap (λ (k : ℕ). drop k row) e in
     let past : length (drop n l) ≤ length l - n = rw length-drop (omega arith) in
     let none : drop (length l - n) (drop n l) ≡ [] = drop-of-length-le (drop n l) past in
+    let far : n + length ms ≡ length (ns ++ ms) = omega (arith, length-append ns ms) in
     let more : t ≡ ms ++ drop (length (ns ++ ms)) row
     = q ∙ ap (λ (u : List ℕ). ms ++ drop (length ms) u) (lent-all n l ∙ after)
-    ∙ ap (λ (u : List ℕ). ms ++ u) (drop-drop (length ms) n row ∙ ap (λ (k : ℕ). drop k row) (omega (arith, length-append ns ms))) in
+    ∙ ap (λ (u : List ℕ). ms ++ u) (drop-drop (length ms) n row ∙ ap (λ (k : ℕ). drop k row) far) in
     ap₂ (λ (u v : List ℕ). u ++ (t ++ v)) (ap (take n) p ∙ take-at ns (drop (length ns) row) n e) none
     ∙ ap (λ (u : List ℕ). ns ++ u) (append-nil t ∙ more)
     ∙ sym (append-assoc ns ms (drop (length (ns ++ ms)) row))

@@ -1,7 +1,7 @@
 -- `row_reader::fill::fill` meets its contract: the run in front, and the rest in what is lent after it.
 use native.Mathlib.Omega.{arith}
 use borrow.Author.Needs.{needs}
-use Rattle.formats.proofs.Steps.{few-formats}
+use Rattle.formats.proofs.Steps.{few}
 use Rattle.row_reader.specs.ByDigits.{restIn}
 use Rattle.row_reader.proofs.Filling.{has-start, lent-room, run-then, lent-all}
 use Rattle.row_reader.proofs.fill.fill.Statement.{statement}
@@ -17,7 +17,7 @@ read-run-requires : tie.Need-read-run-requires
 read-run-requires c κs = search needs
 
 mul-fill-rest : tie.Need-mul-fill-rest
-mul-fill-rest c = let w = c .before .before .before .before .before in omega (arith, few-formats (w .before .before .before .args .shape .head), w .count .ensures)
+mul-fill-rest c = let w = c .before .before .before .before .before in omega (arith, few 16 (w .before .before .before .args .shape .head) .0, w .count .ensures)
 
 sub-fill-rest : tie.Need-sub-fill-rest
 sub-fill-rest c =

@@ -1,7 +1,7 @@
 -- `row_reader::fill::fill_rest` meets its contract: the run in front, and the rest in what is lent after it.
 use native.Mathlib.Omega.{arith}
 use borrow.Author.Needs.{needs}
-use Rattle.formats.proofs.Steps.{few-formats}
+use Rattle.formats.proofs.Steps.{few}
 use Rattle.row_reader.specs.ByDigits.{tailIn}
 use Rattle.row_reader.proofs.Filling.{has-start, lent-room, run-then}
 use Rattle.row_reader.proofs.fill.fill_rest.Statement.{statement}
@@ -17,7 +17,7 @@ read-run-requires : tie.Need-read-run-requires
 read-run-requires c κs = search needs
 
 mul-fill-tail : tie.Need-mul-fill-tail
-mul-fill-tail c = let w = c .before .before .before .before .before in omega (arith, few-formats (w .before .before .before .args .more), w .count .ensures)
+mul-fill-tail c = let w = c .before .before .before .before .before in omega (arith, few 16 (w .before .before .before .args .more) .0, w .count .ensures)
 
 sub-fill-tail : tie.Need-sub-fill-tail
 sub-fill-tail c =
