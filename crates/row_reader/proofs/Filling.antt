@@ -24,6 +24,9 @@ backFrom n l t = take n l ++ (t ++ drop (length l - n) (drop n l))
 pub lent-all : (n : ℕ) (l : List ℕ) → lentFrom n l ≡ drop n l
 lent-all n l = take-all (length l - n) (drop n l) (rw length-drop (omega arith))
 
+pub lent-length : (n : ℕ) (l : List ℕ) → length (lentFrom n l) ≡ length l - n
+lent-length n l = ap length (lent-all n l) ∙ length-drop n l
+
 -- numbers that have room, stored in a row's front
 pub stored-front : (ns row : List ℕ) → length ns ≤ length row → bytesStored ns row 0 ≡ beginning ns row
 stored-front ns row h =
@@ -70,7 +73,7 @@ module _ (digits : ℕ) (rest : List ℕ → List ℕ) (s row : List ℕ) (room 
   has-start = omega (arith, enough, long)
 
   pub lent-room : length (rest (lentFrom at s)) ≤ length (lentFrom n l)
-  lent-room = rw (lent-rest, lent-all n l, length-drop) (omega (arith, enough, long))
+  lent-room = rw (lent-rest, lent-length n l) (omega (arith, enough, long))
 
   pub run-then : {t : List ℕ} → t ≡ beginning (rest (lentFrom at s)) (lentFrom n l) → backFrom n l t ≡ beginning (runThen digits rest s) row
   run-then e = back-after ns left row n many front (e ∙ ap (λ (ms : List ℕ). beginning ms (lentFrom n l)) lent-rest)

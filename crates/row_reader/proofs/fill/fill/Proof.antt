@@ -1,9 +1,12 @@
 -- `row_reader::fill::fill` meets its contract: the run in front, and the rest in what is lent after it.
+use Prim.Native.Nat.{_≤_}
 use native.Mathlib.Omega.{arith}
+use lib.ListN.{length}
 use borrow.Author.Needs.{needs}
+use Rattle.formats.specs.Digits.{formatsBy, sizeOf}
 use Rattle.formats.proofs.Steps.{few}
 use Rattle.row_reader.specs.ByDigits.{restIn}
-use Rattle.row_reader.proofs.Filling.{has-start, lent-room, run-then, lent-all}
+use Rattle.row_reader.proofs.Filling.{has-start, lent-room, run-then, lentFrom, lent-length}
 use Rattle.row_reader.proofs.fill.fill.Statement.{statement}
 use Rattle.row_reader.proofs.fill.fill.Tie as tie
 
@@ -46,7 +49,9 @@ fill-rest-requires c κs =
     let r = c .before .before .before .before in
     let w = r .before .before .before in
     let a = w .before .before .before in
-    (?, lent-room (a .args .shape .head) (restIn (a .args .shape .more) (a .args .shape .each)) (a .args .s .now) (a .args .row .now) (a .pre .1) (w .count .ensures) (r .before .before .size .ensures) (r .read-run .ensures))
+    let size = r .before .before .size in
+    let left : sizeOf (formatsBy (a .args .shape .more)) ≤ length (lentFrom (size .result) (a .args .s .now)) = omega (arith, lent-length (size .result) (a .args .s .now), size .ensures, a .pre .0) in
+    (left, lent-room (a .args .shape .head) (restIn (a .args .shape .more) (a .args .shape .each)) (a .args .s .now) (a .args .row .now) (a .pre .1) (w .count .ensures) (r .before .before .size .ensures) (r .read-run .ensures))
 
 same-length : tie.Need-same-length
 same-length c = search needs
