@@ -80,19 +80,21 @@ module _ (digits : ℕ) (rest : List ℕ → List ℕ) (s row : List ℕ) (room 
 
 -- ---- how often a run is repeated, in the front of a row
 
--- nothing is
-pub no-tail : (each : ℕ) (s row : List ℕ) → each ≡ 0 → row ≡ beginning (tailIn each s) row
-no-tail each s row none = rw (eq-eqb each 0 none)
+pub no-tail : (each : ℕ) (s : List ℕ) → each ≡ 0 → tailIn each s ≡ []
+no-tail each s none = rw (eq-eqb each 0 none)
+
+pub one-tail : (each : ℕ) (s : List ℕ) → (each ≡ 0 → ⊥) → tailIn each s ≡ length s / sizeOf (formatsBy each) ∷ []
+one-tail each s some = rw (ne-eqb each 0 some)
+
+pub tail-unset : (each : ℕ) (s row : List ℕ) → each ≡ 0 → row ≡ beginning (tailIn each s) row
+tail-unset each s row none = sym (ap (λ (ns : List ℕ). beginning ns row) (no-tail each s none))
 
 module _ (each : ℕ) (s row : List ℕ) (some : each ≡ 0 → ⊥) (room : length (tailIn each s) ≤ length row) where
-  one-tail : tailIn each s ≡ length s / sizeOf (formatsBy each) ∷ []
-  one-tail = rw (ne-eqb each 0 some)
-
   pub tail-room : 0 < length row
-  tail-room = omega (arith, room, ap length one-tail)
+  tail-room = omega (arith, room, ap length (one-tail each s some))
 
   pub tail-set : {n : ℕ} → n ≡ sizeOf (formatsBy each) → set row 0 (length s / n) ≡ beginning (tailIn each s) row
-  tail-set e = ap (λ (k : ℕ). set row 0 (length s / k)) e ∙ front row tail-room ∙ sym (ap (λ (ns : List ℕ). beginning ns row) one-tail)
+  tail-set e = ap (λ (k : ℕ). set row 0 (length s / k)) e ∙ front row tail-room ∙ sym (ap (λ (ns : List ℕ). beginning ns row) (one-tail each s some))
     where
       front : {v : ℕ} (row : List ℕ) → 0 < length row → set row 0 v ≡ v ∷ drop 1 row
       front [] h = absurd (not-suc-le-zero h)

@@ -1,2 +1,4 @@
 pub mod Filling
 pub mod Shaped
+pub mod Roomy
+pub mod Rows

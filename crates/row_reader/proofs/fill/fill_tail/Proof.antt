@@ -2,12 +2,12 @@
 use native.Mathlib.Omega.{arith}
 use borrow.Author.Needs.{needs}
 use Rattle.formats.proofs.Widened.{some-bytes}
-use Rattle.row_reader.proofs.Filling.{no-tail, tail-room, tail-set}
+use Rattle.row_reader.proofs.Filling.{tail-unset, tail-room, tail-set}
 use Rattle.row_reader.proofs.fill.fill_tail.Statement.{statement}
 use Rattle.row_reader.proofs.fill.fill_tail.Tie as tie
 
 returns : tie.Need-returns
-returns c = let a = c .before .before .before .args in no-tail (a .each) (a .s .now) (a .row .now) (c .if1 .taken)
+returns c = let a = c .before .before .before .args in tail-unset (a .each) (a .s .now) (a .row .now) (c .if1 .taken)
 
 size-requires : tie.Need-size-requires
 size-requires c κs = search needs

@@ -1,34 +1,34 @@
+-- `row_reader::row::numbers` meets its contract.
+use mathlib.Core.List.{[]}
+use native.Mathlib.Omega.{arith}
 use borrow.Author.Needs.{needs}
+use Rattle.formats.proofs.Steps.{few}
+use Rattle.row_reader.proofs.Shaped.{no-tail-counted, tail-counted}
 use Rattle.row_reader.proofs.row.numbers.Statement.{statement}
 use Rattle.row_reader.proofs.row.numbers.Tie as tie
-use Rattle.row_reader.proofs.row.numbers.Reads as reads
-use Rattle.row_reader.proofs.row.numbers.Lts as lts
-use Rattle.row_reader.proofs.stub.count.Reads as count-reads
 
--- src/row.rt:16:18
 count-requires : tie.Need-count-requires
 count-requires c κs = search needs
 
--- src/row.rt:16:38
 count-requires-2 : tie.Need-count-requires-2
 count-requires-2 c κs = search needs
 
--- src/row.rt:16:18
 add-fields : tie.Need-add-fields
-add-fields c = ?
+add-fields c =
+    let shape = c .before .before .args .shape in
+    omega (arith, few 16 (shape .head) .0, few 16 (shape .more) .0, c .before .count .ensures, c .count2 .ensures)
 
--- src/row.rt:18:9
 returns : tie.Need-returns
-returns c = ?
+returns c = let w = c .before .before in no-tail-counted (w .before .before .args .shape) [] (w .before .count .ensures) (w .count2 .ensures) (c .if1 .taken)
 
--- src/row.rt:20:5
 add-result : tie.Need-add-result
-add-result c = ?
+add-result c =
+    let w = c .before .before in
+    let shape = w .before .before .args .shape in
+    omega (arith, few 16 (shape .head) .0, few 16 (shape .more) .0, w .before .count .ensures, w .count2 .ensures)
 
--- src/row.rt:13:1
 returns-2 : tie.Need-returns-2
-returns-2 c = ?
+returns-2 c = let w = c .before .before in tail-counted (w .before .before .args .shape) [] (w .before .count .ensures) (w .count2 .ensures) (c .if1 .left)
 
 pub numbers-spec : {M : Type 1} → statement M
-numbers-spec =
-    tie.close (tie.spec count-requires count-requires-2 add-fields returns add-result returns-2)
+numbers-spec = tie.close (tie.spec count-requires count-requires-2 add-fields returns add-result returns-2)

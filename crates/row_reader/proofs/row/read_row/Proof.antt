@@ -1,54 +1,50 @@
+-- `row_reader::row::read_row` meets its contract: the payload's answer, then the row's room.
 use borrow.Author.Needs.{needs}
+use Rattle.row_reader.proofs.Rows.{row-refused, row-whole, row-too-short, row-room, row-filled}
 use Rattle.row_reader.proofs.row.read_row.Statement.{statement}
 use Rattle.row_reader.proofs.row.read_row.Tie as tie
-use Rattle.row_reader.proofs.row.read_row.Reads as reads
-use Rattle.row_reader.proofs.row.read_row.Lts as lts
-use Rattle.payloads.proofs.answer.Reads as answer-reads
-use Rattle.payloads.proofs.shape_of.Reads as shape-of-reads
-use Rattle.row_reader.proofs.fill.fill.Reads as fill-reads
-use Rattle.row_reader.proofs.row.numbers.Reads as numbers-reads
 
--- src/row.rt:27:9
 answer-requires : tie.Need-answer-requires
 answer-requires c κs = search needs
 
--- src/row.rt:29:9
 returns : tie.Need-returns
-returns c = ?
+returns c =
+    let a = c .before .before .before .before .args in
+    row-refused (a .kind) (a .payload .now) (a .row .now) (c .before .answer .ensures) (c .if1 .taken)
 
--- src/row.rt:31:9
 shape-of-requires : tie.Need-shape-of-requires
 shape-of-requires c κs = search needs
 
--- src/row.rt:32:20
 numbers-requires : tie.Need-numbers-requires
 numbers-requires c κs = search needs
 
--- src/row.rt:33:9
 returns-2 : tie.Need-returns-2
-returns-2 c = ?
+returns-2 c =
+    let n = c .before in
+    let p = n .before .before in
+    let a = p .before .before .before .before .args in
+    row-too-short (a .kind) (a .payload .now) (a .row .now) (p .before .answer .ensures) (p .if1 .left) (n .before .shape-of .ensures) (n .numbers .ensures) (c .if2 .taken)
 
--- src/row.rt:35:5
 fill-requires : tie.Need-fill-requires
-fill-requires c κs = ?
+fill-requires c κs =
+    let n = c .before .before in
+    let p = n .before .before in
+    let a = p .before .before .before .before .args in (
+      row-whole (a .kind) (a .payload .now) (a .row .now) (p .before .answer .ensures) (p .if1 .left) (n .before .shape-of .ensures),
+      row-room (a .kind) (a .payload .now) (a .row .now) (p .before .answer .ensures) (p .if1 .left) (n .before .shape-of .ensures) (n .numbers .ensures) (c .before .if2 .left),
+    )
 
--- src/row.rt:23:1
 same-length : tie.Need-same-length
 same-length c = search needs
 
--- src/row.rt:23:1
 returns-3 : tie.Need-returns-3
-returns-3 c = ?
+returns-3 c =
+    let f = c .before .before in
+    let t = f .before .before in
+    let n = t .before in
+    let p = n .before .before in
+    let a = p .before .before .before .before .args in
+    row-filled (a .kind) (a .payload .now) (a .row .now) (p .before .answer .ensures) (p .if1 .left) (n .before .shape-of .ensures) (n .numbers .ensures) (t .if2 .left) (f .fill .ensures)
 
 pub read-row-spec : {M : Type 1} → statement M
-read-row-spec =
-    tie.close
-    (tie.spec
-    answer-requires
-    returns
-    shape-of-requires
-    numbers-requires
-    returns-2
-    fill-requires
-    same-length
-    returns-3)
+read-row-spec = tie.close (tie.spec answer-requires returns shape-of-requires numbers-requires returns-2 fill-requires same-length returns-3)
