@@ -72,6 +72,7 @@ few (suc m) d = by (eqb d 0) refl (few m (d / 16))
   where
     Few : ℕ → ℕ → Type 0
     Few m d = (length (upTo m d) ≤ m) × (sizeOf (upTo m d) ≤ 8 * m)
+
     by : (t : Bool) → eqb d 0 ≡ t → Few m (d / 16) → Few (suc m) d
     by true e rest = rw e (omega arith, omega arith)
     by false e rest = rw e (omega (arith, rest .0), omega (arith, rest .1, at-most-eight (d % 16)))

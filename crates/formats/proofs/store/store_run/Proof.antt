@@ -50,8 +50,7 @@ loop-again c =
     let s = c .before .before .before .before .before .before .before .before .before .before in
     let l = c .before .before .before .before .before .before .before .loop in
     let some = c .before .before .before .before .before .before .loop-test .taken in
-    let small = below (s .args .digits) (l .rest) (s .fits .digits .fits) (l .inv .0 .0) in
-    (
+    let small = below (s .args .digits) (l .rest) (s .fits .digits .fits) (l .inv .0 .0) in (
       counted-more (s .args .digits) (l .rest) (l .i) (s .fits .digits .fits) some (l .inv .0),
       sized-more (s .args .digits) (l .rest) (l .at) (c .width-of .result) small some (c .width-of .ensures) (l .inv .1),
       stored-more (l .rest) (s .args .row .now) (l .i) (l .buf) (l .at) small some (c .before .before .before .before .number-of .ensures) (c .before .before .before .store-number .ensures) (c .width-of .ensures) ∙ l .inv .2,
