@@ -1,5 +1,5 @@
 -- `row_reader::observation_row::fill_one` meets its contract.
-use mathlib.Core.Path.{_≡_, ap, ap₂}
+use mathlib.Core.Path.{ap, ap₂}
 use Prim.Native.Nat.{ℕ, _+_, _*_}
 use native.Mathlib.Omega.{arith}
 use borrow.Author.Needs.{needs}
