@@ -1,1 +1,6 @@
 pub mod EachRead
+pub mod Filling
+pub mod Shaped
+pub mod Roomy
+pub mod Rows
+pub mod ObservationRows

@@ -1,2 +1,3 @@
 pub mod ReadRow
 pub mod AsRead
+pub mod ByDigits
