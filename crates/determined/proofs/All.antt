@@ -21,6 +21,9 @@ module _ {M : Type 1} (𝓤 : URA M) (H : Heap 𝓤) (A : Atoms 𝓤) (mem : Mem
   pub text : public.Text 𝓤 H A mem run
   text = search determinations
 
+  pub formats : public.Formats 𝓤 H A mem run
+  formats = search determinations
+
   pub frames : public.Frames 𝓤 H A mem run
   frames = search determinations
 
@@ -38,6 +41,9 @@ module _ {M : Type 1} (𝓤 : URA M) (H : Heap 𝓤) (A : Atoms 𝓤) (mem : Mem
 
   pub payloads : public.Payloads 𝓤 H A mem run
   payloads = search determinations
+
+  pub row-reader : public.RowReader 𝓤 H A mem run
+  row-reader = search determinations
 
   pub packets : public.Packets 𝓤 H A mem run
   packets = search determinations

@@ -14,12 +14,14 @@ use denote.Ref.{now}
 use Rattle.wire.proofs as wire
 use Rattle.crc.proofs as crc
 use Rattle.text.proofs as text
+use Rattle.formats.proofs as formats
 use Rattle.frames.proofs as frames
 use Rattle.navigation.proofs as navigation
 use Rattle.observation.proofs as observation
 use Rattle.system.proofs as system
 use Rattle.obs_reader.proofs as obs_reader
 use Rattle.payloads.proofs as payloads
+use Rattle.row_reader.proofs as row_reader
 use Rattle.packets.proofs as packets
 use Rattle.runs.proofs as runs
 use Rattle.epochs.proofs as epochs
@@ -57,6 +59,13 @@ module _ {M : Type 1} (𝓤 : URA M) (H : Heap 𝓤) (A : Atoms 𝓤) (mem : Mem
 
   pub record Text : Type 1 where
     pub put-line : Determined 𝓤 text.put_line.ended (text.put_line.clauses 𝓤 H A mem run)
+
+  pub record Formats : Type 1 where
+    pub count : Determined 𝓤 formats.count.ended (formats.count.clauses 𝓤 H A mem run)
+    pub size : Determined 𝓤 formats.size.ended (formats.size.clauses 𝓤 H A mem run)
+    pub read-run : Determined 𝓤 formats.read_run.ended (formats.read_run.clauses 𝓤 H A mem run)
+    pub run-fits : Determined 𝓤 formats.run_fits.ended (formats.run_fits.clauses 𝓤 H A mem run)
+    pub store-run : Determined 𝓤 formats.store_run.ended (formats.store_run.clauses 𝓤 H A mem run)
 
   pub record Frames : Type 1 where
     pub closed : Determined 𝓤 frames.cursor.Cursor.closed.ended (frames.cursor.Cursor.closed.clauses 𝓤 H A mem run)
@@ -157,6 +166,12 @@ module _ {M : Type 1} (𝓤 : URA M) (H : Heap 𝓤) (A : Atoms 𝓤) (mem : Mem
   pub record Payloads : Type 1 where
     pub answer : Determined 𝓤 payloads.answer.ended (payloads.answer.clauses 𝓤 H A mem run)
     pub read : Determined 𝓤 payloads.read.ended (payloads.read.clauses 𝓤 H A mem run)
+    pub is-known : Determined 𝓤 payloads.is_known.ended (payloads.is_known.clauses 𝓤 H A mem run)
+    pub shape-of : Determined 𝓤 payloads.shape_of.ended (payloads.shape_of.clauses 𝓤 H A mem run)
+
+  pub record RowReader : Type 1 where
+    pub read-row : Determined 𝓤 row_reader.read_row.ended (row_reader.read_row.clauses 𝓤 H A mem run)
+    pub read-observation-row : Determined 𝓤 row_reader.read_observation_row.ended (row_reader.read_observation_row.clauses 𝓤 H A mem run)
 
   pub record Packets : Type 1 where
     pub same-key : Determined 𝓤 packets.same_key.ended (packets.same_key.clauses 𝓤 H A mem run)
@@ -187,3 +202,16 @@ module _ {M : Type 1} (𝓤 : URA M) (H : Heap 𝓤) (A : Atoms 𝓤) (mem : Mem
     pub sbp-collator : Determined 𝓤 exports.sbp_collator.ended (exports.sbp_collator.clauses 𝓤 H A mem run)
     pub sbp-next : Determined 𝓤 exports.sbp_next.ended (exports.sbp_next.clauses 𝓤 H A mem run)
     pub sbp-list : Determined 𝓤 exports.sbp_list.ended (exports.sbp_list.clauses 𝓤 H A mem run)
+    pub sbp-fix : Determined 𝓤 exports.sbp_fix.ended (exports.sbp_fix.clauses 𝓤 H A mem run)
+    pub sbp-raim-available : Determined 𝓤 exports.sbp_raim_available.ended (exports.sbp_raim_available.clauses 𝓤 H A mem run)
+    pub sbp-raim-repaired : Determined 𝓤 exports.sbp_raim_repaired.ended (exports.sbp_raim_repaired.clauses 𝓤 H A mem run)
+    pub sbp-above-sea : Determined 𝓤 exports.sbp_above_sea.ended (exports.sbp_above_sea.clauses 𝓤 H A mem run)
+    pub sbp-system-error : Determined 𝓤 exports.sbp_system_error.ended (exports.sbp_system_error.clauses 𝓤 H A mem run)
+    pub sbp-io-error : Determined 𝓤 exports.sbp_io_error.ended (exports.sbp_io_error.clauses 𝓤 H A mem run)
+    pub sbp-nap-error : Determined 𝓤 exports.sbp_nap_error.ended (exports.sbp_nap_error.clauses 𝓤 H A mem run)
+    pub sbp-external-antenna : Determined 𝓤 exports.sbp_external_antenna.ended (exports.sbp_external_antenna.clauses 𝓤 H A mem run)
+    pub sbp-carrier-phase : Determined 𝓤 exports.sbp_carrier_phase.ended (exports.sbp_carrier_phase.clauses 𝓤 H A mem run)
+    pub sbp-phase-parts : Determined 𝓤 exports.sbp_phase_parts.ended (exports.sbp_phase_parts.clauses 𝓤 H A mem run)
+    pub sbp-growing : Determined 𝓤 exports.sbp_growing.ended (exports.sbp_growing.clauses 𝓤 H A mem run)
+    pub sbp-enlist : Determined 𝓤 exports.sbp_enlist.ended (exports.sbp_enlist.clauses 𝓤 H A mem run)
+    pub sbp-version : Determined 𝓤 exports.sbp_version.ended (exports.sbp_version.clauses 𝓤 H A mem run)
