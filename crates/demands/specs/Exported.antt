@@ -6,28 +6,23 @@ use mathlib.Core.List.{List, []}
 use mathlib.Core.Logic.{_↔_}
 use Prim.Native.Nat.{ℕ, _^_, _≤_, _<_}
 use lib.ListN.{length}
-use Rattle.wire.specs.Number.{Bytes, numberAt}
+use Rattle.wire.specs.Number.{Bytes}
 use Rattle.wire.specs.Refusals.{ordered}
 use Rattle.frames.specs.Frame.{Content}
 use Rattle.frames.specs.Reading.{steps, closedSteps, framesOf, countsOf}
 use Rattle.frames.specs.Cursors.{nextOf, Says}
 use Rattle.epochs.specs.Collator.{ownPlace, rosterOf, fresh}
 use Rattle.epochs.specs.Search.{names}
-use Rattle.epochs.specs.Epoch.{reportsOf, SameFrames, EndsEpoch, Epochs}
+use Rattle.epochs.specs.Epoch.{reportsIn, reportsOf, SameFrames, EndsEpoch, Epochs}
 use Rattle.epochs.specs.declared.collating.Report.{Report}
-use Rattle.exports.specs.Claims.{Kept, FoundShown, CountsShown, reportedIn, Filled}
+use Rattle.epochs.specs.declared.collating.Happened.the-variants as H
+use Rattle.exports.specs.Claims.{Kept, FoundShown, CountsShown, Filled}
 use Rattle.exports.specs.Found.{foundSize, startAt, foundIn, finding, nextFrom, nextStored}
 use Rattle.exports.specs.Totals.{totalsSize, totalling, totalsFor, totalsStored}
 use Rattle.exports.specs.State.{stateIn}
 use Rattle.exports.specs.Feed.{making, madeIn, madeStored, reportSize, feedingIn, forPlaceIn, fedIn, afterIn}
-
--- an epoch's numbers in a row of bytes, each where link/include/sbp.h has it
-pub record Shown (row : List ℕ) (e : Report) : Type 0 where
-  pub sender : numberAt 2 row 0 ≡ e .sender
-  pub week : numberAt 2 row 2 ≡ e .wn
-  pub time : numberAt 4 row 4 ≡ e .tow
-  pub packets : numberAt 1 row 8 ≡ e .n
-  pub observations : numberAt 2 row 9 ≡ e .observations
+use Rattle.exports.specs.Told.{AsSent, told, toldIn}
+use Rattle.exports.specs.Growing.{Grows}
 
 -- demand 1: "refused by number". The number handed back is read off an answer by the call's own list; what that comes to is `in-order` there.
 -- `sbp_list` answers by demand 1's list for a capture, `sbp_answer` by that for a payload
@@ -49,17 +44,17 @@ pub record Exported : Type 0 where
       → FoundShown (nextStored s at opened buf) (foundIn (nextOf s (startAt at opened)))
   -- `sbp_totals` shows the counts of the whole closed reading
   pub totals-shown : (s : List ℕ) → length s < 2 ^ 64 → (buf : List ℕ) → totalsSize ≤ length buf → CountsShown (totalsStored s buf) (countsOf (closedSteps s))
-  -- `sbp_feed` answers 1 exactly where the frame ends an epoch
-  pub epochs-answered : (roster s report : List ℕ) (xs : List Content) → Filled roster s report xs → (x : Content) → Bytes (x .payload) → (lent : List ℕ) → reportSize ≤ length lent
-      → (fedIn (afterIn (madeStored roster s) report xs) x lent .answer ≡ 1) ↔ ((e : Report) × EndsEpoch roster xs x e)
-  -- and then the lent bytes show that epoch
-  pub epochs-stored : (roster s report : List ℕ) (xs : List Content) → Filled roster s report xs → (x : Content) → Bytes (x .payload) → (lent : List ℕ) → reportSize ≤ length lent
-      → (e : Report) → EndsEpoch roster xs x e → Shown (fedIn (afterIn (madeStored roster s) report xs) x lent .report) e
-  -- so the reports that a caller reads off the bytes are demand 2's epochs in order
-  pub epochs-read : (roster s report : List ℕ) (xs : List Content) → Filled roster s report xs → (es : List Report) → Epochs roster [] xs es → es ≡ reportedIn (madeStored roster s) report xs
+  -- `sbp_feed` tells of an epoch, by 1 and the report that the lent bytes show, exactly where the frame ends it
+  pub epochs-told : (roster s report : List ℕ) (xs : List Content) → Filled roster s report xs → (x : Content) → AsSent x → (lent : List ℕ) → reportSize ≤ length lent
+      → (e : Report) → (told (fedIn (afterIn (madeStored roster s) report xs) x lent) ≡ H.Epoch e) ↔ EndsEpoch roster xs x e
+  -- so the reports that are told are demand 2's epochs in order
+  pub epochs-read : (roster s report : List ℕ) (xs : List Content) → Filled roster s report xs → (es : List Report) → Epochs roster [] xs es
+      → es ≡ reportsIn (toldIn (madeStored roster s) report xs)
   -- demand 3: with the same frames of every listed sender, each of them gets the same reports in the same order, and the two end states are equal
   pub same-reports : (roster s t report other : List ℕ) (xs ys : List Content) → Filled roster s report xs → Filled roster t other ys → SameFrames roster xs ys
       → (sender : ℕ) → names roster sender ≡ true
-      → reportsOf sender (reportedIn (madeStored roster s) report xs) ≡ reportsOf sender (reportedIn (madeStored roster t) other ys)
+      → reportsOf sender (reportsIn (toldIn (madeStored roster s) report xs)) ≡ reportsOf sender (reportsIn (toldIn (madeStored roster t) other ys))
   pub same-state : (roster s t report other : List ℕ) (xs ys : List Content) → Filled roster s report xs → Filled roster t other ys → SameFrames roster xs ys
       → stateIn (afterIn (madeStored roster s) report xs) ≡ stateIn (afterIn (madeStored roster t) other ys)
+  -- a roster that grows: frame by frame the bytes tell what a collator tells that was made of the first eight senders
+  pub growing : Grows

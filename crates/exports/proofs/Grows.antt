@@ -15,8 +15,8 @@ use Rattle.enlisting.proofs.Growing.{as-of-the-first}
 use Rattle.exports.specs.State.{stateSize, stateIn}
 use Rattle.exports.specs.Feed.{reportSize, fedIn}
 use Rattle.exports.specs.Enlist.{growingStored, enlistStored}
-use Rattle.exports.specs.Told.{told}
-use Rattle.exports.specs.Growing.{Sent, newTold, newAfterIn, Grows}
+use Rattle.exports.specs.Told.{Sent, told}
+use Rattle.exports.specs.Growing.{newTold, newAfterIn, Grows}
 use Rattle.exports.proofs.Feeds.{feeds}
 use Rattle.exports.proofs.Enlists.{grown-state, length-grown, enlisted-state, length-enlisted}
 use Rattle.exports.proofs.Tells.{lengths, tells}

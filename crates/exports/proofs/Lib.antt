@@ -5,10 +5,9 @@ pub mod Tabled
 pub mod States
 pub mod Feeds
 pub mod Makes
+pub mod Tells
 pub mod Lives
 pub mod Shown
-pub mod Reported
 pub mod Enlists
-pub mod Tells
 pub mod Grows
 pub mod Untouched

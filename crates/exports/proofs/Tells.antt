@@ -19,11 +19,12 @@ use Rattle.runs.specs.declared.running.Ended.{Ended}
 use Rattle.runs.specs.declared.running.Ended.the-variants.{Not, Whole}
 use Rattle.epochs.specs.Collator.{feeding, forPlace, ownPlace, idle, outcome, acted, rosterOf, fedFrame}
 use Rattle.epochs.specs.declared.collating.Collator.{Collator}
+use Rattle.epochs.specs.declared.collating.Report.{Report}
 use Rattle.epochs.specs.declared.collating.Happened.{Happened}
 use Rattle.epochs.specs.declared.collating.Happened.the-variants as H
 use Rattle.exports.specs.State.{stateSize, slotFields, slotAt, slotRow, slotOf, stateIn}
-use Rattle.exports.specs.Feed.{reportFields, reportSize, endedStored, forPlaceIn, stepIn, FedIn, cameOut, fedIn}
-use Rattle.exports.specs.Told.{reportMake, toldBy, told}
+use Rattle.exports.specs.Feed.{reportFields, reportSize, reportRow, endedStored, forPlaceIn, stepIn, FedIn, cameOut, fedIn}
+use Rattle.exports.specs.Told.{toldBy, told}
 use Rattle.exports.proofs.Parts.{stored-front}
 use Rattle.exports.proofs.Feeds.{happenedNumber, feeds, report-back}
 
@@ -60,8 +61,10 @@ module _ (answer : ℕ) (report : List ℕ) where
   tells-taken : answer ≡ 0 → toldBy answer report ≡ H.Taken
   tells-taken e = rw (eq-eqb answer 0 e)
 
-  tells-epoch : {v : Row reportFields} → answer ≡ 1 → decode reportFields report 0 ≡ v → toldBy answer report ≡ H.Epoch (reportMake v)
-  tells-epoch e q = rw (ne-eqb answer 0 (λ z. omega arith), eq-eqb answer 1 e) (ap (λ (v : Row reportFields). H.Epoch (reportMake v)) q)
+  tells-epoch : {r : Report} → answer ≡ 1 → decode reportFields report 0 ≡ reportRow r → toldBy answer report ≡ H.Epoch r
+  tells-epoch e q =
+      rw (ne-eqb answer 0 (λ z. omega arith), eq-eqb answer 1 e)
+      (ap (λ (v : Row reportFields). H.Epoch (record { sender = v .0; wn = v .1 .0; tow = v .1 .1 .0; n = v .1 .1 .1 .0; observations = v .1 .1 .1 .1 .0 })) q)
 
   tells-refused : {n : ℕ} → answer ≡ n → 2 ≤ n → toldBy answer report ≡ H.Refused n
   tells-refused e h = rw (ne-eqb answer 0 (λ z. omega arith), ne-eqb answer 1 (λ z. omega arith)) (ap (λ (n : ℕ). H.Refused n) e)

@@ -1,14 +1,12 @@
 -- What is claimed of the exported functions beyond each one's contract, and what the claims are made of. Assumes nothing.
 use Prim.Native.Nat.{ℕ, _≤_, _<_}
 use mathlib.Core.Path.{_≡_}
-use mathlib.Core.Bool.{Bool, cond}
-use mathlib.Core.List.{List, [], _∷_}
-use lib.Dec.{eqb}
+use mathlib.Core.Bool.{Bool}
+use mathlib.Core.List.{List}
 use lib.ListN.{length, getD}
-use Rattle.wire.specs.Number.{Bytes, numberAt}
+use Rattle.wire.specs.Number.{numberAt}
 use Rattle.frames.specs.Frame.{Content}
 use Rattle.frames.specs.declared.cursor.Counts.{Counts}
-use Rattle.epochs.specs.declared.collating.Report.{Report}
 use Rattle.exports.specs.declared.reading.FoundRow.{FoundRow}
 use Rattle.epochs.specs.Collator.{made}
 use Rattle.listing.specs.Listing.{withListing}
@@ -17,6 +15,7 @@ use Rattle.exports.specs.Totals.{totalsAnswer, totalsStored}
 use Rattle.exports.specs.Text.{textAnswer, sizeAfter}
 use Rattle.exports.specs.State.{stateSize}
 use Rattle.exports.specs.Feed.{reportSize, madeAnswer, madeStored, fedIn}
+use Rattle.exports.specs.Told.{Sent}
 
 -- demand 1: "and a refusal writes nothing and moves no state", by the number that is handed back
 pub record Kept : Type 0 where
@@ -46,30 +45,12 @@ pub record CountsShown (row : List ℕ) (c : Counts) : Type 0 where
   pub bad : numberAt 8 row 16 ≡ c .bad
   pub short : numberAt 8 row 24 ≡ c .short
 
--- the report that a row shows
-abbrev pub shownReport : List ℕ → Report
-shownReport row = record { sender = numberAt 2 row 0; wn = numberAt 2 row 2; tow = numberAt 4 row 4; n = numberAt 1 row 8; observations = numberAt 2 row 9 }
-
--- what a caller gets of frames fed one after the other: the report that the row shows, wherever the answer is 1
-unfoldable pub reportedIn : List ℕ → List ℕ → List Content → List Report
-unfolding fedIn
-reportedIn state report [] = []
-reportedIn state report (x ∷ xs) =
-    let out = fedIn state x report in
-    let rest = reportedIn (out .state) (out .report) xs in
-    cond (eqb (out .answer) 1) (shownReport (out .report) ∷ rest) rest
-
 -- ---- what they are claimed of
 
--- frames whose payloads are bytes
-abbrev pub AllBytes : List Content → Type 0
-AllBytes [] = Unit {0}
-AllBytes (x ∷ xs) = Bytes (x .payload) × AllBytes xs
-
--- bytes that `sbp_collator` filled for a roster, and frames of bytes fed to them by `sbp_feed`
+-- bytes that `sbp_collator` filled for a roster, and frames fed to them by `sbp_feed`
 pub record Filled (roster s report : List ℕ) (xs : List Content) : Type 0 where
   pub taken : made roster .number ≡ 0
   pub senders : (i : ℕ) → getD roster i 0 < 65536
   pub long : stateSize ≤ length s
   pub room : reportSize ≤ length report
-  pub bytes : AllBytes xs
+  pub sent : Sent xs

@@ -4,7 +4,6 @@ use Prim.Native.Nat.{ℕ, _≤_, _<_}
 use mathlib.Core.Path.{_≡_}
 use mathlib.Core.List.{List, [], _∷_}
 use lib.ListN.{length}
-use Rattle.wire.specs.Number.{Bytes}
 use Rattle.frames.specs.Frame.{Content}
 use Rattle.epochs.specs.Collator.{made}
 use Rattle.epochs.specs.Epoch.{after, outcomes}
@@ -14,12 +13,7 @@ use Rattle.enlisting.specs.Enlisting.{enlistedTo, newOutcomes, newAfter}
 use Rattle.exports.specs.State.{stateSize, stateIn}
 use Rattle.exports.specs.Feed.{reportSize, FedIn, fedIn}
 use Rattle.exports.specs.Enlist.{growingStored, enlistStored}
-use Rattle.exports.specs.Told.{told}
-
--- frames as C has them: payloads of bytes, senders of 16 bits
-abbrev pub Sent : List Content → Type 0
-Sent [] = Unit {0}
-Sent (x ∷ xs) = (Bytes (x .payload) × (x .sender < 65536)) × Sent xs
+use Rattle.exports.specs.Told.{Sent, told}
 
 -- the sender is enlisted, then the frame is fed
 abbrev pub fedNewIn : List ℕ → Content → List ℕ → FedIn

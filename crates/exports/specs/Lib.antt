@@ -6,7 +6,7 @@ pub mod Flagged
 pub mod Phased
 pub mod State
 pub mod Feed
-pub mod Enlist
 pub mod Told
+pub mod Enlist
 pub mod Growing
 pub mod Claims

@@ -1,20 +1,36 @@
--- What a call of `sbp_feed` tells its caller of a frame: by the number handed back, and of an epoch by the row of its report. Assumes nothing.
-use Prim.Native.Nat.{ℕ}
+-- What calls of `sbp_feed` tell their caller: of a frame by the number handed back, and of an epoch by the row of its report. Assumes nothing.
+use Prim.Native.Nat.{ℕ, _<_}
 use mathlib.Core.Bool.{cond}
-use mathlib.Core.List.{List}
+use mathlib.Core.List.{List, [], _∷_}
 use lib.Dec.{eqb}
-use Rattle.wire.specs.Field.{Row, decode}
+use Rattle.wire.specs.Number.{Bytes, numberAt}
+use Rattle.frames.specs.Frame.{Content}
 use Rattle.epochs.specs.declared.collating.Report.{Report}
 use Rattle.epochs.specs.declared.collating.Happened.{Happened}
 use Rattle.epochs.specs.declared.collating.Happened.the-variants as H
-use Rattle.exports.specs.Feed.{reportFields, FedIn}
+use Rattle.exports.specs.Feed.{FedIn, fedIn}
 
-abbrev pub reportMake : Row reportFields → Report
-reportMake v = record { sender = v .0; wn = v .1 .0; tow = v .1 .1 .0; n = v .1 .1 .1 .0; observations = v .1 .1 .1 .1 .0 }
+-- a frame as C has it: its payload is bytes, its sender a number of 16 bits
+abbrev pub AsSent : Content → Type 0
+AsSent x = Bytes (x .payload) × (x .sender < 65536)
+
+abbrev pub Sent : List Content → Type 0
+Sent [] = Unit {0}
+Sent (x ∷ xs) = AsSent x × Sent xs
+
+-- the report that a row shows, each number where link/include/sbp.h has it
+abbrev pub shownReport : List ℕ → Report
+shownReport row = record { sender = numberAt 2 row 0; wn = numberAt 2 row 2; tow = numberAt 4 row 4; n = numberAt 1 row 8; observations = numberAt 2 row 9 }
 
 -- 0 taken, 1 an epoch, any other number a refusal
 abbrev pub toldBy : ℕ → List ℕ → Happened
-toldBy answer report = cond (eqb answer 0) H.Taken (cond (eqb answer 1) (H.Epoch (reportMake (decode reportFields report 0))) (H.Refused answer))
+toldBy answer report = cond (eqb answer 0) H.Taken (cond (eqb answer 1) (H.Epoch (shownReport report)) (H.Refused answer))
 
 abbrev pub told : FedIn → Happened
 told out = toldBy (out .answer) (out .report)
+
+-- of frames fed one after the other
+unfoldable pub toldIn : List ℕ → List ℕ → List Content → List Happened
+unfolding fedIn
+toldIn state report [] = []
+toldIn state report (x ∷ xs) = let out = fedIn state x report in told out ∷ toldIn (out .state) (out .report) xs

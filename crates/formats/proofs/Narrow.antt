@@ -99,6 +99,7 @@ module _ (k : Format) (n : ℕ) (short : within k ≡ true) (h : n < 2 ^ 64) (fi
       nan : (t : Bool) → cond t n 0 < 2 ^ 64
       nan true = h
       nan false = lit< tt
+
       by : (k : Format) → within k ≡ true → fitsIn k n ≡ true → Held k (narrowTo k n)
       by (unsigned w) short fits = record { fits = ltb-true n (2 ^ bits w) fits }
       by (signed w) short fits = narrow-signed w n short h fits .0
