@@ -1,10 +1,25 @@
-//! Links libexports.a, which `rt staticlib exports` writes; SBP_LIB names its
-//! folder, by default the repository's.
+//! Links libyaqtumeer.a from the folder that YAQTUMEER_LIB names, by default
+//! the repository's target/lib.
+
+use std::path::PathBuf;
 
 fn main() {
-    let home = std::env::var("CARGO_MANIFEST_DIR").expect("cargo sets it");
-    let folder = std::env::var("SBP_LIB").unwrap_or(format!("{home}/../../target/staticlib"));
-    println!("cargo:rerun-if-env-changed=SBP_LIB");
-    println!("cargo:rustc-link-search=native={folder}");
-    println!("cargo:rustc-link-lib=static=exports");
+    println!("cargo:rerun-if-env-changed=YAQTUMEER_LIB");
+    let here = PathBuf::from(std::env::var_os("CARGO_MANIFEST_DIR").expect("cargo sets it"));
+    let folder = match std::env::var_os("YAQTUMEER_LIB") {
+        Some(named) => PathBuf::from(named),
+        None => here.join("../../target/lib"),
+    };
+    let library = folder.join("libyaqtumeer.a");
+    // a changed library is linked anew
+    println!("cargo:rerun-if-changed={}", library.display());
+    if !library.is_file() {
+        eprintln!(
+            "{} is not there: run link/library in the repository, or name the folder of an installed library in YAQTUMEER_LIB",
+            library.display()
+        );
+        std::process::exit(1);
+    }
+    println!("cargo:rustc-link-search=native={}", folder.display());
+    println!("cargo:rustc-link-lib=static=yaqtumeer");
 }

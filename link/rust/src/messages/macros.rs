@@ -1,0 +1,172 @@
+//! A message's fields, formats and order are said once, where its struct is.
+
+/// A struct that crosses as a row of numbers: its fields, and both ways.
+macro_rules! rowed {
+    (
+        $(#[$about:meta])*
+        $name:ident { $($(#[$meaning:meta])* $field:ident: $format:ty,)* }
+    ) => {
+        $(#[$about])*
+        #[derive(Clone, Copy, Debug, Default, PartialEq)]
+        pub struct $name {
+            $($(#[$meaning])* pub $field: $format,)*
+        }
+
+        impl $name {
+            /// How many fields it has.
+            ///
+            /// ```
+            #[doc = concat!("use yaqtumeer::", stringify!($name), ";")]
+            ///
+            #[doc = concat!("let row = ", stringify!($name), "::default().row();")]
+            #[doc = concat!("assert_eq!(row.len(), ", stringify!($name), "::FIELDS);")]
+            /// ```
+            pub const FIELDS: usize = <[&str]>::len(&[$(stringify!($field)),*]);
+
+            /// Its fields in order, a number each: unsigned as they are, signed
+            /// sign-extended, doubles as their bit pattern. Equal rows are equal
+            /// to the bit.
+            ///
+            /// ```
+            #[doc = concat!("let row = yaqtumeer::", stringify!($name), "::default().row();")]
+            #[doc = concat!("assert_eq!(row, [0; yaqtumeer::", stringify!($name), "::FIELDS]);")]
+            /// ```
+            pub fn row(&self) -> [u64; Self::FIELDS] {
+                [$(crate::rows::Field::number(self.$field)),*]
+            }
+
+            fn of_row(row: [u64; Self::FIELDS]) -> $name {
+                let [$($field),*] = row;
+                $name { $($field: crate::rows::Field::of($field)),* }
+            }
+        }
+    };
+}
+
+/// A message that is a row and nothing else.
+macro_rules! message {
+    (
+        $(#[$about:meta])*
+        $name:ident = $kind:literal, $published:literal { $($fields:tt)* }
+    ) => {
+        rowed! { $(#[$about])* $name { $($fields)* } }
+        kind! { $name = $kind, $published }
+
+        impl $name {
+            /// Reads a payload.
+            ///
+            /// Refused: [`Refusal::WrongLength`](crate::Refusal::WrongLength),
+            /// [`Refusal::OutOfRange`](crate::Refusal::OutOfRange).
+            ///
+            /// ```
+            #[doc = concat!("use yaqtumeer::{", stringify!($name), ", Refusal};")]
+            ///
+            #[doc = concat!("let frame = ", stringify!($name), "::default().frame(None).unwrap();")]
+            /// let payload = &frame[6..frame.len() - 2];
+            #[doc = concat!("assert_eq!(", stringify!($name), "::read(payload), Ok(", stringify!($name), "::default()));")]
+            #[doc = concat!("assert_eq!(", stringify!($name), "::read(&[0; 99]), Err(Refusal::WrongLength));")]
+            /// ```
+            pub fn read(payload: &[u8]) -> Result<$name, crate::Refusal> {
+                crate::rows::read($name::KIND, payload).map($name::of_row)
+            }
+
+            /// Writes it as a frame at the buffer's start, and says the frame's
+            /// length. Without a sender it is 0x42.
+            ///
+            /// Refused: [`Refusal::OutOfRange`](crate::Refusal::OutOfRange),
+            /// [`Refusal::NoRoom`](crate::Refusal::NoRoom); then nothing is
+            /// written.
+            ///
+            /// ```
+            #[doc = concat!("use yaqtumeer::{", stringify!($name), ", Refusal};")]
+            ///
+            /// let mut out = [0; 64];
+            #[doc = concat!("let size = ", stringify!($name), "::default().write(Some(7), &mut out).unwrap();")]
+            /// assert_eq!((out[0], out[3]), (0x55, 7));
+            /// let short = &mut out[..size - 1];
+            #[doc = concat!("assert_eq!(", stringify!($name), "::default().write(None, short), Err(Refusal::NoRoom));")]
+            /// ```
+            pub fn write(&self, sender: Option<u16>, out: &mut [u8]) -> Result<usize, crate::Refusal> {
+                crate::writing::write_row(out, $name::KIND, sender, &self.row())
+            }
+        }
+    };
+}
+
+/// What every message has: its type number, its name, its frame.
+macro_rules! kind {
+    ($name:ident = $kind:literal, $published:literal) => {
+        impl $name {
+            /// Its type number.
+            ///
+            /// ```
+            #[doc = concat!("assert_eq!(yaqtumeer::", stringify!($name), "::KIND, ", stringify!($kind), ");")]
+            /// ```
+            pub const KIND: u16 = $kind;
+
+            /// Its name in the published protocol.
+            ///
+            /// ```
+            #[doc = concat!("assert_eq!(yaqtumeer::", stringify!($name), "::NAME, ", stringify!($published), ");")]
+            /// ```
+            pub const NAME: &'static str = $published;
+
+            /// The frame that [`write`](Self::write) writes, in memory of its own.
+            ///
+            /// ```
+            #[doc = concat!("use yaqtumeer::{Frames, ", stringify!($name), "};")]
+            ///
+            #[doc = concat!("let frame = ", stringify!($name), "::default().frame(None).unwrap();")]
+            /// let found = Frames::closed(&frame).next().unwrap();
+            #[doc = concat!("assert_eq!((found.kind, found.sender), (", stringify!($name), "::KIND, 0x42));")]
+            /// ```
+            pub fn frame(&self, sender: Option<u16>) -> Result<Vec<u8>, crate::Refusal> {
+                crate::writing::framed(|out| self.write(sender, out))
+            }
+        }
+    };
+}
+
+/// What flags mean in a message whose table has a fix mode; a flag of each
+/// meaning, for the examples.
+macro_rules! fixed {
+    ($name:ident: fixed $fixed:literal, available $available:literal, repaired $repaired:literal) => {
+        impl $name {
+            /// How it was found.
+            ///
+            /// ```
+            #[doc = concat!("use yaqtumeer::{Fix, ", stringify!($name), "};")]
+            ///
+            #[doc = concat!("let found = ", stringify!($name), " { flags: ", $fixed, ", ..", stringify!($name), "::default() };")]
+            /// assert_eq!(found.fix(), Fix::Fixed);
+            /// ```
+            pub fn fix(&self) -> crate::Fix {
+                crate::flags::fix($name::KIND, self.flags)
+            }
+
+            /// Whether a RAIM check (one of the satellites against another) was available.
+            ///
+            /// ```
+            #[doc = concat!("use yaqtumeer::", stringify!($name), ";")]
+            ///
+            #[doc = concat!("let found = ", stringify!($name), " { flags: ", $available, ", ..", stringify!($name), "::default() };")]
+            /// assert!(found.raim_available() && !found.raim_repaired());
+            /// ```
+            pub fn raim_available(&self) -> bool {
+                crate::flags::raim_available($name::KIND, self.flags)
+            }
+
+            /// Whether it came from a RAIM repair.
+            ///
+            /// ```
+            #[doc = concat!("use yaqtumeer::", stringify!($name), ";")]
+            ///
+            #[doc = concat!("let found = ", stringify!($name), " { flags: ", $repaired, ", ..", stringify!($name), "::default() };")]
+            /// assert!(found.raim_repaired() && !found.raim_available());
+            /// ```
+            pub fn raim_repaired(&self) -> bool {
+                crate::flags::raim_repaired($name::KIND, self.flags)
+            }
+        }
+    };
+}

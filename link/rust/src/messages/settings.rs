@@ -1,0 +1,40 @@
+//! Settings of a device.
+
+message! {
+    /// Asks the device to keep its settings.
+    ///
+    /// ```
+    /// use yaqtumeer::SettingsSave;
+    ///
+    /// assert_eq!(SettingsSave {}.frame(None).unwrap().len(), 8);
+    /// ```
+    #[derive(Eq, Hash)]
+    SettingsSave = 0x00a1, "MSG_SETTINGS_SAVE" {}
+}
+
+message! {
+    /// Asks for a setting by its index.
+    ///
+    /// ```
+    /// use yaqtumeer::ReadByIndexReq;
+    ///
+    /// assert_eq!(ReadByIndexReq::read(&[7, 1]), Ok(ReadByIndexReq { index: 263 }));
+    /// ```
+    #[derive(Eq, Hash)]
+    ReadByIndexReq = 0x00a2, "MSG_SETTINGS_READ_BY_INDEX_REQ" {
+        /// Which, from 0.
+        index: u16,
+    }
+}
+
+message! {
+    /// Says that there is no further setting.
+    ///
+    /// ```
+    /// use yaqtumeer::ReadByIndexDone;
+    ///
+    /// assert_eq!(ReadByIndexDone::read(&[]), Ok(ReadByIndexDone {}));
+    /// ```
+    #[derive(Eq, Hash)]
+    ReadByIndexDone = 0x00a6, "MSG_SETTINGS_READ_BY_INDEX_DONE" {}
+}

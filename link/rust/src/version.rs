@@ -1,0 +1,42 @@
+//! The version of the library that is linked.
+
+use std::fmt;
+
+use crate::raw;
+
+/// A version: printed as `0.8.0`.
+///
+/// ```
+/// let version = yaqtumeer::Version { major: 0, minor: 8, patch: 0 };
+/// assert_eq!(version.to_string(), "0.8.0");
+/// ```
+#[derive(Clone, Copy, Debug, PartialEq, Eq, PartialOrd, Ord, Hash)]
+pub struct Version {
+    /// Counts what breaks a user.
+    pub major: u32,
+    /// Counts what is new.
+    pub minor: u32,
+    /// Counts what is mended.
+    pub patch: u32,
+}
+
+impl fmt::Display for Version {
+    fn fmt(&self, f: &mut fmt::Formatter<'_>) -> fmt::Result {
+        write!(f, "{}.{}.{}", self.major, self.minor, self.patch)
+    }
+}
+
+/// The version of the library that is linked.
+///
+/// ```
+/// println!("yaqtumeer {}", yaqtumeer::version());
+/// assert_eq!(yaqtumeer::version().to_string(), env!("CARGO_PKG_VERSION"));
+/// ```
+pub fn version() -> Version {
+    let told = unsafe { raw::sbp_version() };
+    Version {
+        major: told / 10000,
+        minor: told / 100 % 100,
+        patch: told % 100,
+    }
+}
