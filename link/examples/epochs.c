@@ -1,37 +1,43 @@
-/* Prints the epochs of a base and of the rover that it relays as sender 0, and the capture's totals: epochs FILE */
-#include <inttypes.h>
-#include <stdio.h>
-#include <stdlib.h>
+/* Prints the epochs of a capture of any length, its senders taken as they come, and its totals, all as sbplist does: epochs FILE
+ * Exit status 0; 1 for trouble with a file; 2 for wrong use. */
+#include "stream.h"
 
-#include "sbp.h"
+static void print_epoch(const struct sbp_report *e) {
+    printf("E %u %u %" PRIu32 " %u %u\n", (unsigned)e->sender, (unsigned)e->wn, e->tow, (unsigned)e->n, (unsigned)e->observations);
+}
 
 int main(int argc, char **argv) {
-    static uint8_t capture[1 << 20];
-    FILE *file = argc == 2 ? fopen(argv[1], "rb") : NULL;
-    if (file == NULL) {
+    static struct stream s;
+    uint8_t state[SBP_STATE], report[SBP_REPORT];
+    if (argc != 2) {
         fprintf(stderr, "usage: epochs FILE\n");
-        return EXIT_FAILURE;
+        return 2;
     }
-    size_t n = fread(capture, 1, sizeof capture, file);
-    fclose(file);
-
-    const uint16_t roster[] = {1228, 0};
-    uint8_t state[SBP_STATE], found[SBP_FOUND], report[SBP_REPORT], counts[SBP_TOTALS];
-    if (sbp_collator(state, sizeof state, roster, 2) != 0) {
-        return EXIT_FAILURE;
+    s.fd = open(argv[1], O_RDONLY);
+    if (s.fd < 0) {
+        return stream_trouble("epochs", argv[1]);
     }
-    for (size_t at = 0; sbp_next(capture, n, at, false, found, sizeof found) == 0;) {
-        struct sbp_found f = sbp_found_of(found);
-        at = f.next;
-        if (sbp_feed(state, sizeof state, f.kind, f.sender, capture + f.at + 6, f.length, report, sizeof report) == 1) {
-            struct sbp_report e = sbp_report_of(report);
-            printf("E %u %u %lu %u %u\n", (unsigned)e.sender, (unsigned)e.wn, (unsigned long)e.tow, (unsigned)e.n, (unsigned)e.observations);
+    /* memory of the sizes that the header names is never refused */
+    sbp_growing(state, sizeof state);
+    for (;;) {
+        struct sbp_found f;
+        if (stream_next(&s, &f) == SBP_FRAME) {
+            sbp_enlist(state, sizeof state, f.kind, f.sender);
+            if (sbp_feed(state, sizeof state, f.kind, f.sender, stream_payload(&s, &f), f.length, report, sizeof report) == SBP_EPOCH) {
+                const struct sbp_report e = sbp_report_of(report);
+                print_epoch(&e);
+            }
+        } else if (s.complete) {
+            break;
+        } else {
+            ssize_t came = stream_fill(&s);
+            if (came < 0) {
+                return stream_trouble("epochs", argv[1]);
+            }
+            s.complete = came == 0;
         }
     }
-    if (sbp_totals(capture, n, counts, sizeof counts) != 0) {
-        return EXIT_FAILURE;
-    }
-    struct sbp_counts t = sbp_counts_of(counts);
-    printf("T %zu %" PRIu64 " %" PRIu64 " %" PRIu64 " %" PRIu64 "\n", n, t.framed, t.junk, t.bad, t.short_);
-    return EXIT_SUCCESS;
+    close(s.fd);
+    stream_print_totals(&s);
+    return stream_printed() ? 0 : stream_trouble("epochs", "standard output");
 }

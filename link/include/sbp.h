@@ -1,10 +1,14 @@
-/* SBP 1.1 frames, payload answers, observation epochs and listings: the proved library, for C and Rust.
+/* SBP 1.1 (Swift Navigation Binary Protocol) for C and C++: frames, messages read and written, observation epochs, listings. A proved library.
+ *
+ * A frame is the byte 0x55, a type and a sender of 16 bits, a length N of 8 bits, N bytes of payload and a CRC of 16 bits, all little-endian:
+ * N + 8 bytes. A payload of a type that is named below has fields; every type, named or not, may stand in a frame.
  *
  * Every function ends, on any input, and changes nothing but the memory that it is lent to write. What the caller keeps is said at each: that
- * a pointer and its length agree (so many bytes are there, for the length of the call), that memory lent to be written overlaps no other
- * argument, and that a pointer to uint16_t or uint64_t is aligned. A length of 0 may come with any pointer.
+ * a pointer and its length agree (so many bytes or numbers are there, for the length of the call), that memory lent to be written overlaps no
+ * other argument, and that a pointer to uint16_t, int32_t or uint64_t is aligned. A length of 0 may come with any pointer.
  *
- * A refusal is one of document 01's numbers, and then nothing is written. */
+ * What a function answers with is a uint8_t: 0 or another small number where it was done, or one of the refusals below. A refusal writes
+ * nothing: no buffer, no row, no size, no state. Where several hold, the first in the order in which they are named at the function is given. */
 #ifndef SBP_H
 #define SBP_H
 
@@ -12,46 +16,235 @@
 #include <stddef.h>
 #include <stdint.h>
 
+#if SIZE_MAX != UINT64_MAX
+#error "sbp.h: the library is for processors with a size_t of 8 bytes"
+#endif
+
+#include <string.h>
+
 #ifdef __cplusplus
 extern "C" {
 #endif
 
-/* The CRC of n bytes, from a start of 0.
+/* ---- names */
+
+/* This header's version; sbp_version tells the library's in the same form. */
+#define SBP_VERSION_MAJOR 0
+#define SBP_VERSION_MINOR 8
+#define SBP_VERSION_PATCH 0
+#define SBP_VERSION (10000 * SBP_VERSION_MAJOR + 100 * SBP_VERSION_MINOR + SBP_VERSION_PATCH)
+
+/* The types that have a reading. */
+#define SBP_MSG_BASE_POS_LLH 0x0044
+#define SBP_MSG_BASE_POS_ECEF 0x0048
+#define SBP_MSG_OBS 0x0049
+#define SBP_MSG_SETTINGS_SAVE 0x00A1
+#define SBP_MSG_SETTINGS_READ_BY_INDEX_REQ 0x00A2
+#define SBP_MSG_SETTINGS_READ_BY_INDEX_DONE 0x00A6
+#define SBP_MSG_GPS_TIME 0x0100
+#define SBP_MSG_POS_ECEF 0x0200
+#define SBP_MSG_POS_LLH 0x0201
+#define SBP_MSG_BASELINE_ECEF 0x0202
+#define SBP_MSG_BASELINE_NED 0x0203
+#define SBP_MSG_VEL_ECEF 0x0204
+#define SBP_MSG_VEL_NED 0x0205
+#define SBP_MSG_DOPS 0x0206
+#define SBP_MSG_BASELINE_HEADING 0x0207
+#define SBP_MSG_LOG 0x0401
+#define SBP_MSG_STARTUP 0xFF00
+#define SBP_MSG_HEARTBEAT 0xFFFF
+
+/* Given to a writer for a sender, this (as any number above 65535) means that none is given: 0x42 is written. */
+#define SBP_NO_SENDER 0x10000
+
+/* Done; of sbp_next: a frame, the end, more bytes are needed; of sbp_feed: taken, and taken with an epoch ended. */
+#define SBP_OK 0
+#define SBP_FRAME 0
+#define SBP_END 1
+#define SBP_NEEDS 2
+#define SBP_TAKEN 0
+#define SBP_EPOCH 1
+
+/* Refusals. */
+#define SBP_TOO_LONG 11            /* a capture to be listed is over 65536 bytes */
+#define SBP_UNKNOWN_TYPE 21        /* the type has no such reading, writing or flag */
+#define SBP_WRONG_LENGTH 22        /* a payload's length, or a number of fields, is not the type's */
+#define SBP_OUT_OF_RANGE 23        /* a field is outside its range, or a number is none that its field can hold */
+#define SBP_NO_SUCH_OBSERVATION 25 /* the index is not below the number of observations */
+#define SBP_TOO_MUCH 31            /* a payload to write would be over 255 bytes, or have over 15 observations */
+#define SBP_NO_ROOM 32             /* lent memory is too short */
+#define SBP_PHASE_OUT_OF_RANGE 33  /* a carrier phase has no parts */
+#define SBP_WRONG_ROSTER 41        /* a roster is empty, or has over 8 senders */
+#define SBP_SENDER_TWICE 42        /* a roster has a sender twice */
+#define SBP_NOT_LISTED 43          /* the frame's sender is not on the roster */
+#define SBP_NO_PACKETS 44          /* the frame says that its epoch has 0 packets */
+#define SBP_WRONG_COUNTER 45       /* the frame's counter is not below its epoch's number of packets */
+#define SBP_NOT_OBS 46             /* the frame fed is not OBS */
+
+/* What sbp_fix answers. */
+#define SBP_FIX_SINGLE_POINT 0
+#define SBP_FIX_FLOAT 1
+#define SBP_FIX_FIXED 2
+#define SBP_FIX_RESERVED 3
+
+/* Bytes of the rows and of a collator's state. */
+#define SBP_FOUND 53
+#define SBP_TOTALS 32
+#define SBP_STATE 105
+#define SBP_REPORT 11
+
+/* The most of each: bytes of a payload, of a frame and of LOG's text, observations in a frame, senders on a roster. */
+#define SBP_PAYLOAD_MOST 255
+#define SBP_FRAME_MOST 263
+#define SBP_TEXT_MOST 254
+#define SBP_OBSERVATIONS_MOST 15
+#define SBP_ROSTER_MOST 8
+
+/* How many numbers sbp_read gives for each type, and how many at most. */
+#define SBP_BASE_POS_LLH_FIELDS 3
+#define SBP_BASE_POS_ECEF_FIELDS 3
+#define SBP_OBS_FIELDS 4
+#define SBP_SETTINGS_SAVE_FIELDS 0
+#define SBP_READ_BY_INDEX_REQ_FIELDS 1
+#define SBP_READ_BY_INDEX_DONE_FIELDS 0
+#define SBP_GPS_TIME_FIELDS 4
+#define SBP_POS_ECEF_FIELDS 7
+#define SBP_POS_LLH_FIELDS 8
+#define SBP_BASELINE_ECEF_FIELDS 7
+#define SBP_BASELINE_NED_FIELDS 8
+#define SBP_VEL_ECEF_FIELDS 7
+#define SBP_VEL_NED_FIELDS 8
+#define SBP_DOPS_FIELDS 6
+#define SBP_BASELINE_HEADING_FIELDS 4
+#define SBP_LOG_FIELDS 2
+#define SBP_STARTUP_FIELDS 1
+#define SBP_HEARTBEAT_FIELDS 1
+#define SBP_FIELDS_MOST 8
+
+/* Of OBS: the numbers of the header that sbp_write_obs takes, and those of one observation. */
+#define SBP_OBS_HEAD 3
+#define SBP_OBSERVATION_FIELDS 8
+
+/* ---- frames */
+
+/* The version of the library that is linked: 10000 * major + 100 * minor + patch. */
+uint32_t sbp_version(void);
+
+/* The CRC of n bytes, from a start of 0. A frame's is that of all between the 0x55 and the CRC.
  * The caller keeps: n bytes are at bytes. */
 uint16_t sbp_crc(const uint8_t *bytes, size_t n);
 
-/* What a payload of that type answers: 0, or 21 (type unknown), 22 (length), 23 (a field outside its range).
- * The caller keeps: n bytes are at payload. */
-uint8_t sbp_answer(uint16_t kind, const uint8_t *payload, size_t n);
-
-/* The next frame of a capture from a position on. In closed reading (opened false) the capture is complete; in open reading more may come.
- * 0: a frame; 1: the end; 2: more bytes are needed; 32: room is below SBP_FOUND. Otherwise found[0 .. SBP_FOUND] has the row of sbp_found.
+/* The next frame of a capture from a position on. Bytes other than 0x55 are passed over as junk; a 0x55 whose frame does not fit its CRC is
+ * passed over as bad, that byte alone, for a frame may begin in what follows. Where the capture ends before the frame does: in closed reading
+ * (opened false: the capture is complete) the byte is passed over as short, and in open reading (more may come) it stops and says how many
+ * bytes are needed.
+ * SBP_FRAME, SBP_END or SBP_NEEDS, and found[0 .. SBP_FOUND] has the row of sbp_found; or SBP_NO_ROOM: room is below SBP_FOUND.
  * The caller keeps: n bytes are at capture, and room bytes, that are no part of them, to write at found. at may be any number. */
-#define SBP_FOUND 53
 uint8_t sbp_next(const uint8_t *capture, size_t n, size_t at, bool opened, uint8_t *found, size_t room);
 
-/* The counts of a whole complete capture: 0, and counts[0 .. SBP_TOTALS] has the row of sbp_counts; 32: room is below SBP_TOTALS.
+/* The counts of a whole complete capture: SBP_OK, and counts[0 .. SBP_TOTALS] has the row of sbp_counts; or SBP_NO_ROOM: room is below
+ * SBP_TOTALS.
  * The caller keeps: n bytes are at capture, and room bytes, that are no part of them, to write at counts. */
-#define SBP_TOTALS 32
 uint8_t sbp_totals(const uint8_t *capture, size_t n, uint8_t *counts, size_t room);
 
-/* The listing of a capture of up to 65536 bytes, as sbplist prints it. 0, and its length in *size; or 11 (capture too long), 32 (no room).
- * 8 * n + 32 bytes have room for every listing.
+/* The listing of a capture of up to 65536 bytes, as the program sbplist prints it: SBP_OK, and its length in *size; or SBP_TOO_LONG,
+ * SBP_NO_ROOM. 8 * n + 32 bytes have room for every listing.
  * The caller keeps: n bytes are at capture, room bytes to write at text, and size points to an aligned uint64_t; none overlaps another. */
 uint8_t sbp_list(const uint8_t *capture, size_t n, uint8_t *text, size_t room, uint64_t *size);
 
-/* A fresh collator in SBP_STATE bytes, for a roster of n senders: 0, or 41 (none, or more than 8), 42 (a sender twice), 32 (no room).
+/* ---- messages read */
+
+/* What a payload of that type answers: SBP_OK, or SBP_UNKNOWN_TYPE, SBP_WRONG_LENGTH, SBP_OUT_OF_RANGE.
+ * The caller keeps: n bytes are at payload. */
+uint8_t sbp_answer(uint16_t kind, const uint8_t *payload, size_t n);
+
+/* A payload's fields: one number for each, in order, from row[0] on: unsigned ones as they are, signed ones with their sign extended to 64 bits,
+ * doubles as their bit pattern. OBS gives tow, wn, n_obs and the number of observations; LOG its level and the length of its text, which
+ * stands in the payload from its second byte on. The structs below have a function from a row.
+ * SBP_OK; or what sbp_answer answers, SBP_NO_ROOM: room is below the number of fields (SBP_FIELDS_MOST have room for every type).
+ * The caller keeps: n bytes are at payload, and room aligned uint64_t, that are no part of them, to write at row. */
+uint8_t sbp_read(uint16_t kind, const uint8_t *payload, size_t n, uint64_t *row, size_t room);
+
+/* One observation of an OBS payload, the first having index 0: SBP_OK, and SBP_OBSERVATION_FIELDS numbers from row[0] on; or SBP_UNKNOWN_TYPE:
+ * kind is not OBS, SBP_WRONG_LENGTH, SBP_NO_SUCH_OBSERVATION, SBP_NO_ROOM.
+ * The caller keeps: n bytes are at payload, and room aligned uint64_t, that are no part of them, to write at row. index may be any number. */
+uint8_t sbp_observation(uint16_t kind, const uint8_t *payload, size_t n, size_t index, uint64_t *row, size_t room);
+
+/* ---- what flags mean. kind is the type of the message that the flags stand in, for the tables differ. */
+
+/* SBP_FIX_SINGLE_POINT, SBP_FIX_FLOAT or SBP_FIX_FIXED by the message's own table, and SBP_FIX_RESERVED for a mode that its table leaves out;
+ * SBP_UNKNOWN_TYPE for another type than POS_ECEF, POS_LLH, BASELINE_ECEF, BASELINE_NED and BASELINE_HEADING. */
+uint8_t sbp_fix(uint16_t kind, uint8_t flags);
+
+/* RAIM, of the same types: whether it was available, and whether it repaired the solution: 0 or 1; or SBP_UNKNOWN_TYPE. */
+uint8_t sbp_raim_available(uint16_t kind, uint8_t flags);
+uint8_t sbp_raim_repaired(uint16_t kind, uint8_t flags);
+
+/* Of POS_LLH: 1 where its height is above mean sea level, 0 where it is above the ellipsoid; SBP_UNKNOWN_TYPE for another type. */
+uint8_t sbp_above_sea(uint16_t kind, uint8_t flags);
+
+/* Of HEARTBEAT. */
+bool sbp_system_error(uint32_t flags);
+bool sbp_io_error(uint32_t flags);
+bool sbp_nap_error(uint32_t flags);
+bool sbp_external_antenna(uint32_t flags);
+
+/* The carrier phase of an observation in 1/256 cycle, from whole cycles and the part above them. */
+int64_t sbp_carrier_phase(int32_t l_i, uint8_t l_f);
+
+/* The one pair of parts of a carrier phase: SBP_OK and *l_i, *l_f; or SBP_PHASE_OUT_OF_RANGE: outside -549755813888 .. 549755813887.
+ * The caller keeps: l_i points to an aligned int32_t and l_f to a byte that is no part of it. */
+uint8_t sbp_phase_parts(int64_t phase, int32_t *l_i, uint8_t *l_f);
+
+/* ---- frames written, from out[0] on; what stands after the frame is left as it was. SBP_FRAME_MOST bytes have room for every frame. */
+
+/* A message that has neither text nor observations, from a row as sbp_read gives it: SBP_OK, and the frame's length in *size; or
+ * SBP_UNKNOWN_TYPE: no such type, or OBS or LOG, SBP_WRONG_LENGTH: fields is not the type's number of fields, SBP_OUT_OF_RANGE, SBP_NO_ROOM.
+ * Ranges: GPS_TIME's ns from -500000 to 500000; the low three bits of flags at most 2 in POS_ECEF and POS_LLH, at most 1 in BASELINE_ECEF,
+ * BASELINE_NED and BASELINE_HEADING. Other fields take all that they can hold.
+ * The caller keeps: room bytes to write are at out, fields aligned uint64_t at row, and size points to an aligned uint64_t; none overlaps
+ * another. */
+uint8_t sbp_write(uint8_t *out, size_t room, uint16_t kind, uint32_t sender, const uint64_t *row, size_t fields, uint64_t *size);
+
+/* OBS: tow, wn and n_obs at head (fields is SBP_OBS_HEAD), and at rows SBP_OBSERVATION_FIELDS numbers for each observation (numbers counts them
+ * all): SBP_OK, and the frame's length in *size; or SBP_UNKNOWN_TYPE: kind is not OBS, SBP_WRONG_LENGTH: one of the two counts,
+ * SBP_OUT_OF_RANGE, SBP_TOO_MUCH: over 15 observations, SBP_NO_ROOM.
+ * The caller keeps: room bytes to write are at out, so many aligned uint64_t at head and rows, and size points to an aligned uint64_t; what is
+ * written overlaps nothing else. */
+uint8_t sbp_write_obs(uint8_t *out, size_t room, uint16_t kind, uint32_t sender, const uint64_t *head, size_t fields, const uint64_t *rows,
+                      size_t numbers, uint64_t *size);
+
+/* LOG with n bytes of text: SBP_OK, and the frame's length in *size; or SBP_TOO_MUCH: n is over SBP_TEXT_MOST, SBP_NO_ROOM.
+ * The caller keeps: room bytes to write are at out, n bytes at text, and size points to an aligned uint64_t; none overlaps another. */
+uint8_t sbp_write_log(uint8_t *out, size_t room, uint32_t sender, uint8_t level, const uint8_t *text, size_t n, uint64_t *size);
+
+/* A frame of any type with any payload: SBP_OK, and the frame's length in *size; or SBP_TOO_MUCH: n is over SBP_PAYLOAD_MOST, SBP_NO_ROOM.
+ * The caller keeps: room bytes to write are at out, n bytes at payload, and size points to an aligned uint64_t; none overlaps another. */
+uint8_t sbp_write_frame(uint8_t *out, size_t room, uint16_t kind, uint32_t sender, const uint8_t *payload, size_t n, uint64_t *size);
+
+/* ---- epochs. The upper four bits of n_obs are the number n of an epoch's packets, the lower four a packet's counter i. An epoch of a sender is a
+ * run of n packets, with nothing but frames of other senders, of other types or refused ones between them, all with the same tow, wn and n,
+ * and with counters 0, 1, .. n - 1. Every number is an ordinary sender, 0 too, and no sender's packets count for another. */
+
+/* A fresh collator in SBP_STATE bytes, for a roster of n senders: SBP_OK; or SBP_WRONG_ROSTER, SBP_SENDER_TWICE, SBP_NO_ROOM.
  * The caller keeps: room bytes to write are at state, and n aligned uint16_t, that are no part of them, at roster. */
-#define SBP_STATE 105
 uint8_t sbp_collator(uint8_t *state, size_t room, const uint16_t *roster, size_t n);
 
-/* A frame fed to a collator. 0: taken; 1: it ended an epoch, and report[0 .. SBP_REPORT] has the row of sbp_report; or 32 (state or report
- * too short), 46 (not OBS), 22 (length), 43 (sender not listed), 44 (n is 0), 45 (counter not below n), and the state is as it was.
+/* A fresh collator in SBP_STATE bytes that lists nobody, for a roster that takes senders as they come (sbp_enlist): SBP_OK; or SBP_NO_ROOM.
+ * The caller keeps: room bytes to write are at state. */
+uint8_t sbp_growing(uint8_t *state, size_t room);
+
+/* To be called before sbp_feed with the same frame: where it is of type OBS, its sender is listed if it is not yet and fewer than
+ * SBP_ROSTER_MOST are. A ninth sender is not, and sbp_feed answers SBP_NOT_LISTED for it. SBP_OK; or SBP_NO_ROOM.
+ * The caller keeps: room bytes to read and write are at state. */
+uint8_t sbp_enlist(uint8_t *state, size_t room, uint16_t kind, uint16_t sender);
+
+/* A frame fed to a collator: SBP_TAKEN; or SBP_EPOCH: it ended an epoch, and report[0 .. SBP_REPORT] has the row of sbp_report; or SBP_NO_ROOM
+ * (state or report too short), SBP_NOT_OBS, SBP_WRONG_LENGTH, SBP_NOT_LISTED, SBP_NO_PACKETS, SBP_WRONG_COUNTER.
  * The caller keeps: room bytes to read and write are at state, n bytes at payload, report_room bytes to write at report; none overlaps another. */
-#define SBP_REPORT 11
 uint8_t sbp_feed(uint8_t *state, size_t room, uint16_t kind, uint16_t sender, const uint8_t *payload, size_t n, uint8_t *report, size_t report_room);
 
-/* ---- the rows, little-endian, as structs */
+/* ---- the rows of bytes, little-endian, as structs: X_of is made of a row */
 
 /* Where a frame stands or, with no frame, the reading; where to go on; the bytes needed from there; the bytes passed over on the way, for each
  * reason; the frame's type, sender and payload length. Its payload starts at at + 6. */
@@ -66,6 +259,7 @@ struct sbp_counts {
     uint64_t framed, junk, bad, short_;
 };
 
+/* An epoch: its sender, week and time of week in ms, and how many packets and observations it has. */
 struct sbp_report {
     uint16_t sender, wn;
     uint32_t tow;
@@ -73,6 +267,7 @@ struct sbp_report {
     uint16_t observations;
 };
 
+/* The number in n bytes, at most 8. */
 static inline uint64_t sbp_number(const uint8_t *bytes, unsigned n) {
     uint64_t value = 0;
     for (unsigned i = n; i > 0; i--) {
@@ -82,23 +277,388 @@ static inline uint64_t sbp_number(const uint8_t *bytes, unsigned n) {
 }
 
 static inline struct sbp_found sbp_found_of(const uint8_t row[SBP_FOUND]) {
-    struct sbp_found f = {
-        sbp_number(row, 8), sbp_number(row + 8, 8), sbp_number(row + 16, 8), sbp_number(row + 24, 8), sbp_number(row + 32, 8), sbp_number(row + 40, 8),
+    const struct sbp_found f = {
+        sbp_number(row, 8), sbp_number(row + 8, 8), sbp_number(row + 16, 8),
+        sbp_number(row + 24, 8), sbp_number(row + 32, 8), sbp_number(row + 40, 8),
         (uint16_t)sbp_number(row + 48, 2), (uint16_t)sbp_number(row + 50, 2), row[52],
     };
     return f;
 }
 
 static inline struct sbp_counts sbp_counts_of(const uint8_t row[SBP_TOTALS]) {
-    struct sbp_counts c = {sbp_number(row, 8), sbp_number(row + 8, 8), sbp_number(row + 16, 8), sbp_number(row + 24, 8)};
+    const struct sbp_counts c = {sbp_number(row, 8), sbp_number(row + 8, 8), sbp_number(row + 16, 8), sbp_number(row + 24, 8)};
     return c;
 }
 
 static inline struct sbp_report sbp_report_of(const uint8_t row[SBP_REPORT]) {
-    struct sbp_report r = {
+    const struct sbp_report r = {
         (uint16_t)sbp_number(row, 2), (uint16_t)sbp_number(row + 2, 2), (uint32_t)sbp_number(row + 4, 4), row[8], (uint16_t)sbp_number(row + 9, 2),
     };
     return r;
+}
+
+/* A refusal's name without SBP_, as "OUT_OF_RANGE"; "" for a number that is none. */
+static inline const char *sbp_refusal_name(uint8_t number) {
+    switch (number) {
+    case SBP_TOO_LONG: return "TOO_LONG";
+    case SBP_UNKNOWN_TYPE: return "UNKNOWN_TYPE";
+    case SBP_WRONG_LENGTH: return "WRONG_LENGTH";
+    case SBP_OUT_OF_RANGE: return "OUT_OF_RANGE";
+    case SBP_NO_SUCH_OBSERVATION: return "NO_SUCH_OBSERVATION";
+    case SBP_TOO_MUCH: return "TOO_MUCH";
+    case SBP_NO_ROOM: return "NO_ROOM";
+    case SBP_PHASE_OUT_OF_RANGE: return "PHASE_OUT_OF_RANGE";
+    case SBP_WRONG_ROSTER: return "WRONG_ROSTER";
+    case SBP_SENDER_TWICE: return "SENDER_TWICE";
+    case SBP_NOT_LISTED: return "NOT_LISTED";
+    case SBP_NO_PACKETS: return "NO_PACKETS";
+    case SBP_WRONG_COUNTER: return "WRONG_COUNTER";
+    case SBP_NOT_OBS: return "NOT_OBS";
+    default: return "";
+    }
+}
+
+/* ---- messages as structs: X_of is made of a row that sbp_read gave, X_row makes a row for sbp_write. tow is in ms of the GPS week wn. */
+
+/* A signed field's number in a row, and back. */
+static inline uint64_t sbp_extended(int32_t value) {
+    return (uint64_t)(int64_t)value;
+}
+
+static inline int32_t sbp_signed(uint64_t number) {
+    const uint32_t bits = (uint32_t)number;
+    int32_t value;
+    memcpy(&value, &bits, sizeof value);
+    return value;
+}
+
+/* A double's number in a row, and back: its bits, so that NaN patterns and minus zero stay. */
+static inline uint64_t sbp_bits(double value) {
+    uint64_t bits;
+    memcpy(&bits, &value, sizeof bits);
+    return bits;
+}
+
+static inline double sbp_double(uint64_t bits) {
+    double value;
+    memcpy(&value, &bits, sizeof value);
+    return value;
+}
+
+/* ns is what tow was rounded by. */
+struct sbp_gps_time {
+    uint16_t wn;
+    uint32_t tow;
+    int32_t ns;
+    uint8_t flags;
+};
+
+static inline struct sbp_gps_time sbp_gps_time_of(const uint64_t row[SBP_GPS_TIME_FIELDS]) {
+    const struct sbp_gps_time m = {(uint16_t)row[0], (uint32_t)row[1], sbp_signed(row[2]), (uint8_t)row[3]};
+    return m;
+}
+
+static inline void sbp_gps_time_row(const struct sbp_gps_time *m, uint64_t row[SBP_GPS_TIME_FIELDS]) {
+    const uint64_t fields[SBP_GPS_TIME_FIELDS] = {m->wn, m->tow, sbp_extended(m->ns), m->flags};
+    memcpy(row, fields, sizeof fields);
+}
+
+/* Dilution of precision in hundredths: geometric, of position, time, horizontal, vertical. */
+struct sbp_dops {
+    uint32_t tow;
+    uint16_t gdop, pdop, tdop, hdop, vdop;
+};
+
+static inline struct sbp_dops sbp_dops_of(const uint64_t row[SBP_DOPS_FIELDS]) {
+    const struct sbp_dops m = {(uint32_t)row[0], (uint16_t)row[1], (uint16_t)row[2], (uint16_t)row[3], (uint16_t)row[4], (uint16_t)row[5]};
+    return m;
+}
+
+static inline void sbp_dops_row(const struct sbp_dops *m, uint64_t row[SBP_DOPS_FIELDS]) {
+    const uint64_t fields[SBP_DOPS_FIELDS] = {m->tow, m->gdop, m->pdop, m->tdop, m->hdop, m->vdop};
+    memcpy(row, fields, sizeof fields);
+}
+
+/* x, y and z in m, accuracy in mm. */
+struct sbp_pos_ecef {
+    uint32_t tow;
+    double x, y, z;
+    uint16_t accuracy;
+    uint8_t n_sats, flags;
+};
+
+static inline struct sbp_pos_ecef sbp_pos_ecef_of(const uint64_t row[SBP_POS_ECEF_FIELDS]) {
+    const struct sbp_pos_ecef m = {
+        (uint32_t)row[0], sbp_double(row[1]), sbp_double(row[2]), sbp_double(row[3]), (uint16_t)row[4], (uint8_t)row[5], (uint8_t)row[6],
+    };
+    return m;
+}
+
+static inline void sbp_pos_ecef_row(const struct sbp_pos_ecef *m, uint64_t row[SBP_POS_ECEF_FIELDS]) {
+    const uint64_t fields[SBP_POS_ECEF_FIELDS] = {m->tow, sbp_bits(m->x), sbp_bits(m->y), sbp_bits(m->z), m->accuracy, m->n_sats, m->flags};
+    memcpy(row, fields, sizeof fields);
+}
+
+/* lat and lon in degrees, height in m, the accuracies in mm. */
+struct sbp_pos_llh {
+    uint32_t tow;
+    double lat, lon, height;
+    uint16_t h_accuracy, v_accuracy;
+    uint8_t n_sats, flags;
+};
+
+static inline struct sbp_pos_llh sbp_pos_llh_of(const uint64_t row[SBP_POS_LLH_FIELDS]) {
+    const struct sbp_pos_llh m = {
+        (uint32_t)row[0], sbp_double(row[1]), sbp_double(row[2]), sbp_double(row[3]),
+        (uint16_t)row[4], (uint16_t)row[5], (uint8_t)row[6], (uint8_t)row[7],
+    };
+    return m;
+}
+
+static inline void sbp_pos_llh_row(const struct sbp_pos_llh *m, uint64_t row[SBP_POS_LLH_FIELDS]) {
+    const uint64_t fields[SBP_POS_LLH_FIELDS] = {
+        m->tow, sbp_bits(m->lat), sbp_bits(m->lon), sbp_bits(m->height), m->h_accuracy, m->v_accuracy, m->n_sats, m->flags,
+    };
+    memcpy(row, fields, sizeof fields);
+}
+
+/* From the base to the rover: x, y, z and accuracy in mm. */
+struct sbp_baseline_ecef {
+    uint32_t tow;
+    int32_t x, y, z;
+    uint16_t accuracy;
+    uint8_t n_sats, flags;
+};
+
+static inline struct sbp_baseline_ecef sbp_baseline_ecef_of(const uint64_t row[SBP_BASELINE_ECEF_FIELDS]) {
+    const struct sbp_baseline_ecef m = {
+        (uint32_t)row[0], sbp_signed(row[1]), sbp_signed(row[2]), sbp_signed(row[3]), (uint16_t)row[4], (uint8_t)row[5], (uint8_t)row[6],
+    };
+    return m;
+}
+
+static inline void sbp_baseline_ecef_row(const struct sbp_baseline_ecef *m, uint64_t row[SBP_BASELINE_ECEF_FIELDS]) {
+    const uint64_t fields[SBP_BASELINE_ECEF_FIELDS] = {
+        m->tow, sbp_extended(m->x), sbp_extended(m->y), sbp_extended(m->z), m->accuracy, m->n_sats, m->flags,
+    };
+    memcpy(row, fields, sizeof fields);
+}
+
+/* In mm/s. */
+struct sbp_vel_ecef {
+    uint32_t tow;
+    int32_t x, y, z;
+    uint16_t accuracy;
+    uint8_t n_sats, flags;
+};
+
+static inline struct sbp_vel_ecef sbp_vel_ecef_of(const uint64_t row[SBP_VEL_ECEF_FIELDS]) {
+    const struct sbp_vel_ecef m = {
+        (uint32_t)row[0], sbp_signed(row[1]), sbp_signed(row[2]), sbp_signed(row[3]), (uint16_t)row[4], (uint8_t)row[5], (uint8_t)row[6],
+    };
+    return m;
+}
+
+static inline void sbp_vel_ecef_row(const struct sbp_vel_ecef *m, uint64_t row[SBP_VEL_ECEF_FIELDS]) {
+    const uint64_t fields[SBP_VEL_ECEF_FIELDS] = {
+        m->tow, sbp_extended(m->x), sbp_extended(m->y), sbp_extended(m->z), m->accuracy, m->n_sats, m->flags,
+    };
+    memcpy(row, fields, sizeof fields);
+}
+
+/* From the base to the rover: north, east, down and the accuracies in mm. */
+struct sbp_baseline_ned {
+    uint32_t tow;
+    int32_t n, e, d;
+    uint16_t h_accuracy, v_accuracy;
+    uint8_t n_sats, flags;
+};
+
+static inline struct sbp_baseline_ned sbp_baseline_ned_of(const uint64_t row[SBP_BASELINE_NED_FIELDS]) {
+    const struct sbp_baseline_ned m = {
+        (uint32_t)row[0], sbp_signed(row[1]), sbp_signed(row[2]), sbp_signed(row[3]),
+        (uint16_t)row[4], (uint16_t)row[5], (uint8_t)row[6], (uint8_t)row[7],
+    };
+    return m;
+}
+
+static inline void sbp_baseline_ned_row(const struct sbp_baseline_ned *m, uint64_t row[SBP_BASELINE_NED_FIELDS]) {
+    const uint64_t fields[SBP_BASELINE_NED_FIELDS] = {
+        m->tow, sbp_extended(m->n), sbp_extended(m->e), sbp_extended(m->d), m->h_accuracy, m->v_accuracy, m->n_sats, m->flags,
+    };
+    memcpy(row, fields, sizeof fields);
+}
+
+/* In mm/s. */
+struct sbp_vel_ned {
+    uint32_t tow;
+    int32_t n, e, d;
+    uint16_t h_accuracy, v_accuracy;
+    uint8_t n_sats, flags;
+};
+
+static inline struct sbp_vel_ned sbp_vel_ned_of(const uint64_t row[SBP_VEL_NED_FIELDS]) {
+    const struct sbp_vel_ned m = {
+        (uint32_t)row[0], sbp_signed(row[1]), sbp_signed(row[2]), sbp_signed(row[3]),
+        (uint16_t)row[4], (uint16_t)row[5], (uint8_t)row[6], (uint8_t)row[7],
+    };
+    return m;
+}
+
+static inline void sbp_vel_ned_row(const struct sbp_vel_ned *m, uint64_t row[SBP_VEL_NED_FIELDS]) {
+    const uint64_t fields[SBP_VEL_NED_FIELDS] = {
+        m->tow, sbp_extended(m->n), sbp_extended(m->e), sbp_extended(m->d), m->h_accuracy, m->v_accuracy, m->n_sats, m->flags,
+    };
+    memcpy(row, fields, sizeof fields);
+}
+
+/* heading in 1/1000 degree from true north. */
+struct sbp_baseline_heading {
+    uint32_t tow, heading;
+    uint8_t n_sats, flags;
+};
+
+static inline struct sbp_baseline_heading sbp_baseline_heading_of(const uint64_t row[SBP_BASELINE_HEADING_FIELDS]) {
+    const struct sbp_baseline_heading m = {(uint32_t)row[0], (uint32_t)row[1], (uint8_t)row[2], (uint8_t)row[3]};
+    return m;
+}
+
+static inline void sbp_baseline_heading_row(const struct sbp_baseline_heading *m, uint64_t row[SBP_BASELINE_HEADING_FIELDS]) {
+    const uint64_t fields[SBP_BASELINE_HEADING_FIELDS] = {m->tow, m->heading, m->n_sats, m->flags};
+    memcpy(row, fields, sizeof fields);
+}
+
+/* In degrees and m. */
+struct sbp_base_pos_llh {
+    double lat, lon, height;
+};
+
+static inline struct sbp_base_pos_llh sbp_base_pos_llh_of(const uint64_t row[SBP_BASE_POS_LLH_FIELDS]) {
+    const struct sbp_base_pos_llh m = {sbp_double(row[0]), sbp_double(row[1]), sbp_double(row[2])};
+    return m;
+}
+
+static inline void sbp_base_pos_llh_row(const struct sbp_base_pos_llh *m, uint64_t row[SBP_BASE_POS_LLH_FIELDS]) {
+    const uint64_t fields[SBP_BASE_POS_LLH_FIELDS] = {sbp_bits(m->lat), sbp_bits(m->lon), sbp_bits(m->height)};
+    memcpy(row, fields, sizeof fields);
+}
+
+/* In m. */
+struct sbp_base_pos_ecef {
+    double x, y, z;
+};
+
+static inline struct sbp_base_pos_ecef sbp_base_pos_ecef_of(const uint64_t row[SBP_BASE_POS_ECEF_FIELDS]) {
+    const struct sbp_base_pos_ecef m = {sbp_double(row[0]), sbp_double(row[1]), sbp_double(row[2])};
+    return m;
+}
+
+static inline void sbp_base_pos_ecef_row(const struct sbp_base_pos_ecef *m, uint64_t row[SBP_BASE_POS_ECEF_FIELDS]) {
+    const uint64_t fields[SBP_BASE_POS_ECEF_FIELDS] = {sbp_bits(m->x), sbp_bits(m->y), sbp_bits(m->z)};
+    memcpy(row, fields, sizeof fields);
+}
+
+/* OBS's header, and the number k of its observations, which sbp_read gives. The first SBP_OBS_HEAD numbers of its row are sbp_write_obs's head. */
+struct sbp_obs {
+    uint32_t tow;
+    uint16_t wn;
+    uint8_t n_obs, k;
+};
+
+static inline struct sbp_obs sbp_obs_of(const uint64_t row[SBP_OBS_FIELDS]) {
+    const struct sbp_obs m = {(uint32_t)row[0], (uint16_t)row[1], (uint8_t)row[2], (uint8_t)row[3]};
+    return m;
+}
+
+static inline void sbp_obs_row(const struct sbp_obs *m, uint64_t row[SBP_OBS_FIELDS]) {
+    const uint64_t fields[SBP_OBS_FIELDS] = {m->tow, m->wn, m->n_obs, m->k};
+    memcpy(row, fields, sizeof fields);
+}
+
+/* One observation, of sbp_observation and for sbp_write_obs: pseudorange P in 2 cm, carrier phase L in cycles and 1/256 cycle, cn0 in 1/4 dB Hz;
+ * lock changes where the satellite was lost in between; sid is the satellite and its signal. */
+struct sbp_observation_row {
+    uint32_t P;
+    struct {
+        int32_t i;
+        uint8_t f;
+    } L;
+    uint8_t cn0;
+    uint16_t lock;
+    struct {
+        uint16_t sat;
+        uint8_t code, reserved;
+    } sid;
+};
+
+static inline struct sbp_observation_row sbp_observation_row_of(const uint64_t row[SBP_OBSERVATION_FIELDS]) {
+    const struct sbp_observation_row m = {
+        (uint32_t)row[0], {sbp_signed(row[1]), (uint8_t)row[2]}, (uint8_t)row[3], (uint16_t)row[4],
+        {(uint16_t)row[5], (uint8_t)row[6], (uint8_t)row[7]},
+    };
+    return m;
+}
+
+static inline void sbp_observation_row_row(const struct sbp_observation_row *m, uint64_t row[SBP_OBSERVATION_FIELDS]) {
+    const uint64_t fields[SBP_OBSERVATION_FIELDS] = {
+        m->P, sbp_extended(m->L.i), m->L.f, m->cn0, m->lock, m->sid.sat, m->sid.code, m->sid.reserved,
+    };
+    memcpy(row, fields, sizeof fields);
+}
+
+/* LOG's level (0 emergency, 1 alert, 2 critical, 3 error, 4 warning, 5 notice, 6 info, 7 debug) and the length of its text. */
+struct sbp_log {
+    uint8_t level, length;
+};
+
+static inline struct sbp_log sbp_log_of(const uint64_t row[SBP_LOG_FIELDS]) {
+    const struct sbp_log m = {(uint8_t)row[0], (uint8_t)row[1]};
+    return m;
+}
+
+static inline void sbp_log_row(const struct sbp_log *m, uint64_t row[SBP_LOG_FIELDS]) {
+    const uint64_t fields[SBP_LOG_FIELDS] = {m->level, m->length};
+    memcpy(row, fields, sizeof fields);
+}
+
+struct sbp_read_by_index_req {
+    uint16_t index;
+};
+
+static inline struct sbp_read_by_index_req sbp_read_by_index_req_of(const uint64_t row[SBP_READ_BY_INDEX_REQ_FIELDS]) {
+    const struct sbp_read_by_index_req m = {(uint16_t)row[0]};
+    return m;
+}
+
+static inline void sbp_read_by_index_req_row(const struct sbp_read_by_index_req *m, uint64_t row[SBP_READ_BY_INDEX_REQ_FIELDS]) {
+    row[0] = m->index;
+}
+
+struct sbp_startup {
+    uint32_t reserved;
+};
+
+static inline struct sbp_startup sbp_startup_of(const uint64_t row[SBP_STARTUP_FIELDS]) {
+    const struct sbp_startup m = {(uint32_t)row[0]};
+    return m;
+}
+
+static inline void sbp_startup_row(const struct sbp_startup *m, uint64_t row[SBP_STARTUP_FIELDS]) {
+    row[0] = m->reserved;
+}
+
+/* flags: sbp_system_error and the three after it say what they mean. */
+struct sbp_heartbeat {
+    uint32_t flags;
+};
+
+static inline struct sbp_heartbeat sbp_heartbeat_of(const uint64_t row[SBP_HEARTBEAT_FIELDS]) {
+    const struct sbp_heartbeat m = {(uint32_t)row[0]};
+    return m;
+}
+
+static inline void sbp_heartbeat_row(const struct sbp_heartbeat *m, uint64_t row[SBP_HEARTBEAT_FIELDS]) {
+    row[0] = m->flags;
 }
 
 #ifdef __cplusplus

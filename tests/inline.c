@@ -1,0 +1,492 @@
+/* Calls every inline function of sbp.h and looks at every name in it. What is not as it should be is a line 'differs: ..'; the last line is
+ * 'N passed, M failed'. No two bytes of a row are alike, so that a field from another place, of another width or without its sign shows.
+ * usage: inline (tests/header.sh builds and runs it) */
+#include <inttypes.h>
+#include <stdio.h>
+
+#include "sbp.h"
+
+static unsigned passed, failed;
+
+static void same(const char *where, const char *what, uint64_t got, uint64_t wanted) {
+    if (got == wanted) {
+        passed++;
+    } else {
+        failed++;
+        printf("differs: %s: %s is 0x%" PRIx64 ", not 0x%" PRIx64 "\n", where, what, got, wanted);
+    }
+}
+
+#define SAME(what, got, wanted) same(__func__, what, got, wanted)
+
+/* ---- messages */
+
+/* Bytes that begin a double's number: a NaN that is not quiet, negative by its sign bit. A processor that moves it as a number makes it quiet. */
+#define NAN_TOP 0xFFF4000000000000
+
+enum pattern { NEGATIVE, POSITIVE, NANS };
+
+/* The number of a field of so many bytes, the bytes counting up from first. POSITIVE has all bits the other way. */
+static uint64_t patterned(enum pattern pattern, unsigned first, unsigned size) {
+    uint64_t value = 0;
+    for (unsigned i = 0; i < size; i++) {
+        value |= (uint64_t)(first + i) << 8 * i;
+    }
+    return pattern == POSITIVE ? ~value & UINT64_MAX >> (64 - 8 * size) : value;
+}
+
+/* A row by its fields' formats: B, H and I unsigned of 1, 2 and 4 bytes, i signed of 4, d a double. */
+static void fill(uint64_t *row, const char *formats, enum pattern pattern) {
+    unsigned first = 0x81;
+    for (size_t i = 0; formats[i] != '\0'; i++) {
+        const unsigned size = formats[i] == 'B' ? 1 : formats[i] == 'H' ? 2 : formats[i] == 'd' ? 8 : 4;
+        row[i] = patterned(pattern, first, size);
+        if (formats[i] == 'i' && pattern != POSITIVE) {
+            row[i] |= 0xFFFFFFFF00000000;
+        }
+        if (formats[i] == 'd' && pattern == NANS) {
+            row[i] = NAN_TOP | (row[i] & 0x0000FFFFFFFFFFFF);
+        }
+        first += size;
+    }
+}
+
+static uint64_t bits(double value) {
+    uint64_t number;
+    memcpy(&number, &value, sizeof number);
+    return number;
+}
+
+/* A field has the number of its place in the row, and its format's size. A conversion to uint64_t extends the sign of a signed one. */
+#define HELD(field, got, wanted, size) (SAME(#field, got, wanted), SAME("sizeof " #field, sizeof(field), size))
+#define U8(field, wanted) HELD(field, (uint64_t)(field), wanted, 1)
+#define U16(field, wanted) HELD(field, (uint64_t)(field), wanted, 2)
+#define U32(field, wanted) HELD(field, (uint64_t)(field), wanted, 4)
+#define S32(field, wanted) HELD(field, (uint64_t)(field), wanted, 4)
+#define F64(field, wanted) HELD(field, bits(field), wanted, 8)
+
+/* The struct m makes the row again, and nothing after it. */
+#define BACK(name, count)                                        \
+    do {                                                         \
+        uint64_t back[(count) + 1];                              \
+        memset(back, 0xEE, sizeof back);                         \
+        name##_row(&m, back);                                    \
+        for (size_t i = 0; i < (count); i++) {                   \
+            SAME("a number of its row", back[i], row[i]);        \
+        }                                                        \
+        SAME("after its row", back[count], 0xEEEEEEEEEEEEEEEE);  \
+    } while (0)
+
+static void gps_time(const uint64_t *row) {
+    const struct sbp_gps_time m = sbp_gps_time_of(row);
+    U16(m.wn, row[0]);
+    U32(m.tow, row[1]);
+    S32(m.ns, row[2]);
+    U8(m.flags, row[3]);
+    BACK(sbp_gps_time, 4);
+}
+
+static void dops(const uint64_t *row) {
+    const struct sbp_dops m = sbp_dops_of(row);
+    U32(m.tow, row[0]);
+    U16(m.gdop, row[1]);
+    U16(m.pdop, row[2]);
+    U16(m.tdop, row[3]);
+    U16(m.hdop, row[4]);
+    U16(m.vdop, row[5]);
+    BACK(sbp_dops, 6);
+}
+
+static void pos_ecef(const uint64_t *row) {
+    const struct sbp_pos_ecef m = sbp_pos_ecef_of(row);
+    U32(m.tow, row[0]);
+    F64(m.x, row[1]);
+    F64(m.y, row[2]);
+    F64(m.z, row[3]);
+    U16(m.accuracy, row[4]);
+    U8(m.n_sats, row[5]);
+    U8(m.flags, row[6]);
+    BACK(sbp_pos_ecef, 7);
+}
+
+static void pos_llh(const uint64_t *row) {
+    const struct sbp_pos_llh m = sbp_pos_llh_of(row);
+    U32(m.tow, row[0]);
+    F64(m.lat, row[1]);
+    F64(m.lon, row[2]);
+    F64(m.height, row[3]);
+    U16(m.h_accuracy, row[4]);
+    U16(m.v_accuracy, row[5]);
+    U8(m.n_sats, row[6]);
+    U8(m.flags, row[7]);
+    BACK(sbp_pos_llh, 8);
+}
+
+static void baseline_ecef(const uint64_t *row) {
+    const struct sbp_baseline_ecef m = sbp_baseline_ecef_of(row);
+    U32(m.tow, row[0]);
+    S32(m.x, row[1]);
+    S32(m.y, row[2]);
+    S32(m.z, row[3]);
+    U16(m.accuracy, row[4]);
+    U8(m.n_sats, row[5]);
+    U8(m.flags, row[6]);
+    BACK(sbp_baseline_ecef, 7);
+}
+
+static void vel_ecef(const uint64_t *row) {
+    const struct sbp_vel_ecef m = sbp_vel_ecef_of(row);
+    U32(m.tow, row[0]);
+    S32(m.x, row[1]);
+    S32(m.y, row[2]);
+    S32(m.z, row[3]);
+    U16(m.accuracy, row[4]);
+    U8(m.n_sats, row[5]);
+    U8(m.flags, row[6]);
+    BACK(sbp_vel_ecef, 7);
+}
+
+static void baseline_ned(const uint64_t *row) {
+    const struct sbp_baseline_ned m = sbp_baseline_ned_of(row);
+    U32(m.tow, row[0]);
+    S32(m.n, row[1]);
+    S32(m.e, row[2]);
+    S32(m.d, row[3]);
+    U16(m.h_accuracy, row[4]);
+    U16(m.v_accuracy, row[5]);
+    U8(m.n_sats, row[6]);
+    U8(m.flags, row[7]);
+    BACK(sbp_baseline_ned, 8);
+}
+
+static void vel_ned(const uint64_t *row) {
+    const struct sbp_vel_ned m = sbp_vel_ned_of(row);
+    U32(m.tow, row[0]);
+    S32(m.n, row[1]);
+    S32(m.e, row[2]);
+    S32(m.d, row[3]);
+    U16(m.h_accuracy, row[4]);
+    U16(m.v_accuracy, row[5]);
+    U8(m.n_sats, row[6]);
+    U8(m.flags, row[7]);
+    BACK(sbp_vel_ned, 8);
+}
+
+static void baseline_heading(const uint64_t *row) {
+    const struct sbp_baseline_heading m = sbp_baseline_heading_of(row);
+    U32(m.tow, row[0]);
+    U32(m.heading, row[1]);
+    U8(m.n_sats, row[2]);
+    U8(m.flags, row[3]);
+    BACK(sbp_baseline_heading, 4);
+}
+
+static void base_pos_llh(const uint64_t *row) {
+    const struct sbp_base_pos_llh m = sbp_base_pos_llh_of(row);
+    F64(m.lat, row[0]);
+    F64(m.lon, row[1]);
+    F64(m.height, row[2]);
+    BACK(sbp_base_pos_llh, 3);
+}
+
+static void base_pos_ecef(const uint64_t *row) {
+    const struct sbp_base_pos_ecef m = sbp_base_pos_ecef_of(row);
+    F64(m.x, row[0]);
+    F64(m.y, row[1]);
+    F64(m.z, row[2]);
+    BACK(sbp_base_pos_ecef, 3);
+}
+
+static void obs(const uint64_t *row) {
+    const struct sbp_obs m = sbp_obs_of(row);
+    U32(m.tow, row[0]);
+    U16(m.wn, row[1]);
+    U8(m.n_obs, row[2]);
+    U8(m.k, row[3]);
+    BACK(sbp_obs, 4);
+}
+
+static void observation_row(const uint64_t *row) {
+    const struct sbp_observation_row m = sbp_observation_row_of(row);
+    U32(m.P, row[0]);
+    S32(m.L.i, row[1]);
+    U8(m.L.f, row[2]);
+    U8(m.cn0, row[3]);
+    U16(m.lock, row[4]);
+    U16(m.sid.sat, row[5]);
+    U8(m.sid.code, row[6]);
+    U8(m.sid.reserved, row[7]);
+    BACK(sbp_observation_row, 8);
+}
+
+static void log_(const uint64_t *row) {
+    const struct sbp_log m = sbp_log_of(row);
+    U8(m.level, row[0]);
+    U8(m.length, row[1]);
+    BACK(sbp_log, 2);
+}
+
+static void read_by_index_req(const uint64_t *row) {
+    const struct sbp_read_by_index_req m = sbp_read_by_index_req_of(row);
+    U16(m.index, row[0]);
+    BACK(sbp_read_by_index_req, 1);
+}
+
+static void startup(const uint64_t *row) {
+    const struct sbp_startup m = sbp_startup_of(row);
+    U32(m.reserved, row[0]);
+    BACK(sbp_startup, 1);
+}
+
+static void heartbeat(const uint64_t *row) {
+    const struct sbp_heartbeat m = sbp_heartbeat_of(row);
+    U32(m.flags, row[0]);
+    BACK(sbp_heartbeat, 1);
+}
+
+static const struct {
+    const char *formats;
+    void (*test)(const uint64_t *row);
+} messages[] = {
+    {"HIiB", gps_time},
+    {"IHHHHH", dops},
+    {"IdddHBB", pos_ecef},
+    {"IdddHHBB", pos_llh},
+    {"IiiiHBB", baseline_ecef},
+    {"IiiiHBB", vel_ecef},
+    {"IiiiHHBB", baseline_ned},
+    {"IiiiHHBB", vel_ned},
+    {"IIBB", baseline_heading},
+    {"ddd", base_pos_llh},
+    {"ddd", base_pos_ecef},
+    {"IHBB", obs},
+    {"IiBBHHBB", observation_row},
+    {"BB", log_},
+    {"H", read_by_index_req},
+    {"I", startup},
+    {"I", heartbeat},
+};
+
+static void messages_both_ways(void) {
+    for (size_t i = 0; i < sizeof messages / sizeof *messages; i++) {
+        for (int pattern = NEGATIVE; pattern <= NANS; pattern++) {
+            uint64_t row[SBP_FIELDS_MOST];
+            fill(row, messages[i].formats, (enum pattern)pattern);
+            messages[i].test(row);
+        }
+    }
+}
+
+/* ---- rows of bytes */
+
+/* The bytes 1, 2, 3 and so on. */
+static void counted(uint8_t *bytes, size_t n) {
+    for (size_t i = 0; i < n; i++) {
+        bytes[i] = (uint8_t)(i + 1);
+    }
+}
+
+static void found(void) {
+    uint8_t bytes[SBP_FOUND];
+    counted(bytes, sizeof bytes);
+    const struct sbp_found f = sbp_found_of(bytes);
+    SAME("at", f.at, 0x0807060504030201);
+    SAME("next", f.next, 0x100F0E0D0C0B0A09);
+    SAME("needed", f.needed, 0x1817161514131211);
+    SAME("junk", f.junk, 0x201F1E1D1C1B1A19);
+    SAME("bad", f.bad, 0x2827262524232221);
+    SAME("short_", f.short_, 0x302F2E2D2C2B2A29);
+    SAME("kind", f.kind, 0x3231);
+    SAME("sender", f.sender, 0x3433);
+    SAME("length", f.length, 0x35);
+}
+
+static void counts(void) {
+    uint8_t bytes[SBP_TOTALS];
+    counted(bytes, sizeof bytes);
+    const struct sbp_counts c = sbp_counts_of(bytes);
+    SAME("framed", c.framed, 0x0807060504030201);
+    SAME("junk", c.junk, 0x100F0E0D0C0B0A09);
+    SAME("bad", c.bad, 0x1817161514131211);
+    SAME("short_", c.short_, 0x201F1E1D1C1B1A19);
+}
+
+static void report(void) {
+    uint8_t bytes[SBP_REPORT];
+    counted(bytes, sizeof bytes);
+    const struct sbp_report r = sbp_report_of(bytes);
+    SAME("sender", r.sender, 0x0201);
+    SAME("wn", r.wn, 0x0403);
+    SAME("tow", r.tow, 0x08070605);
+    SAME("n", r.n, 0x09);
+    SAME("observations", r.observations, 0x0B0A);
+}
+
+/* ---- the parts of rows */
+
+static void numbers(void) {
+    uint8_t bytes[8];
+    counted(bytes, sizeof bytes);
+    SAME("sbp_number of 0 bytes", sbp_number(bytes, 0), 0);
+    SAME("sbp_number of 1 byte", sbp_number(bytes, 1), 0x01);
+    SAME("sbp_number of 3 bytes", sbp_number(bytes, 3), 0x030201);
+    SAME("sbp_number of 8 bytes", sbp_number(bytes, 8), 0x0807060504030201);
+}
+
+static void signs(void) {
+    SAME("sbp_extended of the least", sbp_extended(INT32_MIN), 0xFFFFFFFF80000000);
+    SAME("sbp_extended of -2", sbp_extended(-2), 0xFFFFFFFFFFFFFFFE);
+    SAME("sbp_extended of the most", sbp_extended(INT32_MAX), 0x7FFFFFFF);
+    SAME("sbp_signed of the least", sbp_signed(0xFFFFFFFF80000000) == INT32_MIN, true);
+    SAME("sbp_signed of -2", sbp_signed(0xFFFFFFFFFFFFFFFE) == -2, true);
+    SAME("sbp_signed of the most", sbp_signed(0x7FFFFFFF) == INT32_MAX, true);
+}
+
+static void doubles(void) {
+    SAME("sbp_bits of 1", sbp_bits(1.0), 0x3FF0000000000000);
+    SAME("sbp_bits of minus zero", sbp_bits(-0.0), 0x8000000000000000);
+    SAME("sbp_double to 1", sbp_double(0x3FF0000000000000) < 1.0 || sbp_double(0x3FF0000000000000) > 1.0, false);
+    SAME("sbp_double to a NaN and back", sbp_bits(sbp_double(NAN_TOP + 1)), NAN_TOP + 1);
+}
+
+/* ---- names */
+
+#define NAME(name, number) SAME(#name, name, number)
+
+static void types(void) {
+    NAME(SBP_MSG_BASE_POS_LLH, 0x0044);
+    NAME(SBP_MSG_BASE_POS_ECEF, 0x0048);
+    NAME(SBP_MSG_OBS, 0x0049);
+    NAME(SBP_MSG_SETTINGS_SAVE, 0x00A1);
+    NAME(SBP_MSG_SETTINGS_READ_BY_INDEX_REQ, 0x00A2);
+    NAME(SBP_MSG_SETTINGS_READ_BY_INDEX_DONE, 0x00A6);
+    NAME(SBP_MSG_GPS_TIME, 0x0100);
+    NAME(SBP_MSG_POS_ECEF, 0x0200);
+    NAME(SBP_MSG_POS_LLH, 0x0201);
+    NAME(SBP_MSG_BASELINE_ECEF, 0x0202);
+    NAME(SBP_MSG_BASELINE_NED, 0x0203);
+    NAME(SBP_MSG_VEL_ECEF, 0x0204);
+    NAME(SBP_MSG_VEL_NED, 0x0205);
+    NAME(SBP_MSG_DOPS, 0x0206);
+    NAME(SBP_MSG_BASELINE_HEADING, 0x0207);
+    NAME(SBP_MSG_LOG, 0x0401);
+    NAME(SBP_MSG_STARTUP, 0xFF00);
+    NAME(SBP_MSG_HEARTBEAT, 0xFFFF);
+    NAME(SBP_NO_SENDER, 65536);
+}
+
+static void answers(void) {
+    NAME(SBP_OK, 0);
+    NAME(SBP_FRAME, 0);
+    NAME(SBP_END, 1);
+    NAME(SBP_NEEDS, 2);
+    NAME(SBP_TAKEN, 0);
+    NAME(SBP_EPOCH, 1);
+    NAME(SBP_FIX_SINGLE_POINT, 0);
+    NAME(SBP_FIX_FLOAT, 1);
+    NAME(SBP_FIX_FIXED, 2);
+    NAME(SBP_FIX_RESERVED, 3);
+}
+
+static void sizes(void) {
+    NAME(SBP_FOUND, 53);
+    NAME(SBP_TOTALS, 32);
+    NAME(SBP_STATE, 105);
+    NAME(SBP_REPORT, 11);
+    NAME(SBP_PAYLOAD_MOST, 255);
+    NAME(SBP_FRAME_MOST, 263);
+    NAME(SBP_TEXT_MOST, 254);
+    NAME(SBP_OBSERVATIONS_MOST, 15);
+    NAME(SBP_ROSTER_MOST, 8);
+}
+
+static void fields(void) {
+    NAME(SBP_BASE_POS_LLH_FIELDS, 3);
+    NAME(SBP_BASE_POS_ECEF_FIELDS, 3);
+    NAME(SBP_OBS_FIELDS, 4);
+    NAME(SBP_SETTINGS_SAVE_FIELDS, 0);
+    NAME(SBP_READ_BY_INDEX_REQ_FIELDS, 1);
+    NAME(SBP_READ_BY_INDEX_DONE_FIELDS, 0);
+    NAME(SBP_GPS_TIME_FIELDS, 4);
+    NAME(SBP_POS_ECEF_FIELDS, 7);
+    NAME(SBP_POS_LLH_FIELDS, 8);
+    NAME(SBP_BASELINE_ECEF_FIELDS, 7);
+    NAME(SBP_BASELINE_NED_FIELDS, 8);
+    NAME(SBP_VEL_ECEF_FIELDS, 7);
+    NAME(SBP_VEL_NED_FIELDS, 8);
+    NAME(SBP_DOPS_FIELDS, 6);
+    NAME(SBP_BASELINE_HEADING_FIELDS, 4);
+    NAME(SBP_LOG_FIELDS, 2);
+    NAME(SBP_STARTUP_FIELDS, 1);
+    NAME(SBP_HEARTBEAT_FIELDS, 1);
+    NAME(SBP_FIELDS_MOST, 8);
+    NAME(SBP_OBS_HEAD, 3);
+    NAME(SBP_OBSERVATION_FIELDS, 8);
+}
+
+static void version(void) {
+    NAME(SBP_VERSION_MAJOR, 0);
+    NAME(SBP_VERSION_MINOR, 8);
+    NAME(SBP_VERSION_PATCH, 0);
+    NAME(SBP_VERSION, 800);
+    SAME("sbp_version()", sbp_version(), 800);
+}
+
+static const struct {
+    unsigned number, named;
+    const char *name;
+} refusals[] = {
+#define REFUSAL(number, name) {number, SBP_##name, #name}
+    REFUSAL(11, TOO_LONG),
+    REFUSAL(21, UNKNOWN_TYPE),
+    REFUSAL(22, WRONG_LENGTH),
+    REFUSAL(23, OUT_OF_RANGE),
+    REFUSAL(25, NO_SUCH_OBSERVATION),
+    REFUSAL(31, TOO_MUCH),
+    REFUSAL(32, NO_ROOM),
+    REFUSAL(33, PHASE_OUT_OF_RANGE),
+    REFUSAL(41, WRONG_ROSTER),
+    REFUSAL(42, SENDER_TWICE),
+    REFUSAL(43, NOT_LISTED),
+    REFUSAL(44, NO_PACKETS),
+    REFUSAL(45, WRONG_COUNTER),
+    REFUSAL(46, NOT_OBS),
+};
+
+/* The name of each number, and none of all others. */
+static void refusal_names(void) {
+    for (unsigned number = 0; number < 256; number++) {
+        const char *wanted = "";
+        for (size_t i = 0; i < sizeof refusals / sizeof *refusals; i++) {
+            if (refusals[i].number == number) {
+                wanted = refusals[i].name;
+                SAME(wanted, refusals[i].named, number);
+            }
+        }
+        const char *got = sbp_refusal_name((uint8_t)number);
+        if (strcmp(got, wanted) == 0) {
+            passed++;
+        } else {
+            failed++;
+            printf("differs: the refusal %u has the name '%s', not '%s'\n", number, got, wanted);
+        }
+    }
+}
+
+int main(void) {
+    messages_both_ways();
+    found();
+    counts();
+    report();
+    numbers();
+    signs();
+    doubles();
+    types();
+    answers();
+    sizes();
+    fields();
+    version();
+    refusal_names();
+    printf("%u passed, %u failed\n", passed, failed);
+    return failed != 0;
+}
