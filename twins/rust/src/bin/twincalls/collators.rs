@@ -75,13 +75,13 @@ fn ask_state(
 
 /// A collator of a roster, and how many of the senders feed it.
 fn ask_collator(asked: &mut Asked, rng: &mut Rng) -> Option<(Held, usize)> {
-    let listed = if rng.chance(1, 6) {
+    let listed = if rng.chance(1, 3) {
         rng.below(11)
     } else {
         1 + rng.below(4)
     };
     let mut roster = SENDERS[..listed].to_vec();
-    if listed > 0 && rng.chance(1, 8) {
+    if listed > 0 && rng.chance(1, 3) {
         roster[rng.below(listed)] = rng.pick(&SENDERS);
     }
     let room = state_room(asked, rng);

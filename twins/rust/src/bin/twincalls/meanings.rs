@@ -41,6 +41,13 @@ pub fn ask_once(asked: &mut Asked, rng: &mut Rng) {
     for l_i in [0, 1, -1, -3, i32::MAX, i32::MIN, i32::MIN + 1] {
         (0..=255).for_each(|l_f| ask_phase(asked, l_i, l_f));
     }
+    if asked.side == Side::C {
+        ask_version(asked);
+    }
+}
+
+/// The library's is the header's.
+fn ask_version(asked: &mut Asked) {
     let question = Question::new("version", b'v');
     let reply = asked.reply(&question, 0, 8);
     asked.judge(

@@ -7,6 +7,7 @@ use twin::numbers::{No, BUFFER_TOO_SHORT, TYPE_UNKNOWN};
 use crate::asked::{as_bytes, lent, told, Asked, Question, Side};
 use crate::values::{kind_near, payload, room};
 
+/// The numbers of an observation, which no row has more of.
 const OBSERVATION: usize = 8;
 
 pub fn ask(asked: &mut Asked, rng: &mut Rng) {
@@ -15,10 +16,19 @@ pub fn ask(asked: &mut Asked, rng: &mut Rng) {
         let kind = kind_near(rng, known);
         ask_read(asked, rng, kind, &bytes);
     }
-    if asked.side == Side::C {
-        for _ in 0..8 {
-            ask_observation(asked, rng);
-        }
+    for _ in 0..8 {
+        ask_observation(asked, rng);
+    }
+}
+
+/// Some numbers around those that are read; in Rust these, and of a refusal
+/// none.
+fn row_room(asked: &Asked, rng: &mut Rng, read: &Result<Vec<u64>, No>) -> usize {
+    match (asked.side, read) {
+        (Side::C, Ok(row)) => room(rng, row.len()),
+        (Side::C, Err(_)) => room(rng, OBSERVATION),
+        (Side::Rust, Ok(row)) => row.len(),
+        (Side::Rust, Err(_)) => 0,
     }
 }
 
@@ -47,11 +57,7 @@ fn row_of(side: Side, message: &Message) -> Vec<u64> {
 
 fn ask_read(asked: &mut Asked, rng: &mut Rng, kind: u16, bytes: &[u8]) {
     let read = Message::read(kind, bytes).map(|m| row_of(asked.side, &m));
-    let right = read.as_ref().map_or(0, Vec::len);
-    let room = match asked.side {
-        Side::C => room(rng, right),
-        Side::Rust => right,
-    };
+    let room = row_room(asked, rng, &read);
     let (number, buf) = row_after(read, room);
     let question = Question::new("read", b'r').of(kind);
     let question = question.count(room).bytes(bytes);
@@ -69,7 +75,7 @@ fn ask_observation(asked: &mut Asked, rng: &mut Rng) {
     } else {
         Err(TYPE_UNKNOWN)
     };
-    let room = room(rng, OBSERVATION);
+    let room = row_room(asked, rng, &read);
     let (number, buf) = row_after(read, room);
     let question = Question::new("observation", b'o').of(kind);
     let question = question.put(&(index as u64).to_le_bytes());

@@ -118,7 +118,23 @@ pub fn row(rng: &mut Rng, kind: u16) -> Vec<u64> {
     let payload = valid(rng, kind);
     let mut row = Message::read(kind, &payload).map_or(vec![1, 2, 3], |m| m.row());
     exchange(rng, &mut row);
+    if rng.chance(1, 8) {
+        leave_range(rng, kind, &mut row);
+    }
     row
+}
+
+/// What its field can hold, and is outside its range.
+fn leave_range(rng: &mut Rng, kind: u16, row: &mut [u64]) {
+    let far = 500_001 + rng.below(2_000_000_000) as i64;
+    match (kind, row) {
+        (0x0100, [_, _, ns, _]) => *ns = rng.pick(&[500_001, -500_001, far, -far]) as u64,
+        (0x0200 | 0x0201, [.., flags]) => *flags = *flags & 0xF8 | rng.between(3, 7) as u64,
+        (0x0202 | 0x0203 | 0x0207, [.., flags]) => {
+            *flags = *flags & 0xF8 | rng.between(2, 7) as u64;
+        }
+        _ => {}
+    }
 }
 
 pub fn exchange(rng: &mut Rng, row: &mut [u64]) {

@@ -10,18 +10,20 @@ use crate::asked::{Asked, Side};
 
 type Wanted = (&'static str, &'static [u8]);
 
-const OF_BOTH: [Wanted; 8] = [
+const OF_BOTH: [Wanted; 9] = [
     ("crc", &[0]),
     ("answer", &[0, 21, 22, 23]),
     ("write_log", &[0, 31, 32]),
     ("write_frame", &[0, 31, 32]),
     ("read back", &[0]),
+    ("observation back", &[0]),
     ("heartbeat", &[0]),
     ("carrier_phase", &[0]),
     ("phase_parts", &[0, 33]),
 ];
 
 const OF_C: [Wanted; 14] = [
+    ("version", &[0]),
     ("next", &[0, 1, 2, 32]),
     ("totals", &[0, 32]),
     ("list", &[0, 11, 32]),
@@ -32,13 +34,12 @@ const OF_C: [Wanted; 14] = [
     ("feed grown", &[0, 1, 22, 32, 43, 44, 45, 46]),
     ("read", &[0, 21, 22, 23, 32]),
     ("observation", &[0, 21, 22, 25, 32]),
-    ("observation back", &[0]),
     ("write", &[0, 21, 22, 23, 32]),
     ("write_obs", &[0, 21, 22, 23, 31, 32]),
     ("flags", &[0, 21]),
 ];
 
-const OF_RUST: [Wanted; 10] = [
+const OF_RUST: [Wanted; 12] = [
     ("next", &[0, 1, 2]),
     ("totals", &[0]),
     ("list", &[0, 11]),
@@ -47,6 +48,8 @@ const OF_RUST: [Wanted; 10] = [
     ("growing", &[0]),
     ("feed grown", &[0, 1, 22, 43, 44, 45, 46]),
     ("read", &[0, 21, 22, 23]),
+    ("observation", &[0, 21, 22, 25]),
+    ("flags", &[0]),
     ("write", &[0, 23, 32]),
     ("write_obs", &[0, 31, 32]),
 ];

@@ -129,7 +129,8 @@ fn ask_write_obs(asked: &mut Asked, rng: &mut Rng) {
     head.push(k as u64);
     if asked.side == Side::Rust {
         head.extend(&rows);
-    } else if k > 0 {
+    }
+    if k > 0 {
         let index = rng.below(k);
         ask_observation_back(asked, kind, frame, index, &rows[8 * index..][..8]);
     }
