@@ -15,19 +15,19 @@
  * Each lent thing stands in a block of its own that has unreadable pages around it: at its end, at its beginning, or away from both. Where no
  * unreadable page is, GUARD bytes are. */
 
-enum { BLOCKS = 4, GUARD = 64, GUARDED = 0xA5, FILLED = 0xEE, NOTE = 1 << 20 };
+enum { BLOCKS = 4, BLOCK = 1 << 20, GUARD = 64, GUARDED = 0xA5, FILLED = 0xEE };
 
 struct block {
-    uint8_t *start, *end; /* what can be read */
-    uint8_t *at;          /* what is lent */
+    uint8_t *start, *end; /* what can be read and written */
+    uint8_t *at;          /* what is lent of it */
     size_t n;
-    uint8_t *before; /* what it held, where it is lent to be read alone */
-    bool written;
+    bool written;    /* else it is lent to be read alone, */
+    uint8_t *before; /* and held this */
 };
 
 static struct block blocks[BLOCKS];
-static unsigned lent; /* so many blocks, in this request */
-static uint8_t state[1 << 10];
+static unsigned lent;          /* so many blocks in this request */
+static uint8_t state[1 << 10]; /* a collator's, from request to request */
 
 static void fail(const char *why) {
     fprintf(stderr, "driver: %s\n", why);
@@ -37,13 +37,13 @@ static void fail(const char *why) {
 static void map_blocks(void) {
     size_t page = (size_t)sysconf(_SC_PAGESIZE);
     for (unsigned i = 0; i < BLOCKS; i++) {
-        uint8_t *all = mmap(NULL, NOTE + 2 * page, PROT_NONE, MAP_PRIVATE | MAP_ANONYMOUS, -1, 0);
-        if (all == MAP_FAILED || mprotect(all + page, NOTE, PROT_READ | PROT_WRITE) != 0) {
+        uint8_t *all = mmap(NULL, BLOCK + 2 * page, PROT_NONE, MAP_PRIVATE | MAP_ANONYMOUS, -1, 0);
+        if (all == MAP_FAILED || mprotect(all + page, BLOCK, PROT_READ | PROT_WRITE) != 0) {
             fail("no memory");
         }
         blocks[i].start = all + page;
-        blocks[i].end = all + page + NOTE;
-        blocks[i].before = malloc(NOTE);
+        blocks[i].end = all + page + BLOCK;
+        blocks[i].before = malloc(BLOCK);
         if (blocks[i].before == NULL) {
             fail("no memory");
         }
@@ -53,7 +53,7 @@ static void map_blocks(void) {
 /* Memory of n bytes, at one of the three places by turns, with its guard bytes. */
 static struct block *lend(size_t n, bool written) {
     static uint32_t turns = 1;
-    if (lent == BLOCKS || n > NOTE - 2 * GUARD) {
+    if (lent == BLOCKS || n > BLOCK - 2 * GUARD) {
         fail("too much to lend");
     }
     struct block *b = &blocks[lent++];

@@ -1,7 +1,7 @@
 #!/usr/bin/env bash
-# The functions that C and Rust link, held against the Rust twin: it asks all of them through tests/driver.c, and what Rust's safe wrapper can be
-# asked through tests/driver. All is built for the processor at hand. The last line is 'N passed, M failed'; a compiler that cannot be had
-# fails, and is named.
+# The functions that C and Rust link, held against the Rust twin: it asks all of them through tests/driver.c, what Rust's safe wrapper can be
+# asked through tests/driver, and the C twin's rows in place of the library's, which bench/run times them beside. All is built for the processor
+# at hand. The last line is 'N passed, M failed'; a compiler that cannot be had fails, and is named.
 # usage: tests/linked.sh (after tests/twins.py, which builds the twin)
 set -eu
 cd "$(dirname "$0")/.."
@@ -27,13 +27,18 @@ for tool in gcc cargo "$calls"; do
     command -v "$tool" >/dev/null || missing "$tool"
 done
 quietly link/library
-quietly gcc -std=c99 -O2 -Wall -Wextra -Wpedantic -Wconversion -Werror -Ilink/include -o "$work/driver" tests/driver.c target/lib/libyaqtumeer.a
+lib=target/lib/libyaqtumeer.a
+unset YAQTUMEER_LIB # Rust links the same
+c="gcc -std=c99 -O2 -Wall -Wextra -Wpedantic -Wconversion -Werror -Ilink/include"
+quietly $c -o "$work/driver" tests/driver.c "$lib"
+renamed=$(sed -n 's/^[a-z].* \(twin_[a-z_]*\)(.*/\1/p' twins/c/rows.h | sed 's/twin_\(.*\)/-Dsbp_\1=twin_\1/')
+quietly $c $renamed -o "$work/twin" tests/driver.c twins/c/rows.c "$lib"
 quietly cargo build --offline --release --manifest-path tests/driver/Cargo.toml --target-dir target/driver
 
 passed=0 failed=0
-asked() { # SIDE COUNT DRIVER: prints what was asked, and adds it up
-    "$calls" 1 "$2" "$1" "$3" >"$work/calls" || true
-    echo "from $1:"
+asked() { # WHO SIDE COUNT DRIVER: prints what was asked, and adds it up
+    "$calls" 1 "$3" "$2" "$4" >"$work/calls" || true
+    echo "$1:"
     sed '$d' "$work/calls"
     n='' m=''
     read -r n _ m _ < <(tail -n 1 "$work/calls") || true
@@ -42,7 +47,8 @@ asked() { # SIDE COUNT DRIVER: prints what was asked, and adds it up
     *) passed=$((passed + n)) failed=$((failed + m)) ;;
     esac
 }
-asked c 100000 "$work/driver"
-asked rust 20000 target/driver/release/driver
+asked "the library from C" c 100000 "$work/driver"
+asked "the library from Rust" rust 20000 target/driver/release/driver
+asked "the C twin's rows" c 20000 "$work/twin"
 echo "$passed passed, $failed failed"
 [ "$failed" -eq 0 ]
