@@ -18,6 +18,7 @@
 
 #include "../link/include/sbp.h"
 #include "../twins/c/rows.h"
+#include "captures.h"
 
 /* bench/twin.rs, which says what they do. */
 uint16_t rust_crc(const uint8_t *bytes, size_t n);
@@ -35,8 +36,6 @@ enum { OURS, C, RUST, SLICED, SIDES, ROUNDS_MAX = 99, ROOM = 8 * SBP_INPUT_MAX +
 
 typedef void (*side)(void);
 
-static uint8_t *capture;
-static size_t length;
 static size_t writing_room;
 static uint8_t our_text[ROOM];
 static char twins_text[SBP_LIST_MAX];
@@ -169,7 +168,7 @@ static void rusts_listing(void) { text = rust_list(capture, length, told); }
 
 /* ---- rows: payloads of a clean capture read, and some rows written again and again */
 
-enum { FIELDS_MOST = 8, KEPT_MOST = 4096, FRAME_MOST = 263 };
+enum { FIELDS_MOST = 8, KEPT_MOST = 4096 };
 
 static struct kept {
     uint64_t row[FIELDS_MOST];
@@ -177,6 +176,26 @@ static struct kept {
     uint16_t kind, sender;
 } kept[KEPT_MOST];
 static size_t kept_count;
+
+/* The rows of the messages without a tail that the capture begins with; what is written of them goes where the capture was. */
+static void keep_rows(void) {
+    kept_count = 0;
+    for (size_t at = 0; at < length && kept_count < KEPT_MOST; at += capture[at + 5] + 8u) {
+        const uint8_t *f = capture + at;
+        struct kept *k = &kept[kept_count];
+        uint64_t size;
+        uint8_t out[FRAME_MOST];
+        k->kind = (uint16_t)(f[1] | f[2] << 8), k->sender = (uint16_t)(f[3] | f[4] << 8);
+        twin_read(k->kind, f + 6, f[5], k->row, FIELDS_MOST);
+        /* the number of fields is the one that it is written with */
+        for (k->fields = 0; k->fields <= FIELDS_MOST; k->fields++) {
+            if (twin_write(out, sizeof out, k->kind, k->sender, k->row, k->fields, &size) == 0) {
+                kept_count++;
+                break;
+            }
+        }
+    }
+}
 
 typedef uint8_t (*reader)(uint16_t kind, const uint8_t *payload, size_t n, uint64_t *row, size_t room);
 typedef uint8_t (*writer)(uint8_t *out, size_t room, uint16_t kind, uint32_t sender, const uint64_t *row, size_t fields, uint64_t *size);
@@ -201,7 +220,9 @@ static inline void write_all(writer write) {
     for (size_t i = 0; at + FRAME_MOST <= writing_room; i = i + 1 < kept_count ? i + 1 : 0) {
         const struct kept *k = &kept[i];
         uint64_t size = 0;
-        write(capture + at, writing_room - at, k->kind, k->sender, k->row, k->fields, &size);
+        if (write(capture + at, writing_room - at, k->kind, k->sender, k->row, k->fields, &size) != 0) {
+            break;
+        }
         at += size;
     }
     told[0] = at;
@@ -246,101 +267,6 @@ static void timed(const char *name, int rounds, int times, const side sides[SIDE
     }
     printf("\n");
     fflush(stdout);
-}
-
-/* ---- captures */
-
-static uint32_t word = 2463534242;
-
-static uint32_t any(void) {
-    word ^= word << 13;
-    word ^= word >> 17;
-    word ^= word << 5;
-    return word;
-}
-
-static size_t put_frame(size_t at, uint16_t kind, uint16_t sender, uint8_t size, uint8_t n_obs, uint32_t tow) {
-    uint8_t *f = capture + at;
-    uint8_t head[] = {0x55, (uint8_t)kind, (uint8_t)(kind >> 8), (uint8_t)sender, (uint8_t)(sender >> 8), size};
-    memcpy(f, head, 6);
-    for (unsigned i = 0; i < size; i++) {
-        f[6 + i] = (uint8_t)any();
-    }
-    if (kind == 0x0049) {
-        memcpy(f + 6, &tow, 4);
-        f[10] = 0x6c, f[11] = 0x07, f[12] = n_obs;
-    } else if (kind == 0x0100) {
-        memset(f + 12, 0, 4); /* ns */
-    } else if (kind >= 0x0200 && kind <= 0x0207 && kind != 0x0206) {
-        f[5 + size] &= 0xF8; /* fix mode */
-    }
-    uint16_t sum = twin_crc(f + 1, size + 5u);
-    f[size + 6] = (uint8_t)sum, f[size + 7] = (uint8_t)(sum >> 8);
-    return at + size + 8;
-}
-
-/* Epochs of a base and a rover, packet by packet, with positions between. */
-static void clean(size_t most) {
-    length = 0;
-    for (uint32_t tow = 0; length + 2000 < most; tow += 100) {
-        for (uint8_t i = 0; i < 3; i++) {
-            length = put_frame(length, 0x0049, 1228, 7 + 16 * 10, (uint8_t)(0x30 + i), tow);
-            if (i < 2) {
-                length = put_frame(length, 0x0049, 0, 7 + 16 * 8, (uint8_t)(0x20 + i), tow);
-            }
-        }
-        length = put_frame(length, 0x0201, 0, 34, 0, tow);
-        length = put_frame(length, 0xFFFF, 1228, 4, 0, tow);
-    }
-}
-
-/* Every kind of message by turns, all readable: ns and fix mode are 0. */
-static void mixed(size_t most) {
-    static const struct {
-        uint16_t kind;
-        uint8_t size;
-    } kinds[] = {
-        {0x0100, 11}, {0x0206, 14}, {0x0200, 32}, {0x0201, 34}, {0x0202, 20}, {0x0204, 20}, {0x0203, 22}, {0x0205, 22}, {0x0207, 10},
-        {0x0044, 24}, {0x0048, 24}, {0x0049, 39}, {0x0401, 25}, {0x00A1, 0},  {0x00A6, 0},  {0x00A2, 2},  {0xFF00, 4},  {0xFFFF, 4},
-    };
-    const unsigned all = sizeof kinds / sizeof *kinds;
-    length = 0;
-    while (length + FRAME_MOST <= most) {
-        unsigned i = any() % all;
-        length = put_frame(length, kinds[i].kind, 1228, kinds[i].size, 0x10, 0);
-    }
-}
-
-/* The rows of the messages without a tail that the capture begins with; what is written of them goes where the capture was. */
-static void keep_rows(void) {
-    kept_count = 0;
-    for (size_t at = 0; at < length && kept_count < KEPT_MOST; at += capture[at + 5] + 8u) {
-        const uint8_t *f = capture + at;
-        struct kept *k = &kept[kept_count];
-        uint64_t size;
-        uint8_t out[FRAME_MOST];
-        k->kind = (uint16_t)(f[1] | f[2] << 8), k->sender = (uint16_t)(f[3] | f[4] << 8);
-        twin_read(k->kind, f + 6, f[5], k->row, FIELDS_MOST);
-        /* the number of fields is the one that it is written with */
-        for (k->fields = 0; k->fields <= FIELDS_MOST; k->fields++) {
-            if (twin_write(out, sizeof out, k->kind, k->sender, k->row, k->fields, &size) == 0) {
-                kept_count++;
-                break;
-            }
-        }
-    }
-}
-
-static void noise(size_t most) {
-    length = most;
-    for (size_t i = 0; i < most; i++) {
-        capture[i] = (uint8_t)any();
-    }
-}
-
-static void preambles(size_t most) {
-    length = most;
-    memset(capture, 0x55, most);
 }
 
 static void readings(const char *by_frame, const char *in_one, int rounds) {

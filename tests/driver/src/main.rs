@@ -5,6 +5,7 @@
 
 mod captures;
 mod collators;
+mod fields;
 mod meanings;
 mod messages;
 mod talk;

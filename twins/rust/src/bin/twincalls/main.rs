@@ -4,16 +4,19 @@
 //!
 //! A request is a letter and its arguments, little-endian; what is lent to be
 //! read comes as a count and its contents, what is lent to be written as a
-//! count. A reply is the answer, a byte that is 1 where nothing else was
-//! touched, and the FNV-1a hash of each buffer lent to be written.
+//! count, and it is filled with 0xEE first. A reply is the answer, a byte that
+//! is 1 where nothing else was touched, and the FNV-1a hash of all bytes of
+//! each buffer lent to be written; where nothing is lent, the answer alone.
 //!
 //! usage: twincalls SEED COUNT c|rust COMMAND [WORD..]
 
 mod asked;
 mod captures;
 mod collators;
+mod feeding;
 mod meanings;
 mod reading;
+mod states;
 mod values;
 mod wanted;
 mod writing;
