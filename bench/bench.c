@@ -17,6 +17,8 @@
 #undef sbp_list
 
 #include "../link/include/sbp.h"
+#include "../twins/c/rows.h"
+#include "captures.h"
 
 /* bench/twin.rs, which says what they do. */
 uint16_t rust_crc(const uint8_t *bytes, size_t n);
@@ -26,14 +28,15 @@ void rust_closed_sliced(const uint8_t *capture, size_t n, uint64_t counts[4]);
 struct rust_collator *rust_collator(const uint16_t *roster, size_t n);
 void rust_collator_free(struct rust_collator *collator);
 uint8_t rust_feed(struct rust_collator *collator, uint16_t type, uint16_t sender, const uint8_t *payload, size_t n, struct sbp_report *report);
+uint8_t rust_read(uint16_t kind, const uint8_t *payload, size_t n, uint64_t *row, size_t room);
+uint8_t rust_write(uint8_t *out, size_t room, uint16_t kind, uint32_t sender, const uint64_t *row, size_t fields, uint64_t *size);
 const uint8_t *rust_list(const uint8_t *capture, size_t n, uint64_t *size);
 
 enum { OURS, C, RUST, SLICED, SIDES, ROUNDS_MAX = 99, ROOM = 8 * SBP_INPUT_MAX + 32 };
 
 typedef void (*side)(void);
 
-static uint8_t *capture;
-static size_t length;
+static size_t writing_room;
 static uint8_t our_text[ROOM];
 static char twins_text[SBP_LIST_MAX];
 /* What a call found, in numbers or as a text of told[0] bytes. All sides must find the same. */
@@ -163,6 +166,73 @@ static void twins_listing(void) {
 
 static void rusts_listing(void) { text = rust_list(capture, length, told); }
 
+/* ---- rows: payloads of a clean capture read, and some rows written again and again */
+
+enum { FIELDS_MOST = 8, KEPT_MOST = 4096 };
+
+static struct kept {
+    uint64_t row[FIELDS_MOST];
+    size_t fields;
+    uint16_t kind, sender;
+} kept[KEPT_MOST];
+static size_t kept_count;
+
+/* The rows of the messages without a tail that the capture begins with; what is written of them goes where the capture was. */
+static void keep_rows(void) {
+    kept_count = 0;
+    for (size_t at = 0; at < length && kept_count < KEPT_MOST; at += capture[at + 5] + 8u) {
+        const uint8_t *f = capture + at;
+        struct kept *k = &kept[kept_count];
+        uint64_t size;
+        uint8_t out[FRAME_MOST];
+        k->kind = (uint16_t)(f[1] | f[2] << 8), k->sender = (uint16_t)(f[3] | f[4] << 8);
+        twin_read(k->kind, f + 6, f[5], k->row, FIELDS_MOST);
+        /* the number of fields is the one that it is written with */
+        for (k->fields = 0; k->fields <= FIELDS_MOST; k->fields++) {
+            if (twin_write(out, sizeof out, k->kind, k->sender, k->row, k->fields, &size) == 0) {
+                kept_count++;
+                break;
+            }
+        }
+    }
+}
+
+typedef uint8_t (*reader)(uint16_t kind, const uint8_t *payload, size_t n, uint64_t *row, size_t room);
+typedef uint8_t (*writer)(uint8_t *out, size_t room, uint16_t kind, uint32_t sender, const uint64_t *row, size_t fields, uint64_t *size);
+
+/* The sum of all answers, and sums of the rows' numbers. */
+static inline void read_all(reader read) {
+    uint64_t row[FIELDS_MOST] = {0};
+    for (size_t at = 0; at < length; at += capture[at + 5] + 8u) {
+        const uint8_t *f = capture + at;
+        told[0] += read((uint16_t)(f[1] | f[2] << 8), f + 6, f[5], row, FIELDS_MOST);
+        told[1] += row[0] ^ row[1], told[2] += row[2] ^ row[3] ^ row[4], told[3] += row[5] ^ row[6] ^ row[7];
+    }
+}
+
+static void our_rows(void) { read_all(sbp_read); }
+static void twins_rows(void) { read_all(twin_read); }
+static void rusts_rows(void) { read_all(rust_read); }
+
+/* Frames one after the other, as text. */
+static inline void write_all(writer write) {
+    size_t at = 0;
+    for (size_t i = 0; at + FRAME_MOST <= writing_room; i = i + 1 < kept_count ? i + 1 : 0) {
+        const struct kept *k = &kept[i];
+        uint64_t size = 0;
+        if (write(capture + at, writing_room - at, k->kind, k->sender, k->row, k->fields, &size) != 0) {
+            break;
+        }
+        at += size;
+    }
+    told[0] = at;
+    text = capture;
+}
+
+static void our_writing(void) { write_all(sbp_write); }
+static void twins_writing(void) { write_all(twin_write); }
+static void rusts_writing(void) { write_all(rust_write); }
+
 /* The sides by turns, each so many times; the last may be NULL. */
 static void timed(const char *name, int rounds, int times, const side sides[SIDES]) {
     double ns[SIDES][ROUNDS_MAX], ratio[SIDES][ROUNDS_MAX];
@@ -199,60 +269,6 @@ static void timed(const char *name, int rounds, int times, const side sides[SIDE
     fflush(stdout);
 }
 
-/* ---- captures */
-
-static uint32_t word = 2463534242;
-
-static uint32_t any(void) {
-    word ^= word << 13;
-    word ^= word >> 17;
-    word ^= word << 5;
-    return word;
-}
-
-static size_t put_frame(size_t at, uint16_t kind, uint16_t sender, uint8_t size, uint8_t n_obs, uint32_t tow) {
-    uint8_t *f = capture + at;
-    uint8_t head[] = {0x55, (uint8_t)kind, (uint8_t)(kind >> 8), (uint8_t)sender, (uint8_t)(sender >> 8), size};
-    memcpy(f, head, 6);
-    for (unsigned i = 0; i < size; i++) {
-        f[6 + i] = (uint8_t)any();
-    }
-    if (kind == 0x0049) {
-        memcpy(f + 6, &tow, 4);
-        f[10] = 0x6c, f[11] = 0x07, f[12] = n_obs;
-    }
-    uint16_t sum = twin_crc(f + 1, size + 5u);
-    f[size + 6] = (uint8_t)sum, f[size + 7] = (uint8_t)(sum >> 8);
-    return at + size + 8;
-}
-
-/* Epochs of a base and a rover, packet by packet, with positions between. */
-static void clean(size_t most) {
-    length = 0;
-    for (uint32_t tow = 0; length + 2000 < most; tow += 100) {
-        for (uint8_t i = 0; i < 3; i++) {
-            length = put_frame(length, 0x0049, 1228, 7 + 16 * 10, (uint8_t)(0x30 + i), tow);
-            if (i < 2) {
-                length = put_frame(length, 0x0049, 0, 7 + 16 * 8, (uint8_t)(0x20 + i), tow);
-            }
-        }
-        length = put_frame(length, 0x0201, 0, 34, 0, tow);
-        length = put_frame(length, 0xFFFF, 1228, 4, 0, tow);
-    }
-}
-
-static void noise(size_t most) {
-    length = most;
-    for (size_t i = 0; i < most; i++) {
-        capture[i] = (uint8_t)any();
-    }
-}
-
-static void preambles(size_t most) {
-    length = most;
-    memset(capture, 0x55, most);
-}
-
 static void readings(const char *by_frame, const char *in_one, int rounds) {
     timed(by_frame, rounds, 1, (const side[SIDES]){our_reading, twins_reading, rusts_reading, sliced_reading});
     timed(in_one, rounds, 1, (const side[SIDES]){our_totals, twins_reading, rusts_reading, sliced_reading});
@@ -274,6 +290,13 @@ int main(int argc, char **argv) {
     timed("CRC of a long buffer", rounds, 1, (const side[SIDES]){our_crc, twins_crc, rusts_crc, sliced_crc});
     readings("closed reading, clean, frame by frame", "closed reading, clean, in one call", rounds);
     timed("feeding epochs", rounds, 1, (const side[SIDES]){our_feeding, twins_feeding, rusts_feeding, NULL});
+    mixed(most);
+    timed("rows read of all 18 messages", rounds, 1, (const side[SIDES]){our_rows, twins_rows, rusts_rows, NULL});
+    keep_rows();
+    writing_room = length;
+    twins_writing();
+    length = told[0];
+    timed("rows written of 16 messages", rounds, 1, (const side[SIDES]){our_writing, twins_writing, rusts_writing, NULL});
     noise(most);
     readings("closed reading, noise, frame by frame", "closed reading, noise, in one call", rounds);
     /* Every byte begins a frame of 93 that is bad: some 200 ns a byte, so a 64th of them. */

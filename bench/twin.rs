@@ -3,7 +3,9 @@
 use std::slice;
 use std::sync::Mutex;
 
-use twin::fast::{closed, crc_sliced, crc_table, listing_into, Collator, Counts};
+use twin::fast::{
+    closed, crc_sliced, crc_table, listing_into, read_row, write_row, Collator, Counts,
+};
 
 /// The listing last made; it grows once and is used again.
 static TEXT: Mutex<Vec<u8>> = Mutex::new(Vec::new());
@@ -105,6 +107,50 @@ pub unsafe extern "C" fn rust_feed(
             };
             unsafe { *report = told }
             1
+        }
+        Err(no) => no,
+    }
+}
+
+/// 0, or the refusal.
+///
+/// # Safety
+/// The caller keeps: `n` bytes are at `payload` for the length of the call, and
+/// `room` numbers, aligned and nobody else's, at `row`.
+#[no_mangle]
+pub unsafe extern "C" fn rust_read(
+    msg_type: u16,
+    payload: *const u8,
+    n: usize,
+    row: *mut u64,
+    room: usize,
+) -> u8 {
+    let row = unsafe { slice::from_raw_parts_mut(row, room) };
+    read_row(msg_type, unsafe { lent(payload, n) }, row)
+}
+
+/// 0, and the frame's size in `size`; or the refusal.
+///
+/// # Safety
+/// The caller keeps: `fields` numbers are at `row` for the length of the call,
+/// `room` bytes, nobody else's, at `out`, and `size` is aligned and nobody
+/// else's.
+#[no_mangle]
+pub unsafe extern "C" fn rust_write(
+    out: *mut u8,
+    room: usize,
+    msg_type: u16,
+    sender: u32,
+    row: *const u64,
+    fields: usize,
+    size: *mut u64,
+) -> u8 {
+    let out = unsafe { slice::from_raw_parts_mut(out, room) };
+    let row = unsafe { slice::from_raw_parts(row, fields) };
+    match write_row(crc_table, out, msg_type, u16::try_from(sender).ok(), row) {
+        Ok(written) => {
+            unsafe { *size = written as u64 }
+            0
         }
         Err(no) => no,
     }

@@ -1,13 +1,12 @@
-/* Calls the exported functions as told on standard input, and tells what came out: twins/rust/src/bin/twincalls.rs asks and compares.
- * A request is a letter and its arguments, little-endian; lent buffers are filled with 0xEE first. A reply is the answer, and for each lent
- * buffer the FNV-1a hash of all its bytes after the call. */
-#include <stdio.h>
-#include <stdlib.h>
-#include <string.h>
-
+/* Calls the exported functions as told on standard input, and tells what came out: twins/rust/src/bin/twincalls asks and compares, and says
+ * what requests and replies are. */
+#define _DEFAULT_SOURCE /* for mmap */
+#include "lent.h"
 #include "sbp.h"
 
-static uint8_t input[1 << 17], output[1 << 20], state[1 << 10];
+static uint8_t state[1 << 10]; /* a collator's, from request to request */
+
+/* ---- requests */
 
 static uint64_t number(unsigned n) {
     uint8_t bytes[8];
@@ -17,24 +16,39 @@ static uint64_t number(unsigned n) {
     return sbp_number(bytes, n);
 }
 
-/* A length and so many bytes into input. */
-static size_t some(size_t most) {
-    size_t n = number(4);
-    if (n > most || fread(input, 1, n, stdin) != n) {
-        exit(EXIT_FAILURE);
+/* A count, and so many things of some bytes each, to be read alone. */
+static struct block *given(size_t each) {
+    size_t count = number(4);
+    struct block *b = lend(count * each, false);
+    if (fread(b->at, 1, b->n, stdin) != b->n) {
+        fail("a request is cut");
     }
-    return n;
+    memcpy(b->before, b->at, b->n);
+    return b;
 }
 
-/* The room of a lent buffer, which is filled. */
-static size_t filled(uint8_t *buf, size_t most) {
-    size_t room = number(4);
-    if (room > most) {
-        exit(EXIT_FAILURE);
-    }
-    memset(buf, 0xEE, room);
-    return room;
+static struct block *filled(size_t n) {
+    struct block *b = lend(n, true);
+    memset(b->at, FILLED, n);
+    return b;
 }
+
+/* A count of things to be written. */
+static struct block *room_for(size_t each) { return filled(number(4) * each); }
+
+/* The state, of which so many bytes are lent; keep_state takes it back. */
+static struct block *lend_state(void) {
+    size_t room = number(4);
+    if (room > sizeof state) {
+        fail("too much to lend");
+    }
+    struct block *b = lend(room, true);
+    memcpy(b->at, state, room);
+    return b;
+}
+
+
+/* ---- replies */
 
 static void tell(uint64_t value, unsigned n) {
     for (unsigned i = 0; i < n; i++) {
@@ -50,73 +64,193 @@ static void tell_hash(const uint8_t *bytes, size_t n) {
     tell(hash, 8);
 }
 
+/* An answer of some bytes, and what was lent to be written. */
+static void reply(uint64_t answer, unsigned n) {
+    tell(answer, n);
+    tell(untouched(), 1);
+    for (unsigned i = 0; i < lent; i++) {
+        if (blocks[i].written) {
+            tell_hash(blocks[i].at, blocks[i].n);
+        }
+    }
+}
+
+/* What is lent after the state's own bytes is told a second time, by itself. */
+static void keep_state(const struct block *b) {
+    size_t own = b->n < SBP_STATE ? b->n : SBP_STATE;
+    memcpy(state, b->at, b->n);
+    tell_hash(b->at + own, b->n - own);
+}
+
+static uint64_t *numbers(struct block *b) { return (uint64_t *)(void *)b->at; }
+
+/* ---- frames and listings */
+
 static void crc(void) {
-    size_t n = some(sizeof input);
-    tell(sbp_crc(input, n), 2);
+    struct block *bytes = given(1);
+    reply(sbp_crc(bytes->at, bytes->n), 2);
 }
 
 static void answer(void) {
     uint16_t kind = (uint16_t)number(2);
-    size_t n = some(sizeof input);
-    tell(sbp_answer(kind, input, n), 1);
+    struct block *payload = given(1);
+    reply(sbp_answer(kind, payload->at, payload->n), 1);
 }
 
 static void next(void) {
     size_t at = number(8);
     bool opened = number(1) != 0;
-    size_t room = filled(output, sizeof output), n = some(sizeof input);
-    tell(sbp_next(input, n, at, opened, output, room), 1);
-    tell_hash(output, room);
+    struct block *row = room_for(1), *capture = given(1);
+    reply(sbp_next(capture->at, capture->n, at, opened, row->at, row->n), 1);
 }
 
 static void totals(void) {
-    size_t room = filled(output, sizeof output), n = some(sizeof input);
-    tell(sbp_totals(input, n, output, room), 1);
-    tell_hash(output, room);
+    struct block *row = room_for(1), *capture = given(1);
+    reply(sbp_totals(capture->at, capture->n, row->at, row->n), 1);
 }
 
 static void list(void) {
-    uint64_t size = 0xEEEEEEEEEEEEEEEE;
-    size_t room = filled(output, sizeof output), n = some(sizeof input);
-    tell(sbp_list(input, n, output, room, &size), 1);
-    tell_hash(output, room);
-    tell(size, 8);
+    struct block *text = room_for(1), *size = filled(8), *capture = given(1);
+    reply(sbp_list(capture->at, capture->n, text->at, text->n, numbers(size)), 1);
 }
+
+/* ---- rows */
+
+static void read_row(void) {
+    uint16_t kind = (uint16_t)number(2);
+    struct block *row = room_for(8), *payload = given(1);
+    reply(sbp_read(kind, payload->at, payload->n, numbers(row), row->n / 8), 1);
+}
+
+static void observation(void) {
+    uint16_t kind = (uint16_t)number(2);
+    size_t index = number(8);
+    struct block *row = room_for(8), *payload = given(1);
+    reply(sbp_observation(kind, payload->at, payload->n, index, numbers(row), row->n / 8), 1);
+}
+
+static void write_row(void) {
+    uint16_t kind = (uint16_t)number(2);
+    uint32_t sender = (uint32_t)number(4);
+    struct block *out = room_for(1), *size = filled(8), *row = given(8);
+    reply(sbp_write(out->at, out->n, kind, sender, numbers(row), row->n / 8, numbers(size)), 1);
+}
+
+static void write_obs(void) {
+    uint16_t kind = (uint16_t)number(2);
+    uint32_t sender = (uint32_t)number(4);
+    struct block *out = room_for(1), *size = filled(8), *head = given(8), *rows = given(8);
+    reply(sbp_write_obs(out->at, out->n, kind, sender, numbers(head), head->n / 8, numbers(rows), rows->n / 8, numbers(size)), 1);
+}
+
+static void write_log(void) {
+    uint32_t sender = (uint32_t)number(4);
+    uint8_t level = (uint8_t)number(1);
+    struct block *out = room_for(1), *size = filled(8), *words = given(1);
+    reply(sbp_write_log(out->at, out->n, sender, level, words->at, words->n, numbers(size)), 1);
+}
+
+static void write_frame(void) {
+    uint16_t kind = (uint16_t)number(2);
+    uint32_t sender = (uint32_t)number(4);
+    struct block *out = room_for(1), *size = filled(8), *payload = given(1);
+    reply(sbp_write_frame(out->at, out->n, kind, sender, payload->at, payload->n, numbers(size)), 1);
+}
+
+/* ---- flags and phase */
+
+/* All flags of a type. */
+static void flags(void) {
+    uint16_t kind = (uint16_t)number(2);
+    for (unsigned f = 0; f < 256; f++) {
+        tell(sbp_fix(kind, (uint8_t)f), 1);
+        tell(sbp_raim_available(kind, (uint8_t)f), 1);
+        tell(sbp_raim_repaired(kind, (uint8_t)f), 1);
+        tell(sbp_above_sea(kind, (uint8_t)f), 1);
+    }
+}
+
+static void heartbeat(void) {
+    uint32_t f = (uint32_t)number(4);
+    tell(sbp_system_error(f), 1);
+    tell(sbp_io_error(f), 1);
+    tell(sbp_nap_error(f), 1);
+    tell(sbp_external_antenna(f), 1);
+}
+
+static void phase(void) {
+    int32_t l_i = (int32_t)number(4);
+    tell((uint64_t)sbp_carrier_phase(l_i, (uint8_t)number(1)), 8);
+}
+
+static void parts(void) {
+    int64_t whole = (int64_t)number(8);
+    struct block *l_i = filled(4), *l_f = filled(1);
+    reply(sbp_phase_parts(whole, (int32_t *)(void *)l_i->at, l_f->at), 1);
+}
+
+static void version(void) {
+    tell(sbp_version(), 4);
+    tell(SBP_VERSION, 4);
+}
+
+/* ---- collators: the state is that of the request before */
 
 static void collator(void) {
-    uint16_t roster[64];
-    size_t room = filled(state, sizeof state), n = number(4);
-    if (n > sizeof roster / sizeof *roster) {
-        exit(EXIT_FAILURE);
-    }
-    for (size_t i = 0; i < n; i++) {
-        roster[i] = (uint16_t)number(2);
-    }
-    tell(sbp_collator(state, room, roster, n), 1);
-    tell_hash(state, room);
+    memset(state, FILLED, sizeof state);
+    struct block *s = lend_state(), *roster = given(2);
+    reply(sbp_collator(s->at, s->n, (const uint16_t *)(void *)roster->at, roster->n / 2), 1);
+    keep_state(s);
 }
 
-/* The state is that of the call before. */
-static void feed(void) {
-    size_t room = number(4), report = filled(output, sizeof output);
+static void growing(void) {
+    memset(state, FILLED, sizeof state);
+    struct block *s = lend_state();
+    reply(sbp_growing(s->at, s->n), 1);
+    keep_state(s);
+}
+
+static void enlist(void) {
+    struct block *s = lend_state();
     uint16_t kind = (uint16_t)number(2), sender = (uint16_t)number(2);
-    size_t n = some(sizeof input);
-    tell(sbp_feed(state, room, kind, sender, input, n, output, report), 1);
-    tell_hash(state, room);
-    tell_hash(output, report);
+    reply(sbp_enlist(s->at, s->n, kind, sender), 1);
+    keep_state(s);
+}
+
+static void feed(void) {
+    struct block *s = lend_state(), *report = room_for(1);
+    uint16_t kind = (uint16_t)number(2), sender = (uint16_t)number(2);
+    struct block *payload = given(1);
+    reply(sbp_feed(s->at, s->n, kind, sender, payload->at, payload->n, report->at, report->n), 1);
+    keep_state(s);
 }
 
 int main(void) {
+    map_blocks();
     for (;;) {
+        lent = 0;
         switch (number(1)) {
         case 'c': crc(); break;
         case 'a': answer(); break;
         case 'n': next(); break;
         case 't': totals(); break;
         case 'l': list(); break;
+        case 'r': read_row(); break;
+        case 'o': observation(); break;
+        case 'w': write_row(); break;
+        case 'W': write_obs(); break;
+        case 'L': write_log(); break;
+        case 'F': write_frame(); break;
+        case 'x': flags(); break;
+        case 'h': heartbeat(); break;
+        case 'p': phase(); break;
+        case 'P': parts(); break;
+        case 'v': version(); break;
         case 'm': collator(); break;
+        case 'g': growing(); break;
+        case 'e': enlist(); break;
         case 'f': feed(); break;
-        default: return EXIT_FAILURE;
+        default: fail("no such request");
         }
         fflush(stdout);
     }

@@ -68,6 +68,21 @@ impl Collator {
         })
     }
 
+    /// One that lists nobody yet, for `enlist`.
+    pub fn growing() -> Collator {
+        Collator { listed: Vec::new() }
+    }
+
+    /// Before a frame is fed: the sender of an OBS frame, malformed ones too,
+    /// is listed where it is not and a seat is free.
+    pub fn enlist(mut self, msg_type: u16, sender: u16) -> Collator {
+        let known = self.listed.iter().any(|&(listed, _)| listed == sender);
+        if msg_type == OBS_TYPE && !known && self.listed.len() < MAX_ROSTER {
+            self.listed.push((sender, Place::Idle));
+        }
+        self
+    }
+
     pub fn feed(mut self, msg_type: u16, sender: u16, payload: &[u8]) -> Fed {
         let outcome = match self.try_feed(msg_type, sender, payload) {
             Ok(None) => Outcome::Taken,

@@ -2,9 +2,10 @@
 
 use twin::crc::crc;
 use twin::epochs::Outcome;
-use twin::fast::{closed, crc_sliced, crc_table, listing_into};
-use twin::gen::{self, Rng};
+use twin::fast::{closed, crc_sliced, crc_table, listing_into, read_row, write_row};
+use twin::gen::{self, broken_range, off_length, valid, Rng};
 use twin::listing::listing;
+use twin::messages::Message;
 
 #[test]
 fn crcs_agree() {
@@ -97,4 +98,43 @@ fn input_lengths() {
     assert_eq!(listing(&[0x55]), "T 1 0 0 0 1\n");
     assert_eq!(listing(&[0; 65536]), "T 65536 0 65536 0 0\n");
     assert_eq!(listing(&[0; 65537]), "R 11\n");
+}
+
+#[test]
+fn rows_agree() {
+    let mut rng = Rng::new(5);
+    for turn in 0..20_000 {
+        let known = rng.pick(&gen::TYPES);
+        let msg_type = if turn % 9 == 0 { known ^ 1 } else { known };
+        let payload = match rng.below(3) {
+            0 => off_length(&mut rng, known),
+            1 => broken_range(&mut rng, known).unwrap_or_default(),
+            _ => valid(&mut rng, known),
+        };
+        let mut row = [7; 8];
+        let room = rng.between(0, 8);
+        let told = read_row(msg_type, &payload, &mut row[..room]);
+        let mut numbers = match Message::read(msg_type, &payload).map(|m| m.row()) {
+            Ok(expected) if expected.len() <= room => {
+                assert_eq!(told, 0);
+                assert_eq!(row[..expected.len()], expected);
+                expected
+            }
+            refused => {
+                assert_eq!(told, refused.err().unwrap_or(32));
+                assert_eq!(row, [7; 8]);
+                vec![7; room]
+            }
+        };
+        if rng.chance(1, 3) && !numbers.is_empty() {
+            let at = rng.below(numbers.len());
+            numbers[at] = rng.word() >> rng.below(64);
+        }
+        let sender = rng.chance(1, 2).then(|| rng.word() as u16);
+        let (mut ours, mut fast) = (vec![0; rng.below(60)], vec![0; 60]);
+        fast.truncate(ours.len());
+        let written = Message::of_row(msg_type, &numbers).and_then(|m| m.write(sender, &mut ours));
+        let theirs = write_row(crc_table, &mut fast, msg_type, sender, &numbers);
+        assert_eq!((written, ours), (theirs, fast), "{msg_type} {numbers:x?}");
+    }
 }

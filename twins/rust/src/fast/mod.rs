@@ -7,9 +7,11 @@ mod crc;
 mod decimal;
 mod find;
 mod listing;
+mod rows;
 
 pub use answer::answer;
 pub use collate::{Collator, Epoch};
 pub use crc::{crc_sliced, crc_table};
 pub use find::{closed, Counts};
 pub use listing::listing_into;
+pub use rows::{read_row, write_row};

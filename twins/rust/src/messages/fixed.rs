@@ -1,6 +1,7 @@
 //! A message of fixed length is a list of fields in order, and a range.
 
-/// Makes the record, its reader (22, then 23) and its writer (23, 31, 32).
+/// Makes the record, its reader (22, then 23), its writer (23, 31, 32), and
+/// its row of numbers both ways.
 macro_rules! fixed {
     (
         $(#[$doc:meta])*
@@ -17,6 +18,7 @@ macro_rules! fixed {
         impl $name {
             pub const TYPE: u16 = $type;
             pub const LENGTH: usize = $length;
+            const NAMES: &'static [&'static str] = &[$(stringify!($field)),*];
 
             pub fn in_range(&self) -> bool {
                 let rule: fn(&Self) -> bool = $in_range;
@@ -51,6 +53,24 @@ macro_rules! fixed {
                 let mut payload = Vec::with_capacity(Self::LENGTH);
                 $($crate::messages::field::Field::put(&self.$field, &mut payload);)*
                 $crate::frames::write(Self::TYPE, sender, &payload, out)
+            }
+
+            /// A number for each field in order.
+            pub fn row(&self) -> Vec<u64> {
+                vec![$($crate::messages::field::Field::number(&self.$field)),*]
+            }
+
+            /// 22 for another number of fields, 23 where a field cannot hold
+            /// its number; ranges are for the writer to judge.
+            #[allow(unused_mut, unused_variables)]
+            pub fn of_row(row: &[u64]) -> Result<Self, $crate::numbers::No> {
+                if row.len() != Self::NAMES.len() {
+                    return Err($crate::numbers::LENGTH_WRONG);
+                }
+                let mut numbers = row;
+                Ok(Self {
+                    $($field: $crate::messages::field::next(&mut numbers)?,)*
+                })
             }
         }
     };

@@ -1,6 +1,9 @@
 //! What the flag bits mean. The two position messages number their fix modes
 //! differently, so each message has its own function.
 
+use super::{BaselineEcef, BaselineHeading, BaselineNed, PosEcef, PosLlh};
+use crate::numbers::{No, TYPE_UNKNOWN};
+
 #[derive(Clone, Copy, Debug, PartialEq, Eq)]
 pub enum FixMode {
     SinglePoint,
@@ -79,6 +82,47 @@ pub fn baseline_raim_available(flags: u8) -> bool {
 
 pub fn baseline_raim_repair(flags: u8) -> bool {
     bit(flags.into(), 4)
+}
+
+/// The same by a message's type: 21 for a type without.
+pub fn fix_mode(msg_type: u16, flags: u8) -> Result<Option<FixMode>, No> {
+    match msg_type {
+        PosEcef::TYPE => Ok(pos_ecef_fix_mode(flags)),
+        PosLlh::TYPE => Ok(pos_llh_fix_mode(flags)),
+        BaselineEcef::TYPE | BaselineNed::TYPE | BaselineHeading::TYPE => {
+            Ok(baseline_fix_mode(flags))
+        }
+        _ => Err(TYPE_UNKNOWN),
+    }
+}
+
+pub fn raim_available(msg_type: u16, flags: u8) -> Result<bool, No> {
+    match msg_type {
+        PosEcef::TYPE => Ok(pos_ecef_raim_available(flags)),
+        PosLlh::TYPE => Ok(pos_llh_raim_available(flags)),
+        BaselineEcef::TYPE | BaselineNed::TYPE | BaselineHeading::TYPE => {
+            Ok(baseline_raim_available(flags))
+        }
+        _ => Err(TYPE_UNKNOWN),
+    }
+}
+
+pub fn raim_repair(msg_type: u16, flags: u8) -> Result<bool, No> {
+    match msg_type {
+        PosEcef::TYPE => Ok(pos_ecef_raim_repair(flags)),
+        PosLlh::TYPE => Ok(pos_llh_raim_repair(flags)),
+        BaselineEcef::TYPE | BaselineNed::TYPE | BaselineHeading::TYPE => {
+            Ok(baseline_raim_repair(flags))
+        }
+        _ => Err(TYPE_UNKNOWN),
+    }
+}
+
+pub fn height_mode(msg_type: u16, flags: u8) -> Result<HeightMode, No> {
+    match msg_type {
+        PosLlh::TYPE => Ok(pos_llh_height_mode(flags)),
+        _ => Err(TYPE_UNKNOWN),
+    }
 }
 
 pub fn heartbeat_system_error(flags: u32) -> bool {

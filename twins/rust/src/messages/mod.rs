@@ -11,6 +11,7 @@ mod log;
 mod navigation;
 mod obs;
 mod phase;
+mod rows;
 mod settings;
 mod system;
 
@@ -23,8 +24,8 @@ pub use navigation::{
     BaselineEcef, BaselineHeading, BaselineNed, Dops, GpsTime, PosEcef, PosLlh, VelEcef, VelNed,
 };
 pub use obs::{
-    observation, observation_count, read_obs_header, write_obs, ObsHeader, ObsReader, Observation,
-    OBS_TYPE,
+    obs_of_rows, observation, observation_count, read_obs_header, write_obs, ObsHeader, ObsReader,
+    Observation, OBS_TYPE,
 };
 pub use phase::{phase_from_parts, phase_to_parts, PHASE_MAX, PHASE_MIN};
 pub use settings::{SettingsReadByIndexDone, SettingsReadByIndexReq, SettingsSave};

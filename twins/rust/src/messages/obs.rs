@@ -1,6 +1,6 @@
 //! OBS: a header of 7 bytes and k observations of 16.
 
-use super::field::Field;
+use super::field::{next, Field};
 use crate::frames;
 use crate::numbers::{No, LENGTH_WRONG, NO_SUCH_OBSERVATION, PAYLOAD_TOO_LONG};
 
@@ -8,6 +8,9 @@ pub const OBS_TYPE: u16 = 0x0049;
 const MAX_OBSERVATIONS: usize = 15;
 const HEADER: usize = 7;
 const EACH: usize = 16;
+/// The numbers of a header's row, and of an observation's.
+const HEADER_ROW: usize = 3;
+const EACH_ROW: usize = 8;
 
 #[derive(Clone, Copy, Debug, PartialEq, Eq)]
 pub struct ObsHeader {
@@ -26,6 +29,10 @@ impl ObsHeader {
     pub fn counter(&self) -> u8 {
         self.n_obs & 15
     }
+
+    pub fn row(&self) -> Vec<u64> {
+        vec![self.tow.number(), self.wn.number(), self.n_obs.number()]
+    }
 }
 
 /// 003's P is `p`, L.i is `l_i`, L.f is `l_f`, and sid's parts stand alone.
@@ -39,6 +46,51 @@ pub struct Observation {
     pub sat: u16,
     pub code: u8,
     pub reserved: u8,
+}
+
+impl Observation {
+    pub fn row(&self) -> Vec<u64> {
+        vec![
+            self.p.number(),
+            self.l_i.number(),
+            self.l_f.number(),
+            self.cn0.number(),
+            self.lock.number(),
+            self.sat.number(),
+            self.code.number(),
+            self.reserved.number(),
+        ]
+    }
+}
+
+/// Header and observations of their numbers: 22 for counts that are not a
+/// header's and some observations', 23 where a field cannot hold its number.
+pub fn obs_of_rows(head: &[u64], rows: &[u64]) -> Result<(ObsHeader, Vec<Observation>), No> {
+    if head.len() != HEADER_ROW || rows.len() % EACH_ROW != 0 {
+        return Err(LENGTH_WRONG);
+    }
+    let mut numbers = head;
+    let header = ObsHeader {
+        tow: next(&mut numbers)?,
+        wn: next(&mut numbers)?,
+        n_obs: next(&mut numbers)?,
+    };
+    let observations: Result<_, No> = rows.chunks(EACH_ROW).map(observation_of_row).collect();
+    Ok((header, observations?))
+}
+
+fn observation_of_row(row: &[u64]) -> Result<Observation, No> {
+    let mut numbers = row;
+    Ok(Observation {
+        p: next(&mut numbers)?,
+        l_i: next(&mut numbers)?,
+        l_f: next(&mut numbers)?,
+        cn0: next(&mut numbers)?,
+        lock: next(&mut numbers)?,
+        sat: next(&mut numbers)?,
+        code: next(&mut numbers)?,
+        reserved: next(&mut numbers)?,
+    })
 }
 
 /// k of a payload of 16k + 7 bytes, k from 0 to 15; any other length is 22.

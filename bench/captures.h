@@ -1,0 +1,21 @@
+/* The captures that are timed: so many bytes, or for whole frames a few less, at capture, with their number in length. */
+#ifndef CAPTURES_H
+#define CAPTURES_H
+
+#include <stddef.h>
+#include <stdint.h>
+
+enum { FRAME_MOST = 263 };
+
+extern uint8_t *capture;
+extern size_t length;
+
+/* Epochs of a base and a rover, packet by packet, with positions between. */
+void clean(size_t most);
+/* Every kind of message by turns, all readable: ns and fix mode are 0. */
+void mixed(size_t most);
+void noise(size_t most);
+/* Nothing but 0x55. */
+void preambles(size_t most);
+
+#endif
