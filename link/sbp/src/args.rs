@@ -35,7 +35,10 @@ pub fn parse(words: impl IntoIterator<Item = OsString>) -> Result<Asked, String>
         Some("list") => files(Command::List, words),
         Some("json") => files(Command::Json, words),
         Some("epochs") => files(Command::Epochs, words),
-        _ => Err(format!("no command is called '{}'", first.display())),
+        _ => Err(format!(
+            "no command is called '{}'",
+            first.to_string_lossy()
+        )),
     }
 }
 
@@ -48,7 +51,7 @@ fn files(command: Command, words: impl Iterator<Item = OsString>) -> Result<Aske
             Some("--") if options => options = false,
             Some("--help" | "-h") if options => return Ok(Asked::Help(Some(command))),
             _ if options && word.as_encoded_bytes().starts_with(b"-") => {
-                return Err(format!("there is no option '{}'", word.display()));
+                return Err(format!("there is no option '{}'", word.to_string_lossy()));
             }
             _ => sources.push(Source::File(word.into())),
         }
@@ -104,6 +107,9 @@ mod tests {
     fn wrong_use_says_what() {
         assert_eq!(asked(""), Err("no command is given".into()));
         assert_eq!(asked("lst a"), Err("no command is called 'lst'".into()));
-        assert_eq!(asked("list --all"), Err("there is no option '--all'".into()));
+        assert_eq!(
+            asked("list --all"),
+            Err("there is no option '--all'".into())
+        );
     }
 }

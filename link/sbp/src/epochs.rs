@@ -125,7 +125,10 @@ fn push_table(text: &mut Vec<u8>, lines: &[[String; 8]]) {
     let width = |column: usize| lines.iter().map(|cells| cells[column].len()).max();
     let widths: Vec<usize> = (0..8).filter_map(width).collect();
     for cells in lines {
-        let padded = cells.iter().zip(&widths).map(|(cell, &width)| format!("{cell:>width$}"));
+        let padded = cells
+            .iter()
+            .zip(&widths)
+            .map(|(cell, &width)| format!("{cell:>width$}"));
         text.extend_from_slice(padded.collect::<Vec<_>>().join("  ").as_bytes());
         text.push(b'\n');
     }

@@ -67,9 +67,18 @@ impl Window {
 }
 
 /// Hands on the frames that are at hand, and keeps what the next ones may begin with.
-fn pass(window: &mut Window, closed: bool, reader: &mut impl Reader, out: &mut Output) -> io::Result<()> {
+fn pass(
+    window: &mut Window,
+    closed: bool,
+    reader: &mut impl Reader,
+    out: &mut Output,
+) -> io::Result<()> {
     let at_hand = &window.bytes[..window.filled];
-    let mut frames = if closed { Frames::closed(at_hand) } else { Frames::open(at_hand) };
+    let mut frames = if closed {
+        Frames::closed(at_hand)
+    } else {
+        Frames::open(at_hand)
+    };
     for frame in frames.by_ref() {
         reader.frame(window.offset + frame.at as u64, &frame, &mut out.text);
         out.settle()?;
@@ -83,7 +92,12 @@ fn pass(window: &mut Window, closed: bool, reader: &mut impl Reader, out: &mut O
 }
 
 /// A whole capture. What was found is written before a read that may wait.
-fn walk(source: &mut impl Read, size: usize, reader: &mut impl Reader, out: &mut Output) -> Result<Totals, Stop> {
+fn walk(
+    source: &mut impl Read,
+    size: usize,
+    reader: &mut impl Reader,
+    out: &mut Output,
+) -> Result<Totals, Stop> {
     let mut window = Window::new(size);
     loop {
         out.flush().map_err(Stop::Write)?;
@@ -107,7 +121,11 @@ fn read(mut source: impl Read, reader: &mut impl Reader, out: &mut Output) -> Re
     walked.map(|_| ())
 }
 
-pub fn read_source(source: &Source, reader: &mut impl Reader, out: &mut Output) -> Result<(), Stop> {
+pub fn read_source(
+    source: &Source,
+    reader: &mut impl Reader,
+    out: &mut Output,
+) -> Result<(), Stop> {
     match source {
         Source::Standard => {
             out.progress.begin(None);

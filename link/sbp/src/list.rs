@@ -19,7 +19,12 @@ impl List {
 impl Reader for List {
     fn frame(&mut self, at: u64, frame: &Frame, text: &mut Vec<u8>) {
         let told = frame.answer().map_or_else(Refusal::number, |()| 0);
-        let numbers = [frame.kind.into(), frame.sender.into(), frame.payload.len() as u64, told.into()];
+        let numbers = [
+            frame.kind.into(),
+            frame.sender.into(),
+            frame.payload.len() as u64,
+            told.into(),
+        ];
         line(text, b'F', at, &numbers);
         // A refused frame ends no epoch.
         if let Ok(Some(e)) = self.collator.feed(frame) {

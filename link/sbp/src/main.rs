@@ -36,7 +36,9 @@ fn run(command: Command, sources: &[Source]) -> u8 {
     match command {
         Command::List => read(sources, |_| list::List::new()),
         Command::Json => read(sources, |_| json::Json),
-        Command::Epochs => read(sources, |place| epochs::Epochs::titled(title(sources, place))),
+        Command::Epochs => read(sources, |place| {
+            epochs::Epochs::titled(title(sources, place))
+        }),
     }
 }
 

@@ -36,7 +36,9 @@ impl Output {
             self.progress.wipe();
         }
         let mut standard = io::stdout().lock();
-        let written = standard.write_all(&self.text).and_then(|()| standard.flush());
+        let written = standard
+            .write_all(&self.text)
+            .and_then(|()| standard.flush());
         // also after a failure: nothing is tried twice
         self.text.clear();
         written

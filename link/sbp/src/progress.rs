@@ -58,7 +58,12 @@ fn words(read: u64, length: Option<u64>) -> String {
     match length {
         Some(length) if length > 0 => {
             let percent = u128::from(read) * 100 / u128::from(length);
-            format!("{} of {} read, {}%", mebibytes(read), mebibytes(length), percent.min(100))
+            format!(
+                "{} of {} read, {}%",
+                mebibytes(read),
+                mebibytes(length),
+                percent.min(100)
+            )
         }
         _ => format!("{} read", mebibytes(read)),
     }
@@ -74,14 +79,23 @@ mod tests {
 
     #[test]
     fn percent_where_the_length_is_known() {
-        assert_eq!(words(3 << 20, Some(12 << 20)), "3.0 MiB of 12.0 MiB read, 25%");
+        assert_eq!(
+            words(3 << 20, Some(12 << 20)),
+            "3.0 MiB of 12.0 MiB read, 25%"
+        );
         assert_eq!(words(5 << 19, None), "2.5 MiB read");
     }
 
     /// A file may grow while it is read.
     #[test]
     fn never_over_a_hundred_percent() {
-        assert_eq!(words(9 << 20, Some(8 << 20)), "9.0 MiB of 8.0 MiB read, 100%");
-        assert_eq!(words(u64::MAX, Some(u64::MAX)).split(", ").nth(1), Some("100%"));
+        assert_eq!(
+            words(9 << 20, Some(8 << 20)),
+            "9.0 MiB of 8.0 MiB read, 100%"
+        );
+        assert_eq!(
+            words(u64::MAX, Some(u64::MAX)).split(", ").nth(1),
+            Some("100%")
+        );
     }
 }

@@ -46,12 +46,18 @@ mod tests {
     #[test]
     fn plain_text_is_itself() {
         assert_eq!(quoted(b""), r#""""#);
-        assert_eq!(quoted("Höhe 5 m \u{7f}\u{1f6f0}".as_bytes()), "\"Höhe 5 m \u{7f}\u{1f6f0}\"");
+        assert_eq!(
+            quoted("Höhe 5 m \u{7f}\u{1f6f0}".as_bytes()),
+            "\"Höhe 5 m \u{7f}\u{1f6f0}\""
+        );
     }
 
     #[test]
     fn what_json_escapes() {
-        assert_eq!(quoted(b"a\"b\\c\n\r\t\0\x1f"), r#""a\"b\\c\n\r\t\u0000\u001f""#);
+        assert_eq!(
+            quoted(b"a\"b\\c\n\r\t\0\x1f"),
+            r#""a\"b\\c\n\r\t\u0000\u001f""#
+        );
     }
 
     #[test]
