@@ -11,15 +11,15 @@ sys.dont_write_bytecode = True
 sys.path.insert(0, os.path.join(os.path.dirname(os.path.abspath(__file__)), "tool_parts"))
 import captures
 import common
-import epochs
-import json_lines
-import listing
-import pipes
+import lists
+import objects
+import piped
+import tables
 import trouble
 import unit
 
-PARTS = {"unit": unit.cases, "list": listing.cases, "long": captures.cases, "pipes": pipes.cases, "json": json_lines.cases,
-         "epochs": epochs.cases, "use": trouble.cases}
+PARTS = {"unit": unit.cases, "list": lists.cases, "long": captures.cases, "pipes": piped.cases, "json": objects.cases, "epochs": tables.cases,
+         "use": trouble.cases}
 
 
 def difference(got, wanted):

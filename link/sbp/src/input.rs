@@ -4,9 +4,11 @@ use crate::args::Source;
 use crate::output::Output;
 use std::fs::File;
 use std::io::{self, ErrorKind, Read};
-use yaqtumeer::{Counts, Frame, Frames};
+use yaqtumeer::{Counts, Frame, Frames, LONGEST_FRAME};
 
+/// The longest frame has room in it, so that there is always room for more of a frame that waits for its rest.
 const WINDOW: usize = 256 << 10;
+const _: () = assert!(WINDOW >= LONGEST_FRAME);
 
 /// What a command does with a capture.
 pub trait Reader {
@@ -137,6 +139,76 @@ pub fn read_source(
             let known = file.metadata().ok().filter(|about| about.is_file());
             out.progress.begin(known.map(|about| about.len()));
             read(file, reader, out)
+        }
+    }
+}
+
+#[cfg(test)]
+mod tests {
+    use super::*;
+    use yaqtumeer::{totals, write_frame};
+
+    /// Frames of all lengths with noise between them, and a cut one at the end.
+    fn capture() -> Vec<u8> {
+        let mut capture = Vec::new();
+        for n in 0..=255 {
+            let mut frame = [0; LONGEST_FRAME];
+            let size = write_frame(&mut frame, 0x0800 + n, Some(n), &vec![0x55; n.into()]);
+            capture.extend_from_slice(&frame[..size.expect("there is room")]);
+            capture.extend_from_slice(&[0x55, 9, 0x55][..usize::from(n % 4)]);
+        }
+        capture.extend_from_slice(&[0x55, 1, 2, 3, 4, 255, 7]);
+        capture
+    }
+
+    /// Gives some bytes at a time, and is interrupted before each.
+    struct Pieces<'a> {
+        left: &'a [u8],
+        size: usize,
+        interrupted: bool,
+    }
+
+    impl Read for Pieces<'_> {
+        fn read(&mut self, to: &mut [u8]) -> io::Result<usize> {
+            self.interrupted = !self.interrupted;
+            if self.interrupted {
+                return Err(ErrorKind::Interrupted.into());
+            }
+            let n = self.size.min(to.len());
+            (&mut self.left).take(n as u64).read(to)
+        }
+    }
+
+    #[derive(Default)]
+    struct Offsets(Vec<(u64, u16, usize)>);
+
+    impl Reader for Offsets {
+        fn frame(&mut self, at: u64, frame: &Frame, _text: &mut Vec<u8>) {
+            self.0.push((at, frame.kind, frame.payload.len()));
+        }
+
+        fn end(&mut self, _totals: Option<&Totals>, _text: &mut Vec<u8>) {}
+    }
+
+    #[test]
+    fn any_window_and_any_pieces_give_the_same() {
+        let capture = capture();
+        let whole = Frames::closed(&capture).map(|f| (f.at as u64, f.kind, f.payload.len()));
+        let whole: Vec<_> = whole.collect();
+        for window in [LONGEST_FRAME, LONGEST_FRAME + 1, 1000, 4096] {
+            for size in [1, 2, 7, 255, 263, 5000] {
+                let mut source = Pieces {
+                    left: &capture,
+                    size,
+                    interrupted: false,
+                };
+                let mut found = Offsets::default();
+                let told = walk(&mut source, window, &mut found, &mut Output::new());
+                assert_eq!(found.0, whole);
+                let told = told.expect("it is read to its end");
+                assert_eq!(told.length, capture.len() as u64);
+                assert_eq!(told.counts, totals(&capture));
+            }
         }
     }
 }

@@ -1,6 +1,7 @@
 """A capture that comes through a pipe, in any pieces, gives the same lines, and gives them as they come; memory stays small."""
 import select
 import subprocess
+import tempfile
 
 import captures
 import common
@@ -11,15 +12,17 @@ MOST_MEMORY = 8 << 20
 
 def in_pieces(command, data, sizes):
     """What it prints where the capture comes in pieces of these sizes, over and over."""
-    with common.started(command) as program:
+    # into a file: nobody reads its output while the pieces are written
+    with tempfile.TemporaryFile() as out, common.started(command, stdout=out) as program:
         at, turn = 0, 0
         while at < len(data):
             size = sizes[turn % len(sizes)]
             program.stdin.write(data[at:at + size])
             program.stdin.flush()
             at, turn = at + size, turn + 1
-        out, said = program.communicate()
-        return out, said, program.returncode
+        _, said = program.communicate()
+        out.seek(0)
+        return out.read(), said, program.returncode
 
 
 def first_line(command, data):
@@ -28,7 +31,8 @@ def first_line(command, data):
         program.stdin.write(data)
         program.stdin.flush()
         line = program.stdout.readline() if select.select([program.stdout], [], [], WAIT)[0] else b"nothing came"
-        return line, program.communicate()[0]
+        program.stdin.close()
+        return line, program.stdout.read()
 
 
 def memory(command, data):

@@ -1,0 +1,142 @@
+"""Files, wrong use, closed pipes, help, versions, and progress on a terminal alone."""
+import os
+import re
+import select
+import socket
+import subprocess
+import tempfile
+
+import captures
+import common
+import twin
+
+WIPE = b"\r\x1b[K"
+LISTED = captures.listed(captures.SAMPLE)
+
+
+def read_error(command, data):
+    """What it prints, says and leaves where its connection is reset after it has told of all of this: the other end closes with bytes unread."""
+    ours, theirs = socket.socketpair()
+    with theirs, common.started(command, stdin=theirs) as program:
+        ours.sendall(data)
+        told = program.stdout.readline() if command != "epochs" else emptied(theirs)
+        theirs.sendall(b"\0")
+        ours.close()
+        return told + program.stdout.read(), program.stderr.read(), program.wait()
+
+
+def emptied(end):
+    """Nothing, once all that was sent to that end is read."""
+    while select.select([end], [], [], 0)[0]:
+        pass
+    return b""
+
+
+def first_line(*words):
+    """The first line, after which its reader closes the pipe; what it says, and its exit status."""
+    with common.started(*words, stdin=subprocess.DEVNULL) as program:
+        line = program.stdout.readline()
+        program.stdout.close()
+        return line, program.stderr.read(), program.wait()
+
+
+def on_terminal(*words, data=None):
+    """What stands on a terminal that is its standard error; and its exit status."""
+    ours, theirs = os.openpty()
+    with common.started(*words, stdout=subprocess.DEVNULL, stderr=theirs, stdin=subprocess.PIPE) as program:
+        os.close(theirs)
+        if data is not None:
+            program.stdin.write(data)
+        program.stdin.close()
+        shown = b""
+        try:
+            while piece := os.read(ours, 4096):
+                shown += piece
+        except OSError:  # a terminal that nobody has open any more gives EIO
+            pass
+        os.close(ours)
+        return shown, program.wait()
+
+
+def files(work):
+    sample, other, absent = (os.path.join(work, name) for name in ("sample", "-other", "absent"))
+    for name, data in ((sample, captures.SAMPLE), (other, twin.frame(0, 5, b"")[:-1])):
+        with open(name, "wb") as file:
+            file.write(data)
+    short = captures.listed(twin.frame(0, 5, b"")[:-1])
+    missing, folder = b"sbp: %s: No such file or directory\n" % absent.encode(), b"sbp: %s: Is a directory\n" % work.encode()
+    yield "a file by name", common.run("list", sample), (LISTED, b"", 0)
+    yield "standard input by its dash", common.run("list", "-", data=captures.SAMPLE), (LISTED, b"", 0)
+    yield "several files", common.run("list", sample, "-", other, data=b"\x55"), (LISTED + captures.listed(b"\x55") + short, b"", 0)
+    yield "a missing file", common.run("list", absent), (b"", missing, 1)
+    yield "a missing file among others", common.run("list", sample, absent, other), (LISTED + short, missing, 1)
+    for command in ("list", "json"):
+        yield "%s of a folder" % command, common.run(command, work), (b"", folder, 1)
+    yield "epochs of a folder", common.run("epochs", work)[1:], (folder, 1)
+    with open(os.path.join(work, "sample"), "rb") as file:
+        done = subprocess.run([common.SBP, "list"], stdin=file, stdout=subprocess.PIPE)
+        yield "a file as standard input", (done.stdout, done.returncode), (LISTED, 0)
+    done = subprocess.run([common.SBP, "list", "--", "-other"], cwd=work, stdout=subprocess.PIPE)
+    yield "a name that looks like an option", (done.stdout, done.returncode), (short, 0)
+    with open("/dev/full", "wb") as full:
+        done = subprocess.run([common.SBP, "json", sample], stdout=full, stderr=subprocess.PIPE)
+        yield "a full disk", (done.stderr, done.returncode), (b"sbp: standard output: No space left on device\n", 1)
+
+
+def read_errors():
+    frame = twin.frame(twin.OBS, 4, twin.obs(1, 2, 0x10, 0))
+    said = b"sbp: standard input: Connection reset by peer\n"
+    for command in ("list", "json", "epochs"):
+        whole = common.run(command, data=frame)[0]
+        before = b"".join(line for line in whole.splitlines(True) if not line.startswith(b"T "))
+        yield "%s where a read fails in the middle" % command, read_error(command, frame + b"\x55\x49"), (before, said, 1)
+
+
+def wrong_use():
+    for words in ([], ["lists"], ["list", "--all"], ["json", "-x", "file"], ["--list"], [""]):
+        out, said, status = common.run(*words)
+        yield "wrong use: %s" % words, (out, said.startswith(b"sbp: ") and said.endswith(b"; see sbp --help\n"), status), (b"", True, 2)
+
+
+def told():
+    """Help names all commands, keys and columns; the versions are those of the crate and of the header."""
+    with open(os.path.join(common.CRATE, "Cargo.toml")) as about:
+        version = re.search('^version = "(.*)"', about.read(), re.M).group(1)
+    yield "versions", common.run("--version"), (b"sbp %s (library %s)\n" % (version.encode(), version.encode()), b"", 0)
+    asked = {(): "list json epochs", ("list",): "F E T", ("json",): "offset answer preamble msg_type msg_name sender length payload crc UNKNOWN",
+             ("epochs",): "sender epochs first_wn first_tow last_wn last_tow observations no_epoch"}
+    for command, words in asked.items():
+        out, said, status = common.run(*command, "--help")
+        lacking = [word for word in words.split() + ["Exit"] if word not in re.findall(r"\w+", out.decode())]
+        yield "help %s" % " ".join(command), (out.startswith(b"usage: sbp"), lacking, said, status), (True, [], b"", 0)
+
+
+def progress(work):
+    small, long = os.path.join(work, "sample"), os.path.join(work, "long")
+    data = captures.SAMPLE * 2000
+    with open(long, "wb") as file:
+        file.write(data)
+    for command in ("list", "json", "epochs"):
+        yield "%s of a long file without a terminal" % command, common.run(command, long)[1:], (b"", 0)
+        shown, status = on_terminal(command, long)
+        looks = re.fullmatch(rb"(\r[\d.]+ MiB of 11\.3 MiB read, \d+%\x1b\[K)+\r\x1b\[K", shown) is not None
+        yield "%s of a long file on a terminal: %r" % (command, shown), (looks, status), (True, 0)
+    yield "a small file on a terminal", on_terminal("list", small), (b"", 0)
+    shown, status = on_terminal("epochs", data=data)
+    looks = re.fullmatch(rb"(\r[\d.]+ MiB read\x1b\[K)+\r\x1b\[K", shown) is not None
+    yield "a long pipe on a terminal: %r" % shown, (looks, status), (True, 0)
+    for command in ("list", "json"):
+        line = common.run(command, small)[0].splitlines(True)[0]
+        yield "%s into a pipe that is closed" % command, first_line(command, long), (line, b"", 0)
+    with subprocess.Popen([common.SBP, "--help"], stdout=subprocess.PIPE, stderr=subprocess.PIPE) as program:
+        program.stdout.close()
+        yield "help into a pipe that is closed", (program.stderr.read(), program.wait()), (b"", 0)
+
+
+def cases():
+    with tempfile.TemporaryDirectory() as work:
+        yield from files(work)
+        yield from progress(work)
+    yield from read_errors()
+    yield from wrong_use()
+    yield from told()
