@@ -5,6 +5,7 @@ Builds it with cargo over target/lib (or YAQTUMEER_LIB), and runs it: see tool_p
 usage: tool.py [PART..], after link/library, and for the part `list` after rt check sbplist; all parts without a word
 """
 import os
+import subprocess
 import sys
 
 sys.dont_write_bytecode = True
@@ -33,10 +34,14 @@ def difference(got, wanted):
 
 def held(part):
     """Whether each comparison of a part holds."""
-    for name, got, wanted in PARTS[part]():
-        if got != wanted:
-            print("differs: %s: %s: %s" % (part, name, difference(got, wanted)), flush=True)
-        yield got == wanted
+    try:
+        for name, got, wanted in PARTS[part]():
+            if got != wanted:
+                print("differs: %s: %s: %s" % (part, name, difference(got, wanted)), flush=True)
+            yield got == wanted
+    except (OSError, ValueError, subprocess.SubprocessError) as wrong:
+        print("stopped: %s: %r" % (part, wrong))
+        yield False
 
 
 def results(parts):

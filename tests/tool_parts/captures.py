@@ -4,6 +4,7 @@ import random
 import common
 import make
 import twin
+import twins
 
 SAMPLE = make.capture()
 
@@ -46,6 +47,11 @@ def noise(seed, size, start=0.02):
 def cut_to_the_window():
     """Frames of the longest kind, laid so that refilling a window of a power of two cuts them everywhere."""
     return b"".join(twin.frame(0x0401, i % 3, bytes([i % 8]) + b"\x55" * 254) for i in range(2500)) + b"\x55\x01"
+
+
+def generated(count):
+    for seed, data in enumerate(twins.captures(1, count), 1):
+        yield "generated capture %d" % seed, data
 
 
 def long_ones():

@@ -12,6 +12,11 @@ SBPLIST = [os.path.join(ROOT, "tools", "run"), "sbplist"]
 sys.path[:0] = [os.path.join(ROOT, "twins", "python"), os.path.join(ROOT, "tests", "sample"), os.path.join(ROOT, "tests")]
 
 
+import twins
+
+SECONDS = 300
+
+
 def cargo(*words, **how):
     return subprocess.run(["cargo", *words, "--offline", "--release", "--target-dir", BUILT], cwd=CRATE, **how)
 
@@ -25,12 +30,14 @@ def lacking(parts):
         return "%s, which link/library makes" % library
     if "list" in parts and not os.path.exists(os.path.join(ROOT, "target", "bin", "sbplist")):
         return "sbplist, which rt check sbplist builds"
+    if {"list", "epochs"} & set(parts) and not twins.cargo("build"):
+        return "the Rust twin, which generates captures and did not build"
     return None if cargo("build", "--quiet").returncode == 0 else "the tool, which did not build"
 
 
 def run(*words, data=b"", program=SBP):
     """What it prints, says and leaves as exit status."""
-    done = subprocess.run([program, *words], input=data, stdout=subprocess.PIPE, stderr=subprocess.PIPE)
+    done = subprocess.run([program, *words], input=data, stdout=subprocess.PIPE, stderr=subprocess.PIPE, timeout=SECONDS)
     return done.stdout, done.stderr, done.returncode
 
 

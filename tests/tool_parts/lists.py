@@ -1,10 +1,9 @@
 """Up to 65536 bytes `sbp list` prints what sbplist prints: at the edges and on generated captures. So does the part `long`'s own listing."""
+import itertools
+
 import captures
 import common
 import twin
-import twins
-
-GENERATED = 400
 
 
 def edges():
@@ -23,16 +22,9 @@ def edges():
     yield "unknown and malformed", b"".join(twin.frame(k, 9, bytes(n)) for k in kinds for n in (0, 7, 11, 24, 32, 255))
 
 
-def generated():
-    for seed, data in enumerate(twins.captures(1, GENERATED), 1):
-        if len(data) <= 65536:
-            yield "generated capture %d" % seed, data
-
-
 def cases():
-    yield "the twin that generates captures builds", twins.cargo("build"), True
-    for some in (edges(), generated()):
-        for name, data in some:
-            lines, said, status = common.run(*common.SBPLIST[1:], data=data, program=common.SBPLIST[0])
-            yield name, common.run("list", data=data), (lines, said, status)
-            yield name + ", the listing to compare long ones with", captures.listed(data), lines
+    generated = ((name, data) for name, data in captures.generated(400) if len(data) <= 65536)
+    for name, data in itertools.chain(edges(), generated):
+        lines, said, status = common.run(*common.SBPLIST[1:], data=data, program=common.SBPLIST[0])
+        yield name, common.run("list", data=data), (lines, said, status)
+        yield name + ", the listing to compare long ones with", captures.listed(data), lines

@@ -5,7 +5,6 @@ import tempfile
 import captures
 import common
 import twin
-import twins
 
 HEADINGS = "sender epochs first_wn first_tow last_wn last_tow observations no_epoch".split()
 
@@ -45,8 +44,7 @@ def samples():
     yield "nine senders", captures.many_senders(9)
     yield "forty senders", captures.many_senders(40) * 3
     yield "the end of every range", b"".join(twin.frame(twin.OBS, 65535, twin.obs(2**32 - 1, 65535, 0xF0 + i, 15)) for i in range(15))
-    if twins.cargo("build"):
-        yield from (("generated capture %d" % seed, data) for seed, data in enumerate(twins.captures(1, 150), 1))
+    yield from captures.generated(150)
 
 
 def cases():

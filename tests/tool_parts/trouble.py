@@ -5,12 +5,12 @@ import select
 import socket
 import subprocess
 import tempfile
+import tty
 
 import captures
 import common
 import twin
 
-WIPE = b"\r\x1b[K"
 LISTED = captures.listed(captures.SAMPLE)
 
 
@@ -40,10 +40,11 @@ def first_line(*words):
         return line, program.stderr.read(), program.wait()
 
 
-def on_terminal(*words, data=None):
-    """What stands on a terminal that is its standard error; and its exit status."""
+def on_terminal(*words, data=None, both=False):
+    """What is written to a terminal that is its standard error, or both; and its exit status."""
     ours, theirs = os.openpty()
-    with common.started(*words, stdout=subprocess.DEVNULL, stderr=theirs, stdin=subprocess.PIPE) as program:
+    tty.setraw(theirs)
+    with common.started(*words, stdout=theirs if both else subprocess.DEVNULL, stderr=theirs) as program:
         os.close(theirs)
         if data is not None:
             program.stdin.write(data)
@@ -122,6 +123,9 @@ def progress(work):
         looks = re.fullmatch(rb"(\r[\d.]+ MiB of 11\.3 MiB read, \d+%\x1b\[K)+\r\x1b\[K", shown) is not None
         yield "%s of a long file on a terminal: %r" % (command, shown), (looks, status), (True, 0)
     yield "a small file on a terminal", on_terminal("list", small), (b"", 0)
+    shown, status = on_terminal("list", long, both=True)
+    lines, times = re.subn(rb"\r[^\r\n]*%\x1b\[K\r\x1b\[K", b"", shown)
+    yield "lines and progress on one terminal", (lines, times > 0, status), (common.run("list", long)[0], True, 0)
     shown, status = on_terminal("epochs", data=data)
     looks = re.fullmatch(rb"(\r[\d.]+ MiB read\x1b\[K)+\r\x1b\[K", shown) is not None
     yield "a long pipe on a terminal: %r" % shown, (looks, status), (True, 0)

@@ -7,7 +7,8 @@ use yaqtumeer::{Collator, Epoch, Frame, Obs};
 /// A collator lists at most so many senders.
 const SEATS: usize = 8;
 
-const HEADINGS: [&str; 8] = [
+const COLUMNS: usize = 8;
+const HEADINGS: [&str; COLUMNS] = [
     "sender",
     "epochs",
     "first_wn",
@@ -51,7 +52,7 @@ impl Row {
         self.collated += u64::from(epoch.n);
     }
 
-    fn cells(&self) -> [String; 8] {
+    fn cells(&self) -> [String; COLUMNS] {
         let wn = |e: Option<Epoch>| e.map_or("-".into(), |e| e.wn.to_string());
         let tow = |e: Option<Epoch>| e.map_or("-".into(), |e| e.tow.to_string());
         [
@@ -121,9 +122,9 @@ impl Reader for Epochs {
 }
 
 /// Columns as wide as their widest cell, aligned to the right.
-fn push_table(text: &mut Vec<u8>, lines: &[[String; 8]]) {
+fn push_table(text: &mut Vec<u8>, lines: &[[String; COLUMNS]]) {
     let width = |column: usize| lines.iter().map(|cells| cells[column].len()).max();
-    let widths: Vec<usize> = (0..8).filter_map(width).collect();
+    let widths: Vec<usize> = (0..COLUMNS).filter_map(width).collect();
     for cells in lines {
         let padded = cells
             .iter()
@@ -140,7 +141,7 @@ mod tests {
 
     #[test]
     fn columns_are_as_wide_as_their_widest_cell() {
-        let narrow = ["1"; 8].map(String::from);
+        let narrow = ["1"; COLUMNS].map(String::from);
         let mut wide = narrow.clone();
         wide[1] = "12345".into();
         let mut text = Vec::new();

@@ -4,6 +4,7 @@ use crate::args::Source;
 use crate::output::Output;
 use std::fs::File;
 use std::io::{self, ErrorKind, Read};
+use std::os::fd::AsFd;
 use yaqtumeer::{Counts, Frame, Frames, LONGEST_FRAME};
 
 /// The longest frame has room in it, so that there is always room for more of a frame that waits for its rest.
@@ -123,24 +124,23 @@ fn read(mut source: impl Read, reader: &mut impl Reader, out: &mut Output) -> Re
     walked.map(|_| ())
 }
 
+fn opened(source: &Source) -> io::Result<File> {
+    match source {
+        Source::Standard => io::stdin().as_fd().try_clone_to_owned().map(File::from),
+        Source::File(path) => File::open(path),
+    }
+}
+
 pub fn read_source(
     source: &Source,
     reader: &mut impl Reader,
     out: &mut Output,
 ) -> Result<(), Stop> {
-    match source {
-        Source::Standard => {
-            out.progress.begin(None);
-            read(io::stdin().lock(), reader, out)
-        }
-        Source::File(path) => {
-            let file = File::open(path).map_err(Stop::Read)?;
-            // A pipe or a device has no length to speak of.
-            let known = file.metadata().ok().filter(|about| about.is_file());
-            out.progress.begin(known.map(|about| about.len()));
-            read(file, reader, out)
-        }
-    }
+    let file = opened(source).map_err(Stop::Read)?;
+    // A pipe or a device has no length to speak of.
+    let known = file.metadata().ok().filter(|about| about.is_file());
+    out.progress.begin(known.map(|about| about.len()));
+    read(file, reader, out)
 }
 
 #[cfg(test)]

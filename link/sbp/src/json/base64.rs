@@ -3,14 +3,23 @@
 const DIGITS: &[u8; 64] = b"ABCDEFGHIJKLMNOPQRSTUVWXYZabcdefghijklmnopqrstuvwxyz0123456789+/";
 
 pub fn push(text: &mut Vec<u8>, bytes: &[u8]) {
-    for three in bytes.chunks(3) {
-        let mut bits = [0; 4];
-        bits[1..=three.len()].copy_from_slice(three);
-        let bits = u32::from_be_bytes(bits);
-        let mut four = [18, 12, 6, 0].map(|shift| DIGITS[(bits >> shift & 63) as usize]);
-        four[three.len() + 1..].fill(b'=');
+    let whole = bytes.chunks_exact(3);
+    let rest = whole.remainder();
+    for three in whole {
+        text.extend_from_slice(&digits([three[0], three[1], three[2]]));
+    }
+    if !rest.is_empty() {
+        let mut three = [0; 3];
+        three[..rest.len()].copy_from_slice(rest);
+        let mut four = digits(three);
+        four[rest.len() + 1..].fill(b'=');
         text.extend_from_slice(&four);
     }
+}
+
+fn digits([a, b, c]: [u8; 3]) -> [u8; 4] {
+    let bits = u32::from_be_bytes([0, a, b, c]);
+    [18, 12, 6, 0].map(|shift| DIGITS[(bits >> shift & 63) as usize])
 }
 
 #[cfg(test)]
