@@ -1,5 +1,6 @@
 """What all parts need: the built tool, and how it is run."""
 import os
+import select
 import shutil
 import subprocess
 import sys
@@ -10,11 +11,10 @@ BUILT = os.path.join(ROOT, "target", "sbp")
 SBP = os.path.join(BUILT, "release", "sbp")
 SBPLIST = [os.path.join(ROOT, "tools", "run"), "sbplist"]
 sys.path[:0] = [os.path.join(ROOT, "twins", "python"), os.path.join(ROOT, "tests", "sample"), os.path.join(ROOT, "tests")]
-
-
 import twins
 
 SECONDS = 300
+WAIT = 20
 
 
 def cargo(*words, **how):
@@ -44,3 +44,8 @@ def run(*words, data=b"", program=SBP):
 def started(*words, **ends):
     pipes = dict(stdin=subprocess.PIPE, stdout=subprocess.PIPE, stderr=subprocess.PIPE)
     return subprocess.Popen([SBP, *words], **{**pipes, **ends})
+
+
+def line_of(program):
+    """A line of what it prints, while more of its input may come."""
+    return program.stdout.readline() if select.select([program.stdout], [], [], WAIT)[0] else b"nothing came"

@@ -1,12 +1,10 @@
 """A capture that comes through a pipe, in any pieces, gives the same lines, and gives them as they come; memory stays small."""
-import select
 import subprocess
 import tempfile
 
 import captures
 import common
 
-WAIT = 60
 MOST_MEMORY = 8 << 20
 
 
@@ -30,7 +28,7 @@ def first_line(command, data):
     with common.started(command) as program:
         program.stdin.write(data)
         program.stdin.flush()
-        line = program.stdout.readline() if select.select([program.stdout], [], [], WAIT)[0] else b"nothing came"
+        line = common.line_of(program)
         program.stdin.close()
         return line, program.stdout.read()
 

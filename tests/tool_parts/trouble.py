@@ -5,6 +5,7 @@ import select
 import socket
 import subprocess
 import tempfile
+import time
 import tty
 
 import captures
@@ -19,16 +20,16 @@ def read_error(command, data):
     ours, theirs = socket.socketpair()
     with theirs, common.started(command, stdin=theirs) as program:
         ours.sendall(data)
-        told = program.stdout.readline() if command != "epochs" else emptied(theirs)
+        told = common.line_of(program) if command != "epochs" else emptied(program, theirs)
         theirs.sendall(b"\0")
         ours.close()
         return told + program.stdout.read(), program.stderr.read(), program.wait()
 
 
-def emptied(end):
-    """Nothing, once all that was sent to that end is read."""
-    while select.select([end], [], [], 0)[0]:
-        pass
+def emptied(program, end):
+    """Nothing, once it has read all that was sent to that end."""
+    while program.poll() is None and select.select([end], [], [], 0)[0]:
+        time.sleep(0.01)
     return b""
 
 
@@ -71,9 +72,8 @@ def files(work):
     yield "several files", common.run("list", sample, "-", other, data=b"\x55"), (LISTED + captures.listed(b"\x55") + short, b"", 0)
     yield "a missing file", common.run("list", absent), (b"", missing, 1)
     yield "a missing file among others", common.run("list", sample, absent, other), (LISTED + short, missing, 1)
-    for command in ("list", "json"):
+    for command in ("list", "json", "epochs"):
         yield "%s of a folder" % command, common.run(command, work), (b"", folder, 1)
-    yield "epochs of a folder", common.run("epochs", work)[1:], (folder, 1)
     with open(os.path.join(work, "sample"), "rb") as file:
         done = subprocess.run([common.SBP, "list"], stdin=file, stdout=subprocess.PIPE)
         yield "a file as standard input", (done.stdout, done.returncode), (LISTED, 0)
@@ -115,12 +115,13 @@ def told():
 def progress(work):
     small, long = os.path.join(work, "sample"), os.path.join(work, "long")
     data = captures.SAMPLE * 2000
+    length = b"%.1f" % (len(data) / 2**20)
     with open(long, "wb") as file:
         file.write(data)
     for command in ("list", "json", "epochs"):
         yield "%s of a long file without a terminal" % command, common.run(command, long)[1:], (b"", 0)
         shown, status = on_terminal(command, long)
-        looks = re.fullmatch(rb"(\r[\d.]+ MiB of 11\.3 MiB read, \d+%\x1b\[K)+\r\x1b\[K", shown) is not None
+        looks = re.fullmatch(rb"(\r[\d.]+ MiB of %s MiB read, \d+%%\x1b\[K)+\r\x1b\[K" % re.escape(length), shown) is not None
         yield "%s of a long file on a terminal: %r" % (command, shown), (looks, status), (True, 0)
     yield "a small file on a terminal", on_terminal("list", small), (b"", 0)
     shown, status = on_terminal("list", long, both=True)

@@ -111,7 +111,10 @@ impl Reader for Epochs {
         }
     }
 
-    fn end(&mut self, _totals: Option<&Totals>, text: &mut Vec<u8>) {
+    fn end(&mut self, totals: Option<&Totals>, text: &mut Vec<u8>) {
+        if totals.is_none() && self.rows.is_empty() {
+            return;
+        }
         if let Some(title) = &self.title {
             text.extend_from_slice(format!("==> {title} <==\n").as_bytes());
         }

@@ -33,21 +33,21 @@ fn main() -> ExitCode {
 }
 
 fn run(command: Command, sources: &[Source]) -> u8 {
+    // the line above a table where there are several
+    let title = |source: &Source| (sources.len() > 1).then(|| name(source));
     match command {
         Command::List => read(sources, |_| list::List::new()),
         Command::Json => read(sources, |_| json::Json),
-        Command::Epochs => read(sources, |place| {
-            epochs::Epochs::titled(title(sources, place))
-        }),
+        Command::Epochs => read(sources, |source| epochs::Epochs::titled(title(source))),
     }
 }
 
 /// Each source as a capture of its own, with a reader of its own.
-fn read<R: Reader>(sources: &[Source], reader: impl Fn(usize) -> R) -> u8 {
+fn read<R: Reader>(sources: &[Source], reader: impl Fn(&Source) -> R) -> u8 {
     let mut out = Output::new();
     let mut status = 0;
-    for (place, source) in sources.iter().enumerate() {
-        match input::read_source(source, &mut reader(place), &mut out) {
+    for source in sources {
+        match input::read_source(source, &mut reader(source), &mut out) {
             Ok(()) => {}
             Err(Stop::Read(failed)) => {
                 complain(&name(source), &failed);
@@ -79,11 +79,6 @@ fn name(source: &Source) -> String {
         Source::Standard => "standard input".into(),
         Source::File(path) => path.display().to_string(),
     }
-}
-
-/// The line above a table where there are several.
-fn title(sources: &[Source], place: usize) -> Option<String> {
-    (sources.len() > 1).then(|| name(&sources[place]))
 }
 
 fn complain(about: &str, failed: &io::Error) {

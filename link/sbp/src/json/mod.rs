@@ -15,25 +15,17 @@ pub struct Json;
 impl Reader for Json {
     fn frame(&mut self, at: u64, frame: &Frame, text: &mut Vec<u8>) {
         let message = frame.message();
-        let answer = message
-            .as_ref()
-            .map_or_else(|refused| refused.number(), |_| 0);
+        let answer = message.as_ref().map_or_else(|r| r.number(), |_| 0);
+        let name = fields::name(frame.kind).unwrap_or("UNKNOWN");
         text.extend_from_slice(b"{\"offset\":");
         number::push(text, at);
         push_number(text, "answer", answer);
         push_number(text, "preamble", PREAMBLE);
         push_number(text, "msg_type", frame.kind);
-        push_key(text, "msg_name");
-        push_plain(
-            text,
-            fields::name(frame.kind).unwrap_or("UNKNOWN").as_bytes(),
-        );
+        push_quoted(text, "msg_name", |t| t.extend_from_slice(name.as_bytes()));
         push_number(text, "sender", frame.sender);
         push_number(text, "length", frame.payload.len() as u64);
-        push_key(text, "payload");
-        text.push(b'"');
-        base64::push(text, frame.payload);
-        text.push(b'"');
+        push_quoted(text, "payload", |t| base64::push(t, frame.payload));
         push_number(text, "crc", frame.crc);
         if let Ok(message) = message {
             fields::push(text, &message);
@@ -52,9 +44,10 @@ fn push_key(text: &mut Vec<u8>, key: &str) {
 }
 
 /// A string that has nothing to escape.
-fn push_plain(text: &mut Vec<u8>, plain: &[u8]) {
+fn push_quoted(text: &mut Vec<u8>, key: &str, push: impl FnOnce(&mut Vec<u8>)) {
+    push_key(text, key);
     text.push(b'"');
-    text.extend_from_slice(plain);
+    push(text);
     text.push(b'"');
 }
 
