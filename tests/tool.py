@@ -16,11 +16,12 @@ import lists
 import objects
 import piped
 import tables
+import terminal
 import trouble
 import unit
 
 PARTS = {"unit": unit.cases, "list": lists.cases, "long": captures.cases, "pipes": piped.cases, "json": objects.cases, "epochs": tables.cases,
-         "use": trouble.cases}
+         "use": trouble.cases, "terminal": terminal.cases}
 
 
 def difference(got, wanted):

@@ -1,4 +1,4 @@
-"""Files, wrong use, closed pipes, help, versions, and progress on a terminal alone."""
+"""Files, reads that fail, closed pipes, wrong use, help and versions."""
 import os
 import re
 import select
@@ -6,7 +6,6 @@ import socket
 import subprocess
 import tempfile
 import time
-import tty
 
 import captures
 import common
@@ -39,25 +38,6 @@ def first_line(*words):
         line = program.stdout.readline()
         program.stdout.close()
         return line, program.stderr.read(), program.wait()
-
-
-def on_terminal(*words, data=None, both=False):
-    """What is written to a terminal that is its standard error, or both; and its exit status."""
-    ours, theirs = os.openpty()
-    tty.setraw(theirs)
-    with common.started(*words, stdout=theirs if both else subprocess.DEVNULL, stderr=theirs) as program:
-        os.close(theirs)
-        if data is not None:
-            program.stdin.write(data)
-        program.stdin.close()
-        shown = b""
-        try:
-            while piece := os.read(ours, 4096):
-                shown += piece
-        except OSError:  # a terminal that nobody has open any more gives EIO
-            pass
-        os.close(ours)
-        return shown, program.wait()
 
 
 def files(work):
@@ -100,7 +80,7 @@ def wrong_use():
 
 
 def told():
-    """Help names all commands, keys and columns; the versions are those of the crate and of the header."""
+    """Help names all commands, keys and columns; both versions are the crate's."""
     with open(os.path.join(common.CRATE, "Cargo.toml")) as about:
         version = re.search('^version = "(.*)"', about.read(), re.M).group(1)
     yield "versions", common.run("--version"), (b"sbp %s (library %s)\n" % (version.encode(), version.encode()), b"", 0)
@@ -112,26 +92,12 @@ def told():
         yield "help %s" % " ".join(command), (out.startswith(b"usage: sbp"), lacking, said, status), (True, [], b"", 0)
 
 
-def progress(work):
-    small, long = os.path.join(work, "sample"), os.path.join(work, "long")
-    data = captures.SAMPLE * 2000
-    length = b"%.1f" % (len(data) / 2**20)
+def closed_pipes(work):
+    long = os.path.join(work, "long")
     with open(long, "wb") as file:
-        file.write(data)
-    for command in ("list", "json", "epochs"):
-        yield "%s of a long file without a terminal" % command, common.run(command, long)[1:], (b"", 0)
-        shown, status = on_terminal(command, long)
-        looks = re.fullmatch(rb"(\r[\d.]+ MiB of %s MiB read, \d+%%\x1b\[K)+\r\x1b\[K" % re.escape(length), shown) is not None
-        yield "%s of a long file on a terminal: %r" % (command, shown), (looks, status), (True, 0)
-    yield "a small file on a terminal", on_terminal("list", small), (b"", 0)
-    shown, status = on_terminal("list", long, both=True)
-    lines, times = re.subn(rb"\r[^\r\n]*%\x1b\[K\r\x1b\[K", b"", shown)
-    yield "lines and progress on one terminal", (lines, times > 0, status), (common.run("list", long)[0], True, 0)
-    shown, status = on_terminal("epochs", data=data)
-    looks = re.fullmatch(rb"(\r[\d.]+ MiB read\x1b\[K)+\r\x1b\[K", shown) is not None
-    yield "a long pipe on a terminal: %r" % shown, (looks, status), (True, 0)
+        file.write(captures.SAMPLE * 2000)
     for command in ("list", "json"):
-        line = common.run(command, small)[0].splitlines(True)[0]
+        line = common.run(command, data=captures.SAMPLE)[0].splitlines(True)[0]
         yield "%s into a pipe that is closed" % command, first_line(command, long), (line, b"", 0)
     with subprocess.Popen([common.SBP, "--help"], stdout=subprocess.PIPE, stderr=subprocess.PIPE) as program:
         program.stdout.close()
@@ -141,7 +107,7 @@ def progress(work):
 def cases():
     with tempfile.TemporaryDirectory() as work:
         yield from files(work)
-        yield from progress(work)
+        yield from closed_pipes(work)
     yield from read_errors()
     yield from wrong_use()
     yield from told()
