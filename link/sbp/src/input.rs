@@ -137,9 +137,9 @@ pub fn read_source(
     out: &mut Output,
 ) -> Result<(), Stop> {
     let file = opened(source).map_err(Stop::Read)?;
-    // A pipe or a device has no length to speak of.
-    let known = file.metadata().ok().filter(|about| about.is_file());
-    out.progress.begin(known.map(|about| about.len()));
+    // A pipe's or a device's length is 0.
+    out.progress
+        .begin(file.metadata().map_or(0, |about| about.len()));
     read(file, reader, out)
 }
 
