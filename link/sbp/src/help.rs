@@ -1,0 +1,96 @@
+//! What `--help` and `--version` print.
+
+use crate::args::Command;
+
+const USAGE: &str = "\
+usage: sbp list [FILE..]
+       sbp json [FILE..]
+       sbp epochs [FILE..]
+       sbp --help | --version
+
+Reads captures of the Swift Navigation Binary Protocol (SBP 1.1), of any length.
+
+  list    a line for each frame and each epoch, and the totals
+  json    an object a line for each frame, with its fields
+  epochs  a table of observation epochs by sender
+
+`sbp COMMAND --help` says what a command prints.
+";
+
+const LIST: &str = "\
+usage: sbp list [FILE..]
+
+Prints the lines of sbplist, numbers in decimal:
+
+  F offset type sender length answer      for each frame
+  E sender week tow packets observations  after the frame that ends an epoch
+  T length framed junk bad short          at the end of a capture
+
+An answer is 0 (the payload was read), 21 (a type without a reading), 22 (a wrong
+length) or 23 (a field out of its range). Epochs are those of the first eight senders
+of observation frames (type 73). T has the capture's length in bytes, its bytes in
+frames, and those passed over: outside of a frame, at a wrong CRC, at a frame that is
+cut short. A capture that could not be read to its end has no T line.
+";
+
+const JSON: &str = "\
+usage: sbp json [FILE..]
+
+Prints an object a line for each frame, with the keys in this order:
+
+  offset    where the frame begins in its capture
+  answer    0, 21 (a type without a reading), 22 (a wrong length), 23 (a field out of
+            its range)
+  preamble  85
+  msg_type, msg_name, sender, length
+  payload   in base64
+  crc
+  and, where the answer is 0, the payload's fields by the specification's names:
+  MSG_OBS as header (t, n_obs) and obs, MSG_LOG as level and text
+
+A msg_type that has no reading here has the msg_name \"UNKNOWN\". A double is the shortest
+number that comes back to the same bits; one that is no number (NaN, infinities) is a
+string of its bits, \"0x7ff8000000000000\". A byte of a text that is no UTF-8 is escaped
+as \\udc80 to \\udcff (Python: text.encode('utf-8', 'surrogateescape')).
+";
+
+const EPOCHS: &str = "\
+usage: sbp epochs [FILE..]
+
+Prints a line for each sender of observation frames, in order of appearance:
+
+  sender              its number
+  epochs              whole epochs
+  first_wn first_tow  week and time of week (ms) of its first epoch, - without one
+  last_wn last_tow    of its last
+  observations        in its epochs
+  no_epoch            its observation frames that are in no epoch, malformed ones too
+
+With several files each has a table of its own, below a line with its name. A table of
+a capture that could not be read to its end has what came before.
+";
+
+const FILES: &str = "
+Without a file, or where a file is -, standard input is read; each file is a capture of
+its own. On a terminal, standard error shows how far a long capture is read. What was
+found in a pipe is written before more is waited for.
+
+Exit status: 0; 1 if a file could not be opened, read or written (what came before is
+still printed, and the other files are read); 2 for wrong use. A reader that closes
+the pipe early (sbp json FILE | head) ends it quietly and is no trouble.
+";
+
+pub fn text(command: Option<Command>) -> String {
+    let about = match command {
+        None => USAGE,
+        Some(Command::List) => LIST,
+        Some(Command::Json) => JSON,
+        Some(Command::Epochs) => EPOCHS,
+    };
+    format!("{about}{FILES}")
+}
+
+pub fn version() -> String {
+    let (tool, library) = (env!("CARGO_PKG_VERSION"), yaqtumeer::version());
+    format!("sbp {tool} (library {library})\n")
+}

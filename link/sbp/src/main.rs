@@ -1,0 +1,94 @@
+//! `sbp`: captures of any length, by the proved library. What a frame, an answer, a field or an epoch is, the library says.
+
+mod args;
+mod epochs;
+mod help;
+mod input;
+mod json;
+mod list;
+mod number;
+mod output;
+mod progress;
+
+use args::{Asked, Command, Source};
+use input::{Reader, Stop};
+use output::Output;
+use std::io::{self, ErrorKind, Write};
+use std::process::ExitCode;
+
+const TROUBLE: u8 = 1;
+const WRONG_USE: u8 = 2;
+
+fn main() -> ExitCode {
+    let status = match args::parse(std::env::args_os().skip(1)) {
+        Ok(Asked::Help(command)) => print(&help::text(command)),
+        Ok(Asked::Version) => print(&help::version()),
+        Ok(Asked::Run(command, sources)) => run(command, &sources),
+        Err(wrong) => {
+            say(&format!("{wrong}; see sbp --help"));
+            WRONG_USE
+        }
+    };
+    ExitCode::from(status)
+}
+
+fn run(command: Command, sources: &[Source]) -> u8 {
+    // the line above a table where there are several
+    let title = |source: &Source| (sources.len() > 1).then(|| name(source));
+    match command {
+        Command::List => read(sources, |_| list::List::new()),
+        Command::Json => read(sources, |_| json::Json),
+        Command::Epochs => read(sources, |source| epochs::Epochs::titled(title(source))),
+    }
+}
+
+/// Each source as a capture of its own, with a reader of its own.
+fn read<R: Reader>(sources: &[Source], reader: impl Fn(&Source) -> R) -> u8 {
+    let mut out = Output::new();
+    let mut status = 0;
+    for source in sources {
+        match input::read_source(source, &mut reader(source), &mut out) {
+            Ok(()) => {}
+            Err(Stop::Read(failed)) => {
+                complain(&name(source), &failed);
+                status = TROUBLE;
+            }
+            Err(Stop::Write(failed)) => return status.max(unwritten(&failed)),
+        }
+    }
+    status
+}
+
+fn print(text: &str) -> u8 {
+    let mut out = Output::new();
+    out.text.extend_from_slice(text.as_bytes());
+    out.flush().map_or_else(|failed| unwritten(&failed), |()| 0)
+}
+
+/// A pipe that its reader has closed wants no more, and that is all.
+fn unwritten(failed: &io::Error) -> u8 {
+    if failed.kind() == ErrorKind::BrokenPipe {
+        return 0;
+    }
+    complain("standard output", failed);
+    TROUBLE
+}
+
+fn name(source: &Source) -> String {
+    match source {
+        Source::Standard => "standard input".into(),
+        Source::File(path) => path.display().to_string(),
+    }
+}
+
+fn complain(about: &str, failed: &io::Error) {
+    let text = failed.to_string();
+    // what follows is the system's number of it
+    let plain = text.split(" (os error").next().unwrap_or_default();
+    say(&format!("{about}: {plain}"));
+}
+
+/// Where standard error takes nothing there is nobody to tell.
+fn say(text: &str) {
+    let _ = writeln!(io::stderr(), "sbp: {text}");
+}

@@ -1,0 +1,68 @@
+"""Captures to list, what the Python twin makes of them at any length, and the part `long`: captures beyond sbplist's 65536 bytes."""
+import random
+
+import common
+import make
+import twin
+import twins
+
+SAMPLE = make.capture()
+
+
+def collated(data, roster=None):
+    """Each frame with the epoch that it ends or None, and the counts; of the first so many senders."""
+    found, counts, _ = twin.reading(data, False)
+    senders = list(dict.fromkeys(sender for _, kind, sender, _ in found if kind == twin.OBS))
+    sorter, frames = twin.Sorter(*senders[:roster]), []
+    for frame in found:
+        word, *numbers = sorter.feed(*frame[1:]).split()
+        frames.append((frame, [int(n) for n in numbers] if word == "epoch" else None))
+    return frames, counts
+
+
+def listed(data):
+    """sbplist's lines, whatever the length."""
+    frames, counts = collated(data, 8)
+    lines = []
+    for (at, kind, sender, payload), epoch in frames:
+        lines.append("F %d %d %d %d %d" % (at, kind, sender, len(payload), twin.answer(kind, payload)))
+        if epoch is not None:
+            lines.append("E %d %d %d %d %d" % tuple(epoch))
+    lines.append("T %d %s" % (len(data), twin.row(counts)))
+    return "".join(line + "\n" for line in lines).encode()
+
+
+def many_senders(count):
+    """Epochs of two packets, the packets of all senders by turns; each third sender's second packet comes twice."""
+    packets = ((s, i) for i in (0, 1) for s in range(count) for _ in range(1 + (i == 1 and s % 3 == 0)))
+    return b"".join(twin.frame(twin.OBS, 65530 - s, twin.obs(5 + s, 6, 0x20 + i, s % 16)) for s, i in packets)
+
+
+def noise(seed, size, start=0.02):
+    """Any bytes, a share of them 0x55."""
+    rng = random.Random(seed)
+    return bytes(0x55 if rng.random() < start else rng.randrange(256) for _ in range(size))
+
+
+def cut_to_the_window():
+    """Frames of the longest kind, laid so that refilling a window of a power of two cuts them everywhere."""
+    return b"".join(twin.frame(0x0401, i % 3, bytes([i % 8]) + b"\x55" * 254) for i in range(2500)) + b"\x55\x01"
+
+
+def generated(count):
+    for seed, data in enumerate(twins.captures(1, count), 1):
+        yield "generated capture %d" % seed, data
+
+
+def long_ones():
+    yield "the sample 120 times", (SAMPLE + b"\x55") * 120
+    yield "frames of 263 bytes", cut_to_the_window()
+    yield "noise", noise(3, 300000)
+    yield "all 0x55", b"\x55" * 70000
+    yield "65537 bytes", bytes(65536) + b"\x55"
+    yield "forty senders, many times", many_senders(40) * 60
+
+
+def cases():
+    for name, data in long_ones():
+        yield name, common.run("list", data=data), (listed(data), b"", 0)
