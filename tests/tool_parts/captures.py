@@ -1,4 +1,4 @@
-"""Captures to list, what the Python twin makes of them at any length, and the part `long`: captures beyond sbplist's 65536 bytes."""
+"""Captures to list, and the part `long`: captures beyond sbplist's 65536 bytes, against the Python twin's lines."""
 import random
 
 import common
@@ -7,29 +7,6 @@ import twin
 import twins
 
 SAMPLE = make.capture()
-
-
-def collated(data, roster=None):
-    """Each frame with the epoch that it ends or None, and the counts; of the first so many senders."""
-    found, counts, _ = twin.reading(data, False)
-    senders = list(dict.fromkeys(sender for _, kind, sender, _ in found if kind == twin.OBS))
-    sorter, frames = twin.Sorter(*senders[:roster]), []
-    for frame in found:
-        word, *numbers = sorter.feed(*frame[1:]).split()
-        frames.append((frame, [int(n) for n in numbers] if word == "epoch" else None))
-    return frames, counts
-
-
-def listed(data):
-    """sbplist's lines, whatever the length."""
-    frames, counts = collated(data, 8)
-    lines = []
-    for (at, kind, sender, payload), epoch in frames:
-        lines.append("F %d %d %d %d %d" % (at, kind, sender, len(payload), twin.answer(kind, payload)))
-        if epoch is not None:
-            lines.append("E %d %d %d %d %d" % tuple(epoch))
-    lines.append("T %d %s" % (len(data), twin.row(counts)))
-    return "".join(line + "\n" for line in lines).encode()
 
 
 def many_senders(count):
@@ -65,4 +42,4 @@ def long_ones():
 
 def cases():
     for name, data in long_ones():
-        yield name, common.run("list", data=data), (listed(data), b"", 0)
+        yield name, common.run("list", data=data), (twin.lines(data).encode(), b"", 0)

@@ -27,4 +27,4 @@ def cases():
     for name, data in itertools.chain(edges(), generated):
         lines, said, status = common.run(*common.SBPLIST[1:], data=data, program=common.SBPLIST[0])
         yield name, common.run("list", data=data), (lines, said, status)
-        yield name + ", the listing to compare long ones with", captures.listed(data), lines
+        yield name + ", the listing to compare long ones with", twin.lines(data).encode(), lines

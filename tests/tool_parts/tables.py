@@ -19,7 +19,7 @@ def row(sender, frames):
 
 
 def table(data):
-    frames, _ = captures.collated(data)
+    frames, _ = twin.collated(data)
     senders = dict.fromkeys(sender for (_, kind, sender, _), _ in frames if kind == twin.OBS)
     return [HEADINGS] + [row(sender, frames) for sender in senders]
 

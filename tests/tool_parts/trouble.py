@@ -11,7 +11,7 @@ import captures
 import common
 import twin
 
-LISTED = captures.listed(captures.SAMPLE)
+LISTED = twin.lines(captures.SAMPLE).encode()
 
 
 def read_error(command, data):
@@ -45,11 +45,11 @@ def files(work):
     for name, data in ((sample, captures.SAMPLE), (other, twin.frame(0, 5, b"")[:-1])):
         with open(name, "wb") as file:
             file.write(data)
-    short = captures.listed(twin.frame(0, 5, b"")[:-1])
+    short = twin.lines(twin.frame(0, 5, b"")[:-1]).encode()
     missing, folder = b"sbp: %s: No such file or directory\n" % absent.encode(), b"sbp: %s: Is a directory\n" % work.encode()
     yield "a file by name", common.run("list", sample), (LISTED, b"", 0)
     yield "standard input by its dash", common.run("list", "-", data=captures.SAMPLE), (LISTED, b"", 0)
-    yield "several files", common.run("list", sample, "-", other, data=b"\x55"), (LISTED + captures.listed(b"\x55") + short, b"", 0)
+    yield "several files", common.run("list", sample, "-", other, data=b"\x55"), (LISTED + twin.lines(b"\x55").encode() + short, b"", 0)
     yield "a missing file", common.run("list", absent), (b"", missing, 1)
     yield "a missing file among others", common.run("list", sample, absent, other), (LISTED + short, missing, 1)
     for command in ("list", "json", "epochs"):

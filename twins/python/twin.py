@@ -120,17 +120,29 @@ class Sorter:
         return " epoch %d %d %d %d %d" % (sender, wn, tow, n, sum(packet[4] for packet in run))
 
 
-def listing(data):
-    """What sbplist prints."""
-    if len(data) > 65536:
-        return "R 11\n"
+def collated(data, most=None):
+    """Each frame with the numbers of the epoch that it ends, or None, and the counts; of the first so many senders."""
     found, counts, _ = reading(data, False)
     senders = list(dict.fromkeys(sender for _, kind, sender, _ in found if kind == OBS))
-    sorter, lines = Sorter(*senders[:8]), []
-    for at, kind, sender, payload in found:
-        lines.append("F %d %d %d %d %d" % (at, kind, sender, len(payload), answer(kind, payload)))
-        outcome = sorter.feed(kind, sender, payload)
-        if outcome.startswith(" epoch"):
-            lines.append("E" + outcome[len(" epoch"):])
-    lines.append("T %d %s" % (len(data), row(counts)))
-    return "\n".join(lines) + "\n"
+    sorter, frames = Sorter(*senders[:most]), []
+    for frame in found:
+        word, *numbers = sorter.feed(*frame[1:]).split()
+        frames.append((frame, [int(n) for n in numbers] if word == "epoch" else None))
+    return frames, counts
+
+
+def lines(data):
+    """A listing, whatever the length."""
+    frames, counts = collated(data, 8)
+    listed = []
+    for (at, kind, sender, payload), epoch in frames:
+        listed.append("F %d %d %d %d %d" % (at, kind, sender, len(payload), answer(kind, payload)))
+        if epoch is not None:
+            listed.append("E %d %d %d %d %d" % tuple(epoch))
+    listed.append("T %d %s" % (len(data), row(counts)))
+    return "".join(line + "\n" for line in listed)
+
+
+def listing(data):
+    """What sbplist prints."""
+    return "R 11\n" if len(data) > 65536 else lines(data)
