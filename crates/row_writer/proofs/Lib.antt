@@ -1,0 +1,6 @@
+pub mod Runs
+pub mod Sends
+pub mod Alone
+pub mod RowsSent
+pub mod ObsRows
+pub mod WrittenTyped

@@ -1,52 +1,69 @@
+-- `row_writer::row::refusal` meets its contract, test by test.
+use mathlib.Core.Path.{sym, _∙_}
+use mathlib.Core.Bool.{and-eq-true-iff}
+use native.Mathlib.Omega.{arith}
+use lib.ListN.{length}
+use borrow.Author.Tests.{eq-eqb, ne-eqb}
+use Rattle.payloads.specs.Payloads.{layoutFor}
+use Rattle.formats.specs.Wide.{numbersIn}
+use Rattle.row_writer.proofs.Alone.{counted-as, fits-shaped, few-fields}
+use Rattle.row_writer.proofs.RowsSent.{number-21, number-22, number-23, number-0}
 use borrow.Author.Needs.{needs}
 use Rattle.row_writer.proofs.row.refusal.Statement.{statement}
 use Rattle.row_writer.proofs.row.refusal.Tie as tie
-use Rattle.row_writer.proofs.row.refusal.Reads as reads
-use Rattle.row_writer.proofs.row.refusal.Lts as lts
-use Rattle.formats.proofs.count.Reads as count-reads
-use Rattle.payloads.proofs.shape_of.Reads as shape-of-reads
-use Rattle.row_writer.proofs.row.fits.Reads as fits-reads
-use Rattle.row_writer.proofs.row.is_alone.Reads as is-alone-reads
 
--- src/row.rt:43:8
 is-alone-requires : tie.Need-is-alone-requires
 is-alone-requires c κs = search needs
 
--- src/row.rt:44:13
 shape-of-requires : tie.Need-shape-of-requires
 shape-of-requires c κs = search needs
 
--- src/row.rt:45:25
 count-requires : tie.Need-count-requires
 count-requires c κs = ?
 
--- src/row.rt:45:54
 count-requires-2 : tie.Need-count-requires-2
 count-requires-2 c κs = ?
 
--- src/row.rt:45:25
 add-if2 : tie.Need-add-if2
-add-if2 c = ?
+add-if2 c =
+    let s = c .before .before .shape-of .result in
+    omega (arith, c .count2 .ensures, c .before .count .ensures, few-fields (s .head), few-fields (s .more))
 
--- src/row.rt:46:16
 fits-requires : tie.Need-fits-requires
 fits-requires c κs = search needs
 
--- src/row.rt:47:17
 returns : tie.Need-returns
-returns c = ?
+returns c =
+    let two = c .before .before .before in
+    let shape = two .before .before in
+    let asked = shape .before .before in
+    let a = asked .before .before .args in
+    let known = sym (asked .is-alone .ensures) ∙ shape .before .if1 .taken in
+    let many = c .before .before .if2 .taken ∙ counted-as (a .kind) (shape .shape-of .ensures) (two .before .count .ensures) (two .count2 .ensures) (and-eq-true-iff _ _ .0 known .1) in
+    number-0 (a .kind) (a .row .now) known (eq-eqb (length (a .row .now)) (numbersIn (layoutFor (a .kind))) many) (sym (c .before .fits2 .ensures ∙ fits-shaped (a .kind) (shape .shape-of .ensures) (a .row .now)) ∙ c .if3 .taken)
 
--- src/row.rt:49:13
 returns-2 : tie.Need-returns-2
-returns-2 c = ?
+returns-2 c =
+    let two = c .before .before .before in
+    let shape = two .before .before in
+    let asked = shape .before .before in
+    let a = asked .before .before .args in
+    let known = sym (asked .is-alone .ensures) ∙ shape .before .if1 .taken in
+    let many = c .before .before .if2 .taken ∙ counted-as (a .kind) (shape .shape-of .ensures) (two .before .count .ensures) (two .count2 .ensures) (and-eq-true-iff _ _ .0 known .1) in
+    number-23 (a .kind) (a .row .now) known (eq-eqb (length (a .row .now)) (numbersIn (layoutFor (a .kind))) many) (sym (c .before .fits2 .ensures ∙ fits-shaped (a .kind) (shape .shape-of .ensures) (a .row .now)) ∙ c .if3 .left)
 
--- src/row.rt:51:9
 returns-3 : tie.Need-returns-3
-returns-3 c = ?
+returns-3 c =
+    let two = c .before in
+    let shape = two .before .before in
+    let asked = shape .before .before in
+    let a = asked .before .before .args in
+    let known = sym (asked .is-alone .ensures) ∙ shape .before .if1 .taken in
+    let counted = counted-as (a .kind) (shape .shape-of .ensures) (two .before .count .ensures) (two .count2 .ensures) (and-eq-true-iff _ _ .0 known .1) in
+    number-22 (a .kind) (a .row .now) known (ne-eqb (length (a .row .now)) (numbersIn (layoutFor (a .kind))) (λ e. c .if2 .left (e ∙ sym counted)))
 
--- src/row.rt:40:1
 returns-4 : tie.Need-returns-4
-returns-4 c = ?
+returns-4 c = let a = c .before .before .before .args in number-21 (a .kind) (a .row .now) (sym (c .before .is-alone .ensures) ∙ c .if1 .left)
 
 pub refusal-spec : {M : Type 1} → statement M
 refusal-spec =

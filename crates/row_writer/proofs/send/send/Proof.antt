@@ -1,30 +1,30 @@
+-- `row_writer::send::send` meets its contract: the frame's writer is asked where the payload is taken.
+use Rattle.frames.specs.Writer.{senderOf}
+use Rattle.row_writer.proofs.Sends.{sent-on, sent-not}
 use borrow.Author.Needs.{needs}
 use Rattle.row_writer.proofs.send.send.Statement.{statement}
 use Rattle.row_writer.proofs.send.send.Tie as tie
-use Rattle.row_writer.proofs.send.send.Reads as reads
-use Rattle.row_writer.proofs.send.send.Lts as lts
-use Rattle.payloads.proofs.answer.Reads as answer-reads
-use Rattle.row_writer.proofs.send.send_frame.Reads as send-frame-reads
 
--- src/send.rt:35:8
 answer-requires : tie.Need-answer-requires
 answer-requires c κs = search needs
 
--- src/send.rt:36:9
 send-frame-requires : tie.Need-send-frame-requires
 send-frame-requires c κs = search needs
 
--- src/send.rt:36:9
 same-length : tie.Need-same-length
 same-length c = search needs
 
--- src/send.rt:36:9
 returns : tie.Need-returns
-returns c = ?
+returns c =
+    let on = c .before .before .send-frame .ensures in
+    let asked = c .before .before .before .before .before .before in
+    let a = asked .before .before .before .args in
+    sent-on (a .kind) (senderOf (a .sender)) (a .payload .now) (a .out .now) (a .size .now) (asked .answer .ensures) (c .before .before .before .before .before .if1 .taken) (on .0) (on .1) (on .2)
 
--- src/send.rt:30:1
 returns-2 : tie.Need-returns-2
-returns-2 c = ?
+returns-2 c =
+    let a = c .before .before .before .before .args in
+    sent-not (a .kind) (senderOf (a .sender)) (a .payload .now) (a .out .now) (a .size .now) (c .before .answer .ensures) (c .if1 .left)
 
 pub send-spec : {M : Type 1} → statement M
 send-spec = tie.close (tie.spec answer-requires send-frame-requires same-length returns returns-2)
