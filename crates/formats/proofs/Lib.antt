@@ -3,3 +3,6 @@ pub mod Steps
 pub mod Rows
 pub mod Widened
 pub mod Narrow
+pub mod Extended
+pub mod Cut
+pub mod Unpacked

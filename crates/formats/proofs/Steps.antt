@@ -1,5 +1,5 @@
 -- The formats of a run's digits one by one, as a loop takes them: the lowest digit's first, then those of the rest. Assumes nothing.
-use mathlib.Core.Path.{_≡_, refl, sym, ap, _∙_}
+use mathlib.Core.Path.{_≡_, refl, sym, ap}
 use mathlib.Core.Bool.{Bool, true, false}
 use mathlib.Core.List.{List, [], _∷_}
 use Prim.Native.Nat.{ℕ, zero, suc, _+_, _*_, _/_, _%_, _^_, _≤_, _<_}
@@ -7,7 +7,7 @@ use native.Mathlib.Nat.{pow-suc}
 use native.Mathlib.Omega.{arith}
 use lib.Dec.{eqb}
 use lib.ListN.{length}
-use borrow.Author.Tests.{eqb-true, eqb-false, eq-eqb, ne-eqb}
+use borrow.Author.Tests.{eq-eqb, ne-eqb}
 use Rattle.wire.specs.Field.{Format, width}
 use Rattle.formats.specs.Digits.{formatBy, upTo, formatsBy, sizeOf}
 use Rattle.formats.proofs.Formats.{at-most-eight}
@@ -72,9 +72,13 @@ few (suc m) d = by (eqb d 0) refl (few m (d / 16))
   where
     Few : ℕ → ℕ → Type 0
     Few m d = (length (upTo m d) ≤ m) × (sizeOf (upTo m d) ≤ 8 * m)
+
     by : (t : Bool) → eqb d 0 ≡ t → Few m (d / 16) → Few (suc m) d
     by true e rest = rw e (omega arith, omega arith)
     by false e rest = rw e (omega (arith, rest .0), omega (arith, rest .1, at-most-eight (d % 16)))
+
+pub counted-some : (digits rest i : ℕ) → digits < 2 ^ 64 → (rest ≡ 0 → ⊥) → Counted digits rest i → i < length (formatsBy digits)
+counted-some digits rest i h some passed = omega (arith, passed .1, ap length (first-format rest (below digits rest h (passed .0)) some))
 
 pub counted-few : (digits rest i : ℕ) → Counted digits rest i → i ≤ 16
 counted-few digits rest i passed = omega (arith, passed .1, few 16 digits .0)

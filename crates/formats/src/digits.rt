@@ -4,7 +4,7 @@ ghost use lib.ListN.{length};
 ghost use Rattle.wire.specs.Field.{width};
 ghost use Rattle.formats.specs.Digits.{formatBy, formatsBy, sizeOf};
 
-pub fn width_of(digit: u64) -> usize
+pub(crate) fn width_of(digit: u64) -> usize
     ensures { λ r. ⌜ r ≡ width (formatBy digit) ⌝ }
 {
     match digit {

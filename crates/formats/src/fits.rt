@@ -7,7 +7,7 @@ ghost use Rattle.formats.specs.Wide.{fitsIn};
 ghost use Rattle.formats.specs.Digits.{formatBy, formatsBy, runFits};
 
 // A missing number counts 0.
-pub fn number_of(row: &[u64], i: usize) -> u64
+pub(crate) fn number_of(row: &[u64], i: usize) -> u64
     ensures { λ r. ⌜ r ≡ getD (now (row .entry)) i 0 ⌝ }
 {
     if row.len() <= i {

@@ -1,6 +1,6 @@
 -- `formats::digits::width_of` meets its contract.
-use mathlib.Core.Path.{_≡_, refl, sym, ap}
-use mathlib.Core.Logic.{_⊎_, inl, inr}
+use mathlib.Core.Path.{refl, sym, ap}
+use mathlib.Core.Logic.{inl, inr}
 use Prim.Native.Nat.{ℕ}
 use Rattle.wire.specs.Field.{width}
 use Rattle.formats.specs.Digits.{formatBy}

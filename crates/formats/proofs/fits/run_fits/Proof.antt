@@ -38,8 +38,7 @@ loop-again c =
     let s = c .before .before .before .before .before .before in
     let l = c .before .before .before .before .loop in
     let some = c .before .before .before .loop-test .taken in
-    let fit = sym (ap (fitsIn (formatBy (l .rest % 16))) (c .before .before .number-of .ensures)) ∙ sym (c .before .fits2 .ensures) ∙ c .if1 .taken in
-    (
+    let fit = sym (ap (fitsIn (formatBy (l .rest % 16))) (c .before .before .number-of .ensures)) ∙ sym (c .before .fits2 .ensures) ∙ c .if1 .taken in (
       counted-more (s .args .digits) (l .rest) (l .i) (s .fits .digits .fits) some (l .inv .0),
       fits-more (l .rest) (s .args .row .now) (l .i) (below (s .args .digits) (l .rest) (s .fits .digits .fits) (l .inv .0 .0)) some fit ∙ l .inv .1,
     )
