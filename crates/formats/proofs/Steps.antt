@@ -65,7 +65,7 @@ sized-all digits rest at e passed = omega (arith, passed, ap sizeOf (no-formats 
 
 -- ---- there are at most 16, of 128 bytes
 
-few : (m d : ℕ) → (length (upTo m d) ≤ m) × (sizeOf (upTo m d) ≤ 8 * m)
+pub few : (m d : ℕ) → (length (upTo m d) ≤ m) × (sizeOf (upTo m d) ≤ 8 * m)
 unfolding upTo sizeOf
 few zero d = (omega arith, omega arith)
 few (suc m) d = by (eqb d 0) refl (few m (d / 16))

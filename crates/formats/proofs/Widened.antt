@@ -1,13 +1,13 @@
--- What a run of formats reads from bytes is the row of its fields, each value as a number of 64 bits; runs one after the other, and how long
--- all that is. Assumes nothing.
+-- What a run of formats reads from bytes is the row of its fields, each value as a number of 64 bits; runs one after the other, and how
+-- many bytes they take. Assumes nothing.
 use mathlib.Core.Path.{_≡_, refl, sym, ap, ap₂, _∙_}
 use mathlib.Core.Bool.{Bool, true, false, cond}
 use mathlib.Core.List.{List, [], _∷_, _++_, map}
-use Prim.Native.Nat.{ℕ, suc, _+_, _%_, _≤_}
+use Prim.Native.Nat.{ℕ, _+_, _%_, _≤_}
 use native.Mathlib.Nat.{zero-add, add-zero, add-assoc}
 use native.Mathlib.Omega.{arith}
 use lib.Dec.{eqb}
-use lib.ListN.{length, take, drop}
+use lib.ListN.{take, drop}
 use lib.Seq.{drop-drop}
 use borrow.Author.Tests.{ne-eqb}
 use Rattle.wire.specs.Number.{little, numberAt}
@@ -28,11 +28,6 @@ size-formats [] = refl
 size-formats (f ∷ fs) = ap (λ (n : ℕ). width (formatOf f) + n) (size-formats fs)
 
 -- ---- over formats
-
-pub length-numbers : (ks : List Format) (s : List ℕ) (at : ℕ) → length (numbersAt ks s at) ≡ length ks
-unfolding numbersAt
-length-numbers [] s at = refl
-length-numbers (k ∷ ks) s at = ap suc (length-numbers ks s (at + width k))
 
 module _ (js : List Format) where
   pub size-joined : (ks : List Format) → sizeOf (ks ++ js) ≡ sizeOf ks + sizeOf js

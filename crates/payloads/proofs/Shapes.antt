@@ -1,14 +1,17 @@
--- The digits of every type's shape unpack to the formats of its layout, once for the whole list. Assumes nothing.
+-- The digits of every type's shape unpack to the formats of its layout, once for the whole list; and a payload that passes
+-- the tests of its type is as long as its layout says. Assumes nothing.
 use mathlib.Core.Path.{_≡_, refl}
-use mathlib.Core.Bool.{Bool, true, false, cond}
+use mathlib.Core.Bool.{Bool, true, false, cond, false≢true}
 use mathlib.Core.List.{List, [], _∷_, _++_, map}
 use Prim.Native.Nat.{ℕ}
 use lib.Dec.{eqb}
+use lib.ListN.{length}
 use Rattle.wire.specs.Field.{formatOf}
-use Rattle.wire.specs.Layout.{Layout, run, then, bytes, rows}
+use Rattle.wire.specs.Layout.{Layout, run, then, bytes, rows, lengths}
+use Rattle.wire.specs.Refusals.{AllPass}
 use Rattle.formats.specs.Digits.{upTo, formatsBy, headOf, digitsOf, shapeOf}
 use Rattle.observation.specs.Edition.{first}
-use Rattle.payloads.specs.Payloads.{Entry, noEntry, table, entryFor, layoutFor, shapeFor}
+use Rattle.payloads.specs.Payloads.{Described, messages, Entry, entryOf, noEntry, table, entryFor, layoutFor, shapeFor, testsOf, readingAny}
 
 -- ---- what holds of each row of the table, and where there is none, holds of every type
 
@@ -50,3 +53,15 @@ shaped kind = unpacks kind .0
 pub shaped-each : formatsBy (shapeFor (first .kind) .each) ≡ map formatOf (first .row .fields)
 unfolding entryFor upTo
 shaped-each = refl
+
+-- ---- what passes the tests of its type has a length of its layout
+
+abbrev Measured : List ℕ → Entry → Type 0
+Measured s e = AllPass (testsOf e s) → lengths (e .layout) (length s) ≡ true
+
+all-measured : (s : List ℕ) (ms : List Described) → OfEach (Measured s) (map entryOf ms)
+all-measured s [] = tt
+all-measured s (m ∷ ms) = (λ h. h .1 .0, all-measured s ms)
+
+pub measured : (kind : ℕ) (s : List ℕ) → AllPass (readingAny kind s) → lengths (layoutFor kind) (length s) ≡ true
+measured kind s = of-any (Measured s) table (all-measured s messages) kind (λ h. absurd (false≢true (h .0)))

@@ -2,17 +2,15 @@
 use mathlib.Core.Path.{_≡_, refl, sym, ap, ap₂, _∙_}
 use mathlib.Core.Bool.{Bool, true, false, _&&_, false≢true, and-eq-true-iff}
 use mathlib.Core.List.{List, [], _∷_, _++_, map}
-use Prim.Native.Nat.{ℕ, _+_, _≤_, zero-le}
-use native.Mathlib.Nat.{add-zero}
+use Prim.Native.Nat.{ℕ, _+_, _≤_}
 use lib.Dec.{leb, eqb}
 use lib.ListN.{length, length-append, length-map}
 use borrow.Author.Tests.{leb-true}
 use Rattle.wire.specs.Field.{Format, formatOf, HeldRow, size, encode}
 use Rattle.wire.specs.Layout.{Layout, run, then, bytes, rows, HeldBody, allowedBody, fewEnough, bodySize, lengths, encodeBody, decodeBody, Sound}
 use Rattle.formats.specs.Wide.{narrowRow, fitsRow, numbersIn}
-use Rattle.formats.specs.Digits.{upTo, formatsBy, sizeOf, runFits, repeated, headOf}
+use Rattle.formats.specs.Digits.{formatsBy, sizeOf, runFits, repeated, headOf}
 use Rattle.formats.specs.declared.Shape.{Shape}
-use Rattle.formats.proofs.Steps.{counted-few}
 use Rattle.formats.proofs.Widened.{size-formats, size-joined}
 use Rattle.formats.proofs.Narrow.{withinAll, fits-row}
 use Rattle.payloads.specs.Payloads.{Described, messages, Entry, entryOf, table, entryFor, layoutFor, shapeFor}
@@ -95,8 +93,3 @@ module _ (kind : ℕ) {s : Shape} (e : s ≡ shapeFor kind) where
   -- how many numbers, as code counts them
   pub counted-as : {x y : ℕ} → x ≡ length (formatsBy (s .head)) → y ≡ length (formatsBy (s .more)) → alone (layoutFor kind) ≡ true → x + y ≡ numbersIn (layoutFor kind)
   counted-as p q only = ap₂ _+_ p q ∙ numbers-shaped ∙ sym (fields-alone (layoutFor kind) [] only .counted)
-
--- no run has many fields
-pub few-fields : (d : ℕ) → length (formatsBy d) ≤ 16
-unfolding upTo
-few-fields d = counted-few d 0 (length (formatsBy d)) (zero-le, add-zero (length (formatsBy d)))

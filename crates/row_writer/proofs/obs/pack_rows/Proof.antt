@@ -56,7 +56,7 @@ part-store-run-end-2 c = ?
 
 -- src/obs.rt:86:9
 store-run-requires : tie.Need-store-run-requires Inv-loop μ-loop
-store-run-requires c κs = ?
+store-run-requires c κs = search needs
 
 -- src/obs.rt:87:9
 add-i : tie.Need-add-i Inv-loop μ-loop

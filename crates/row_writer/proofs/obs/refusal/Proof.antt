@@ -21,7 +21,7 @@ returns-2 c = ?
 
 -- src/obs.rt:62:12
 run-fits-requires : tie.Need-run-fits-requires
-run-fits-requires c κs = ?
+run-fits-requires c κs = search needs
 
 -- src/obs.rt:63:16
 rows-fit-requires : tie.Need-rows-fit-requires

@@ -36,7 +36,7 @@ part-run-fits-end c = ?
 
 -- src/obs.rt:41:12
 run-fits-requires : tie.Need-run-fits-requires Inv-loop μ-loop
-run-fits-requires c κs = ?
+run-fits-requires c κs = search needs
 
 -- src/obs.rt:42:13
 add-i : tie.Need-add-i Inv-loop μ-loop

@@ -30,7 +30,7 @@ slice-aggregate-store-run c = search needs
 
 -- src/obs.rt:104:5
 store-run-requires : tie.Need-store-run-requires
-store-run-requires c κs = ?
+store-run-requires c κs = search needs
 
 -- src/obs.rt:105:15
 slice-aggregate-pack-rows : tie.Need-slice-aggregate-pack-rows

@@ -6,10 +6,10 @@ use Rattle.row_writer.proofs.row.fits.Statement.{statement}
 use Rattle.row_writer.proofs.row.fits.Tie as tie
 
 count-requires : tie.Need-count-requires
-count-requires c κs = ?
+count-requires c κs = search needs
 
 run-fits-requires : tie.Need-run-fits-requires
-run-fits-requires c κs = ?
+run-fits-requires c κs = search needs
 
 mul-run-fits : tie.Need-mul-run-fits
 mul-run-fits c = search needs
@@ -24,7 +24,7 @@ part-run-fits-end : tie.Need-part-run-fits-end
 part-run-fits-end c = search needs
 
 run-fits-requires-2 : tie.Need-run-fits-requires-2
-run-fits-requires-2 c κs = ?
+run-fits-requires-2 c κs = search needs
 
 returns : tie.Need-returns
 returns c =

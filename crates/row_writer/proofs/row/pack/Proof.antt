@@ -6,13 +6,13 @@ use Rattle.row_writer.proofs.row.pack.Statement.{statement}
 use Rattle.row_writer.proofs.row.pack.Tie as tie
 
 count-requires : tie.Need-count-requires
-count-requires c κs = ?
+count-requires c κs = search needs
 
 size-requires : tie.Need-size-requires
-size-requires c κs = ?
+size-requires c κs = search needs
 
 store-run-requires : tie.Need-store-run-requires
-store-run-requires c κs = ?
+store-run-requires c κs = search needs
 
 sub-store-run : tie.Need-sub-store-run
 sub-store-run c = search needs
@@ -36,7 +36,7 @@ part-store-run-end-2 : tie.Need-part-store-run-end-2
 part-store-run-end-2 c = search needs
 
 store-run-requires-2 : tie.Need-store-run-requires-2
-store-run-requires-2 c κs = ?
+store-run-requires-2 c κs = search needs
 
 same-length : tie.Need-same-length
 same-length c = search needs

@@ -6,7 +6,8 @@ use lib.ListN.{length}
 use borrow.Author.Tests.{eq-eqb, ne-eqb}
 use Rattle.payloads.specs.Payloads.{layoutFor}
 use Rattle.formats.specs.Wide.{numbersIn}
-use Rattle.row_writer.proofs.Alone.{counted-as, fits-shaped, few-fields}
+use Rattle.formats.proofs.Steps.{few}
+use Rattle.row_writer.proofs.Alone.{counted-as, fits-shaped}
 use Rattle.row_writer.proofs.RowsSent.{number-21, number-22, number-23, number-0}
 use borrow.Author.Needs.{needs}
 use Rattle.row_writer.proofs.row.refusal.Statement.{statement}
@@ -19,15 +20,15 @@ shape-of-requires : tie.Need-shape-of-requires
 shape-of-requires c κs = search needs
 
 count-requires : tie.Need-count-requires
-count-requires c κs = ?
+count-requires c κs = search needs
 
 count-requires-2 : tie.Need-count-requires-2
-count-requires-2 c κs = ?
+count-requires-2 c κs = search needs
 
 add-if2 : tie.Need-add-if2
 add-if2 c =
     let s = c .before .before .shape-of .result in
-    omega (arith, c .count2 .ensures, c .before .count .ensures, few-fields (s .head), few-fields (s .more))
+    omega (arith, c .count2 .ensures, c .before .count .ensures, few 16 (s .head) .0, few 16 (s .more) .0)
 
 fits-requires : tie.Need-fits-requires
 fits-requires c κs = search needs

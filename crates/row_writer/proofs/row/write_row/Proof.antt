@@ -23,11 +23,11 @@ shape-of-requires c κs = search needs
 
 -- src/row.rt:79:13
 size-requires : tie.Need-size-requires
-size-requires c κs = ?
+size-requires c κs = search needs
 
 -- src/row.rt:79:41
 size-requires-2 : tie.Need-size-requires-2
-size-requires-2 c κs = ?
+size-requires-2 c κs = search needs
 
 -- src/row.rt:79:13
 add-n : tie.Need-add-n
