@@ -13,7 +13,7 @@ use Rattle.formats.specs.Digits.{formatsBy, sizeOf, runFits, repeated, headOf}
 use Rattle.formats.specs.declared.Shape.{Shape}
 use Rattle.formats.proofs.Widened.{size-formats, size-joined}
 use Rattle.formats.proofs.Narrow.{withinAll, fits-row}
-use Rattle.payloads.specs.Payloads.{Described, messages, Entry, entryOf, table, entryFor, layoutFor, shapeFor}
+use Rattle.payloads.specs.Payloads.{Described, messages, Entry, entryOf, table, entryFor, layoutFor, knownFor, shapeFor}
 use Rattle.payloads.proofs.Shapes.{OfEach, of-any, Ends, shaped}
 use Rattle.row_writer.specs.WriteRow.{alone, bodyOf}
 use Rattle.row_writer.specs.Parts.{formatsIn}
@@ -33,6 +33,9 @@ fields-alone (run fs) ns h = record { few = refl; sized = refl; counted = refl; 
 fields-alone (then fs l) ns h = absurd (false≢true h)
 fields-alone (bytes most) ns h = absurd (false≢true h)
 fields-alone (rows fs most) ns h = absurd (false≢true h)
+
+pub only-fields : (kind : ℕ) → (knownFor kind && alone (layoutFor kind)) ≡ true → alone (layoutFor kind) ≡ true
+only-fields kind h = and-eq-true-iff (knownFor kind) (alone (layoutFor kind)) .0 h .1
 
 -- its shape tells: nothing is repeated
 pub alone-by-shape : (l : Layout) → Ends l → eqb (repeated l) 0 ≡ alone l

@@ -138,14 +138,14 @@ module _ (kind : ℕ) (ns : List ℕ) (words : Words ns) (f : Fitting kind ns) w
 module _ (kind sender : ℕ) (ns buf : List ℕ) (size : ℕ) where
   abbrev pub Wrote : ℕ → List ℕ → ℕ → Type 0
   Wrote r u s =
-      (r ≡ numberOf (writeRow kind ns (length buf))) × (u ≡ rowWritten kind sender ns buf) × (s ≡ sizeLeft (writeRow kind ns (length buf)) size)
+      (r ≡ numberOf (writeRow kind ns (length buf))) × ((u ≡ rowWritten kind sender ns buf) × (s ≡ sizeLeft (writeRow kind ns (length buf)) size))
 
   -- by the answer, and the payload that it is of
   by-answer : {a : Answer ℕ} {p : List ℕ} → writeRow kind ns (length buf) ≡ a → p ≡ encodeBody (layoutFor kind) (bodyOf (layoutFor kind) ns)
       → Wrote (numberOf a) (leaves (startingWith (frameBytes kind sender p)) a buf) (sizeLeft a size)
   unfolding rowWritten
   by-answer e q =
-      (ap numberOf (sym e), ap₂ (λ (p : List ℕ) (a : Answer ℕ). leaves (startingWith (frameBytes kind sender p)) a buf) q (sym e), ap (λ (a : Answer ℕ). sizeLeft a size) (sym e))
+      (ap numberOf (sym e), (ap₂ (λ (p : List ℕ) (a : Answer ℕ). leaves (startingWith (frameBytes kind sender p)) a buf) q (sym e), ap (λ (a : Answer ℕ). sizeLeft a size) (sym e)))
 
   pub wrote-refused : {n : ℕ} → n ≡ numberBy (testingRow kind ns) → (n ≡ 0 → ⊥) → Wrote n buf size
   unfolding writeRow
@@ -158,4 +158,4 @@ module _ (kind sender : ℕ) (ns buf : List ℕ) (size : ℕ) where
       → Wrote r u s
   wrote-sent words f e x y z =
       let w = by-answer (as-sent kind ns words f (length buf) ∙ ap (λ (p : List ℕ). sent kind p (length buf)) (sym e)) e in
-      (x ∙ w .0, y ∙ w .1, z ∙ w .2)
+      (x ∙ w .0, (y ∙ w .1 .0, z ∙ w .1 .1))

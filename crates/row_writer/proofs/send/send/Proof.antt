@@ -19,7 +19,7 @@ returns c =
     let on = c .before .before .send-frame .ensures in
     let asked = c .before .before .before .before .before .before in
     let a = asked .before .before .before .args in
-    sent-on (a .kind) (senderOf (a .sender)) (a .payload .now) (a .out .now) (a .size .now) (asked .answer .ensures) (c .before .before .before .before .before .if1 .taken) (on .0) (on .1) (on .2)
+    sent-on (a .kind) (senderOf (a .sender)) (a .payload .now) (a .out .now) (a .size .now) (asked .answer .ensures) (c .before .before .before .before .before .if1 .taken) (on .0) (on .1 .0) (on .1 .1)
 
 returns-2 : tie.Need-returns-2
 returns-2 c =
