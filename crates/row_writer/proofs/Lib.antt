@@ -3,4 +3,6 @@ pub mod Sends
 pub mod Alone
 pub mod RowsSent
 pub mod ObsRows
+pub mod ObsPacked
+pub mod ObsSent
 pub mod WrittenTyped

@@ -123,9 +123,9 @@ module _ (kind : ℕ) (ns : List ℕ) (words : Words ns) (f : Fitting kind ns) w
       ∙ ap₂ (λ (t : Bool) (n : ℕ). ordered ((t, 23) ∷ writingFrame n room) (n + 8)) (sym accepted) (sym (length-encode-body l v))
 
   -- the fields stored from a buffer's start on, by the type's shape
-  pub payload-packed : {s : Shape} (buf : List ℕ) {t : List ℕ} {n : ℕ} → s ≡ shapeFor kind → 255 ≤ length buf → n ≡ size (headOf l)
-      → t ≡ runStored (formatsIn s) ns 0 buf 0 → take n t ≡ p
-  payload-packed buf {n = n} e room sized q =
+  pub payload-packed : {s : Shape} (buf : List ℕ) {t : List ℕ} {n : ℕ} → s ≡ shapeFor kind → n ≡ size (headOf l)
+      → t ≡ runStored (formatsIn s) ns 0 buf 0 → 255 ≤ length buf → take n t ≡ p
+  payload-packed buf {n = n} e sized q room =
       let fs = headOf l in
       let stored = q ∙ ap (λ (ks : List Format). runStored ks ns 0 buf 0) (formats-shaped kind e)
       ∙ stored-narrow ns words fs 0 buf 0 (plain-for kind .0) (f .fits) ∙ row-sets fs (narrowRow fs ns 0) buf 0 (omega (arith, plain-for kind .1)) in

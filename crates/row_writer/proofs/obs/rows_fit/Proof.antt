@@ -1,62 +1,65 @@
+-- `row_writer::obs::rows_fit` meets its contract. The loop's invariant: whether the observations left fit is whether all do.
+use mathlib.Core.Path.{sym, _∙_}
+use Prim.Native.Nat.{_-_, _*_}
+use native.Mathlib.Omega.{arith}
+use borrow.Author.Needs.{needs}
+use Rattle.observation.specs.Edition.{observation}
+use Rattle.row_writer.proofs.ObsRows.{fits-lent, Fit, fit-none, fit-all, fit-more, fit-not}
+use Rattle.row_writer.proofs.ObsPacked.{each-formats}
 use Rattle.row_writer.proofs.obs.rows_fit.Statement.{statement}
 use Rattle.row_writer.proofs.obs.rows_fit.Tie as tie
-use Rattle.row_writer.proofs.obs.rows_fit.Reads as reads
-use Rattle.row_writer.proofs.obs.rows_fit.Lts as lts
-use Rattle.formats.proofs.run_fits.Reads as run-fits-reads
 
 abbrev Inv-loop : tie.InvT-loop
-Inv-loop rows k i₀ i = ?
+Inv-loop rows k i₀ i = Fit (observation .fields) rows k i
 
 abbrev μ-loop : tie.MeasureT-loop
-μ-loop rows k i₀ i = ?
+μ-loop rows k i₀ i = k - i
 
--- src/obs.rt:39:5
 loop-holds : tie.Need-loop-holds Inv-loop μ-loop
-loop-holds c = ?
+loop-holds c = let a = c .before .args in fit-none (observation .fields) (a .rows .now) (a .k)
 
--- src/obs.rt:40:20
 mul-from : tie.Need-mul-from Inv-loop μ-loop
-mul-from c = ?
+mul-from c = omega (arith, c .before .before .before .pre)
 
--- src/obs.rt:41:30
 mul-run-fits : tie.Need-mul-run-fits Inv-loop μ-loop
-mul-run-fits c = ?
+mul-run-fits c = omega (arith, c .before .before .before .pre)
 
--- src/obs.rt:41:30
 sub-run-fits : tie.Need-sub-run-fits Inv-loop μ-loop
-sub-run-fits c = ?
+sub-run-fits c = omega (arith, c .before .before .before .pre)
 
--- src/obs.rt:41:30
 part-run-fits-start : tie.Need-part-run-fits-start Inv-loop μ-loop
-part-run-fits-start c = ?
+part-run-fits-start c = sub-run-fits c
 
--- src/obs.rt:41:30
 part-run-fits-end : tie.Need-part-run-fits-end Inv-loop μ-loop
-part-run-fits-end c = ?
+part-run-fits-end c = search needs
 
--- src/obs.rt:41:12
 run-fits-requires : tie.Need-run-fits-requires Inv-loop μ-loop
 run-fits-requires c κs = search needs
 
--- src/obs.rt:42:13
 add-i : tie.Need-add-i Inv-loop μ-loop
-add-i c = ?
+add-i c = omega arith
 
--- src/obs.rt:39:5
 loop-less : tie.Need-loop-less Inv-loop μ-loop
-loop-less c = ?
+loop-less c = omega arith
 
--- src/obs.rt:39:5
 loop-again : tie.Need-loop-again Inv-loop μ-loop
-loop-again c = ?
+loop-again c =
+    let turn = c .before .before .before in
+    let a = turn .before .before .before .args in
+    let i = turn .before .loop .i in
+    fit-more (observation .fields) (a .rows .now) (a .k) i (turn .before .loop .inv) (turn .loop-test .taken)
+    (sym (c .if1 .taken) ∙ c .before .run-fits .ensures ∙ fits-lent (observation .fields) (a .rows .now) (i * 8) each-formats)
 
--- src/obs.rt:44:13
 returns : tie.Need-returns Inv-loop μ-loop
-returns c = ?
+returns c =
+    let turn = c .before .before .before in
+    let a = turn .before .before .before .args in
+    let i = turn .before .loop .i in
+    fit-not (observation .fields) (a .rows .now) (a .k) i (turn .before .loop .inv) (turn .loop-test .taken)
+    (sym (c .if1 .left) ∙ c .before .run-fits .ensures ∙ fits-lent (observation .fields) (a .rows .now) (i * 8) each-formats)
 
--- src/obs.rt:34:1
 returns-2 : tie.Need-returns-2 Inv-loop μ-loop
-returns-2 c = ?
+returns-2 c = let a = c .before .before .before .args in fit-all (observation .fields) (a .rows .now) (a .k) (c .before .loop .i) (c .before .loop .inv) (c .loop-test .left)
 
 pub rows-fit-spec : {M : Type 1} → statement M
 rows-fit-spec =

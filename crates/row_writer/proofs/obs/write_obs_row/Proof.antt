@@ -1,64 +1,83 @@
+-- `row_writer::obs::write_obs_row` meets its contract: refused by its numbers, or packed and sent.
+use mathlib.Core.Path.{sym}
+use Prim.Native.Nat.{_/_, _≤_}
+use native.Mathlib.Omega.{arith}
+use lib.ListN.{length}
+use lib.Seq.{length-take-le}
 use borrow.Author.Needs.{needs}
+use Rattle.formats.proofs.Narrow.{Words}
+use Rattle.frames.specs.Writer.{senderOf}
+use Rattle.row_writer.proofs.ObsPacked.{payload-packed}
+use Rattle.row_writer.proofs.ObsSent.{Fitting, fitting, few-rows, fitting-rows, wrote-refused, wrote-sent}
 use Rattle.row_writer.proofs.obs.write_obs_row.Statement.{statement}
 use Rattle.row_writer.proofs.obs.write_obs_row.Tie as tie
-use Rattle.row_writer.proofs.obs.write_obs_row.Reads as reads
-use Rattle.row_writer.proofs.obs.write_obs_row.Lts as lts
-use Rattle.formats.proofs.store_run.Reads as store-run-reads
-use Rattle.row_writer.proofs.obs.pack_rows.Reads as pack-rows-reads
-use Rattle.row_writer.proofs.obs.refusal.Reads as refusal-reads
-use Rattle.row_writer.proofs.send.send_frame.Reads as send-frame-reads
 
--- src/obs.rt:97:9
 refusal-requires : tie.Need-refusal-requires
 refusal-requires c κs = search needs
 
--- src/obs.rt:99:9
 returns : tie.Need-returns
-returns c = ?
+returns c =
+    let a = c .before .before .before .before .before .args in
+    wrote-refused (a .kind) (senderOf (a .sender)) (a .head .now) (a .rows .now) (a .out .now) (a .size .now) (c .before .refusal .ensures) (c .if1 .taken)
 
--- src/obs.rt:102:25
+-- past the tests every number fits, and there are few
+fit : (c : tie.Else1) → let a = c .before .before .before .before .before .args in Fitting (a .kind) (a .head .now) (a .rows .now)
+fit c = let a = c .before .before .before .before .before .args in fitting (a .kind) (a .head .now) (a .rows .now) (c .before .refusal .ensures) (c .if1 .left)
+
+few : (c : tie.Else1) → length (c .before .before .before .before .before .args .rows .now) / 8 ≤ 15
+few c = let a = c .before .before .before .before .before .args in few-rows (a .kind) (a .head .now) (a .rows .now) (fit c)
+
 mul-n : tie.Need-mul-n
 mul-n c = search needs
 
--- src/obs.rt:102:13
 add-n : tie.Need-add-n
 add-n c = search needs
 
--- src/obs.rt:104:24
 slice-aggregate-store-run : tie.Need-slice-aggregate-store-run
 slice-aggregate-store-run c = search needs
 
--- src/obs.rt:104:5
 store-run-requires : tie.Need-store-run-requires
 store-run-requires c κs = search needs
 
--- src/obs.rt:105:15
 slice-aggregate-pack-rows : tie.Need-slice-aggregate-pack-rows
 slice-aggregate-pack-rows c = search needs
 
--- src/obs.rt:105:5
 pack-rows-requires : tie.Need-pack-rows-requires
-pack-rows-requires c κs = ?
+pack-rows-requires c κs =
+    let past = c .before .before .before .before in
+    let a = past .before .before .before .before .before .args in
+    let kept = c .before .before .store-run .kept in
+    (omega arith, (omega (arith, few past, kept), fitting-rows (a .kind) (a .head .now) (a .rows .now) (fit past) .1))
 
--- src/obs.rt:106:35
 array-share-prefix-bytes : tie.Need-array-share-prefix-bytes
-array-share-prefix-bytes c = ?
+array-share-prefix-bytes c = omega (arith, few (c .before .before .before .before .before .before .before))
 
--- src/obs.rt:106:35
 slice-aggregate-send-frame : tie.Need-slice-aggregate-send-frame
-slice-aggregate-send-frame c = ?
+slice-aggregate-send-frame c =
+    let pack = c .before .before .before in
+    let store = pack .before .before .before in
+    sym (length-take-le _ (pack .pack-rows .last .0) (omega (arith, few (store .before .before), pack .pack-rows .kept, store .store-run .kept)))
 
--- src/obs.rt:106:5
 send-frame-requires : tie.Need-send-frame-requires
 send-frame-requires c κs = search needs
 
--- src/obs.rt:92:1
 same-length : tie.Need-same-length
 same-length c = search needs
 
--- src/obs.rt:92:1
 returns-2 : tie.Need-returns-2
-returns-2 c = ?
+returns-2 c =
+    let on = c .before .before in
+    let pack = on .before .before .before .before .before in
+    let store = pack .before .before .before in
+    let past = store .before .before in
+    let known = past .before .before .before in
+    let a = known .before .before .args in
+    let f = fit past in
+    let words : Words (a .head .now) = λ i. known .shared-slice-known .given i .fits in
+    let s = on .send-frame .ensures in
+    wrote-sent (a .kind) (senderOf (a .sender)) (a .head .now) (a .rows .now) (a .out .now) (a .size .now) f
+    (payload-packed (a .head .now) (a .rows .now) words (fitting-rows (a .kind) (a .head .now) (a .rows .now) f .0) _ (store .store-run .ensures) (pack .pack-rows .ensures) (omega (arith, few past)))
+    (s .0) (s .1 .0) (s .1 .1)
 
 pub write-obs-row-spec : {M : Type 1} → statement M
 write-obs-row-spec =

@@ -83,7 +83,7 @@ returns-2 c =
     let f = fit shape in
     let s = on .send .ensures in
     wrote-sent (a .kind) (senderOf (a .sender)) (a .row .now) (a .out .now) (a .size .now) words f
-    (payload-packed (a .kind) (a .row .now) words f _ (shape .shape-of .ensures) ? (sized two) (pack .pack .ensures))
+    (payload-packed (a .kind) (a .row .now) words f _ (shape .shape-of .ensures) (sized two) (pack .pack .ensures) (omega arith))
     (s .0) (s .1 .0) (s .1 .1)
 
 pub write-row-spec : {M : Type 1} → statement M
