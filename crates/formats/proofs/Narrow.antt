@@ -4,18 +4,18 @@ use mathlib.Core.Path.{_≡_, refl, sym, ap, ap₂, _∙_, subst⁻¹}
 use mathlib.Core.Bool.{Bool, true, false, _&&_, _||_, cond, false≢true, and-assoc, and-eq-true-iff}
 use mathlib.Core.List.{List, [], _∷_, _++_, map}
 use Prim.Native.Nat.{ℕ, zero, suc, _+_, _-_, _*_, _/_, _%_, _^_, _≤_, _<_}
-use native.Mathlib.Nat.{add-zero, zero-add, add-suc, suc-add, add-assoc, mul-assoc, pow-suc}
+use native.Mathlib.Nat.{add-zero, add-suc, suc-add, add-assoc, mul-assoc, pow-suc}
 use native.Mathlib.Omega.{arith}
-use lib.IntN.{ℤ, pos, negsuc}
-use lib.Dec.{T, lit<, leb, ltb}
-use lib.Ieee.{binary64, ofBits, nanBits}
+use lib.IntN.{ℤ, negsuc}
+use lib.Dec.{lit<, leb, ltb}
+use lib.Ieee.{binary64, nanBits}
 use lib.Ieee.Bits.{ofBits-fits}
 use lib.ListN.{length, getD, take, drop, length-drop}
 use lib.Seq.{sets, getD-drop, length-take-le}
 use mir.Syntax.{Width, w8, w16, w32, w64, w128}
 use mir.Val.{bits, hbits, SFits, toZ, ofZ}
 use mir.ValLaws.{toZ-pos, toZ-neg}
-use borrow.Author.Tests.{leb-true, ltb-true, ltb-false}
+use borrow.Author.Tests.{leb-true, ltb-true}
 use Rattle.wire.specs.Number.{bytesOf, storedAt}
 use Rattle.wire.specs.Double.{doubleOf}
 use Rattle.wire.specs.Field.{Format, unsigned, signed, double, width, Held, Settled, bitsOf, Field, formatOf, HeldRow, SettledRow, rowStored}
@@ -100,6 +100,7 @@ module _ (k : Format) (n : ℕ) (short : within k ≡ true) (h : n < 2 ^ 64) (fi
       nan : (t : Bool) → cond t n 0 < 2 ^ 64
       nan true = h
       nan false = lit< tt
+
       by : (k : Format) → within k ≡ true → fitsIn k n ≡ true → Held k (narrowTo k n)
       by (unsigned w) short fits = record { fits = ltb-true n (2 ^ bits w) fits }
       by (signed w) short fits = narrow-signed w n short h fits .0

@@ -70,7 +70,7 @@ typed m h sender ns buf only counted fits =
     ∙ as-described d ns only room in (
       answer,
       ap (λ (e : Entry). leaves (startingWith (frameBytes (d .kind) sender (encodeBody (e .layout) (bodyOf (e .layout) ns)))) (writeRow (d .kind) ns room) buf) (h .0)
-      ∙ ap₂ (λ (w : Body l) (a : Answer ℕ). leaves (startingWith (frameBytes (d .kind) sender (encodeBody l w))) a buf) (sym (d .row-make v)) answer,
+          ∙ ap₂ (λ (w : Body l) (a : Answer ℕ). leaves (startingWith (frameBytes (d .kind) sender (encodeBody l w))) a buf) (sym (d .row-make v)) answer,
     )
 
 -- ---- OBS

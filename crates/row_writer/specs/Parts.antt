@@ -1,8 +1,8 @@
 -- The parts of writing from numbers, each a private function's: what is tested of the numbers alone, and a payload's bytes sent.
 -- Assumes nothing.
-use Prim.Native.Nat.{ℕ, _+_, _%_}
 use mathlib.Core.Bool.{_&&_}
 use mathlib.Core.List.{List, [], _∷_, _++_}
+use Prim.Native.Nat.{ℕ, _+_, _%_}
 use lib.Dec.{eqb, leb}
 use lib.ListN.{length}
 use Rattle.wire.specs.Field.{Format}

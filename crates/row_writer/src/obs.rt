@@ -89,7 +89,14 @@ fn pack_rows(bytes: &mut [u8], rows: &[u64], k: usize)
 }
 
 // 21, 22, 23, 31, 32, or 0 with the frame's size through size. The frame is written once nothing is left to refuse.
-pub fn write_obs_row(out: &mut [u8], kind: u16, sender: Sender, head: &[u64], rows: &[u64], size: &mut u64) -> u8
+pub fn write_obs_row(
+    out: &mut [u8],
+    kind: u16,
+    sender: Sender,
+    head: &[u64],
+    rows: &[u64],
+    size: &mut u64,
+) -> u8
     ensures { λ r. ⌜ r ≡ numberOf (writeObsRow kind (now (head .entry)) (now (rows .entry)) (length (now (out .entry)))) ⌝ }
     ensures { λ _. ⌜ now (out .exit) ≡ obsRowWritten kind (senderOf sender) (now (head .entry)) (now (rows .entry)) (now (out .entry)) ⌝ }
     ensures { λ _. ⌜ now (size .exit) ≡ sizeLeft (writeObsRow kind (now (head .entry)) (now (rows .entry)) (length (now (out .entry)))) (now (size .entry)) ⌝ }

@@ -1,7 +1,7 @@
 -- `row_writer::row::fits` meets its contract: the fields of both runs, the second from the numbers that the first leaves.
+use borrow.Author.Needs.{needs}
 use Rattle.formats.specs.Digits.{formatsBy}
 use Rattle.row_writer.proofs.Runs.{fit-both, fit-not}
-use borrow.Author.Needs.{needs}
 use Rattle.row_writer.proofs.row.fits.Statement.{statement}
 use Rattle.row_writer.proofs.row.fits.Tie as tie
 

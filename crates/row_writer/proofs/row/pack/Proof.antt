@@ -1,7 +1,7 @@
 -- `row_writer::row::pack` meets its contract: the fields of both runs, the second where the first ends.
+use borrow.Author.Needs.{needs}
 use Rattle.formats.specs.Digits.{formatsBy}
 use Rattle.row_writer.proofs.Runs.{packed}
-use borrow.Author.Needs.{needs}
 use Rattle.row_writer.proofs.row.pack.Statement.{statement}
 use Rattle.row_writer.proofs.row.pack.Tie as tie
 

@@ -5,14 +5,14 @@ use Prim.Native.Nat.{_+_}
 use native.Mathlib.Omega.{arith}
 use lib.ListN.{length}
 use borrow.Author.Tests.{eq-eqb, ne-eqb}
-use Rattle.payloads.specs.Payloads.{layoutFor, knownFor}
+use borrow.Author.Needs.{needs}
 use Rattle.formats.specs.Wide.{fitsRow, numbersIn}
 use Rattle.formats.specs.Digits.{headOf}
-use Rattle.row_writer.specs.WriteRow.{alone}
 use Rattle.formats.proofs.Steps.{few}
+use Rattle.payloads.specs.Payloads.{layoutFor, knownFor}
+use Rattle.row_writer.specs.WriteRow.{alone}
 use Rattle.row_writer.proofs.Alone.{only-fields, counted-as, fits-shaped}
 use Rattle.row_writer.proofs.RowsSent.{number-21, number-22, number-23, number-0}
-use borrow.Author.Needs.{needs}
 use Rattle.row_writer.proofs.row.refusal.Statement.{statement}
 use Rattle.row_writer.proofs.row.refusal.Tie as tie
 

@@ -8,7 +8,7 @@ use borrow.Author.Needs.{needs}
 use borrow.Author.Tests.{eqb-true}
 use Rattle.wire.specs.Field.{size}
 use Rattle.formats.specs.Wide.{numbersIn}
-use Rattle.formats.specs.Digits.{formatsBy, headOf}
+use Rattle.formats.specs.Digits.{headOf}
 use Rattle.formats.proofs.Narrow.{Words}
 use Rattle.frames.specs.Writer.{senderOf}
 use Rattle.payloads.specs.Payloads.{layoutFor}

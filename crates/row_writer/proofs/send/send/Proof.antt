@@ -1,7 +1,7 @@
 -- `row_writer::send::send` meets its contract: the frame's writer is asked where the payload is taken.
+use borrow.Author.Needs.{needs}
 use Rattle.frames.specs.Writer.{senderOf}
 use Rattle.row_writer.proofs.Sends.{sent-on, sent-not}
-use borrow.Author.Needs.{needs}
 use Rattle.row_writer.proofs.send.send.Statement.{statement}
 use Rattle.row_writer.proofs.send.send.Tie as tie
 

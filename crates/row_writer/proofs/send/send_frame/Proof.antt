@@ -1,11 +1,11 @@
 -- `row_writer::send::send_frame` meets its contract: it hands on what the frame's writer answers.
 use mathlib.Core.Path.{sym, ap, _∙_}
 use Prim.Native.Nat.{ℕ}
+use borrow.Author.Needs.{needs}
 use Rattle.wire.specs.Refusals.{Answer}
 use Rattle.frames.specs.Writer.{writtenAnswer}
 use Rattle.payloads.specs.Payloads.{numberOf}
 use Rattle.row_writer.specs.WriteRow.{sizeLeft}
-use borrow.Author.Needs.{needs}
 use Rattle.row_writer.proofs.send.send_frame.Statement.{statement}
 use Rattle.row_writer.proofs.send.send_frame.Tie as tie
 
