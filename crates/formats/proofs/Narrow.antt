@@ -4,21 +4,22 @@ use mathlib.Core.Path.{_≡_, refl, sym, ap, ap₂, _∙_, subst⁻¹}
 use mathlib.Core.Bool.{Bool, true, false, _&&_, _||_, cond, false≢true, and-assoc, and-eq-true-iff}
 use mathlib.Core.List.{List, [], _∷_, _++_, map}
 use Prim.Native.Nat.{ℕ, zero, suc, _+_, _-_, _*_, _/_, _%_, _^_, _≤_, _<_}
-use native.Mathlib.Nat.{add-zero, zero-add, add-suc, suc-add, add-assoc, mul-assoc, pow-suc}
+use native.Mathlib.Nat.{add-zero, add-suc, suc-add, add-assoc, mul-assoc, pow-suc}
 use native.Mathlib.Omega.{arith}
-use lib.IntN.{ℤ, pos, negsuc}
-use lib.Dec.{T, lit<, leb, ltb}
-use lib.Ieee.{binary64, ofBits, nanBits}
+use lib.IntN.{ℤ, negsuc}
+use lib.Dec.{lit<, leb, ltb}
+use lib.Ieee.{binary64, nanBits}
 use lib.Ieee.Bits.{ofBits-fits}
-use lib.ListN.{length, getD, drop}
-use lib.Seq.{sets, getD-drop}
+use lib.ListN.{length, getD, take, drop, length-drop}
+use lib.Seq.{sets, getD-drop, length-take-le}
 use mir.Syntax.{Width, w8, w16, w32, w64, w128}
 use mir.Val.{bits, hbits, SFits, toZ, ofZ}
 use mir.ValLaws.{toZ-pos, toZ-neg}
-use borrow.Author.Tests.{leb-true, ltb-true, ltb-false}
+use borrow.Author.Tests.{leb-true, ltb-true}
 use Rattle.wire.specs.Number.{bytesOf, storedAt}
 use Rattle.wire.specs.Double.{doubleOf}
 use Rattle.wire.specs.Field.{Format, unsigned, signed, double, width, Held, Settled, bitsOf, Field, formatOf, HeldRow, SettledRow, rowStored}
+use Rattle.wire.proofs.Numbers.{length-bytesOf, stored-sets, length-stored, sets-append, sets-lent}
 use Rattle.wire.proofs.Doubles.{bits-doubleOf}
 use Rattle.wire.proofs.Fields.{signed-settled}
 use Rattle.formats.specs.Wide.{narrowTo, fitsIn, narrowRow, fitsRow}
@@ -180,3 +181,37 @@ module _ (n : ℕ) (ns : List ℕ) where
       let next = at + width k in
       stored-drop ks (suc i) (storedAt (width k) (getD (drop n ns) i 0) buf at) next
       ∙ ap₂ (λ (x j : ℕ). runStored ks ns j (storedAt (width k) x buf at) next) (getD-drop n ns i 0) (add-suc n i)
+
+-- ---- a run that has room is its bytes stored
+
+-- the numbers' bytes one after the other
+abbrev runBytes : List Format → List ℕ → ℕ → List ℕ
+runBytes [] ns i = []
+runBytes (k ∷ ks) ns i = bytesOf (width k) (getD ns i 0) ++ runBytes ks ns (suc i)
+
+module _ (ns : List ℕ) where
+  run-sets : (ks : List Format) (i : ℕ) (buf : List ℕ) (at : ℕ) → at + sizeOf ks ≤ length buf → runStored ks ns i buf at ≡ sets buf at (runBytes ks ns i)
+  unfolding runStored sizeOf
+  run-sets [] i buf at h = refl
+  run-sets (k ∷ ks) i buf at h =
+      let w = width k in
+      let n = getD ns i 0 in
+      let room : at + w + sizeOf ks ≤ length (storedAt w n buf at) = rw length-stored (omega arith) in
+      run-sets ks (suc i) (storedAt w n buf at) (at + w) room
+      ∙ ap₂ (λ (t : List ℕ) (o : ℕ). sets t o (runBytes ks ns (suc i))) (stored-sets w n buf at (omega arith)) (ap (λ (x : ℕ). at + x) (sym (length-bytesOf w n)))
+      ∙ sym (sets-append buf at (bytesOf w n) (runBytes ks ns (suc i)))
+
+  pub length-run : (ks : List Format) (i : ℕ) (buf : List ℕ) (at : ℕ) → length (runStored ks ns i buf at) ≡ length buf
+  unfolding runStored
+  length-run [] i buf at = refl
+  length-run (k ∷ ks) i buf at = length-run ks (suc i) (storedAt (width k) (getD ns i 0) buf at) (at + width k) ∙ length-stored (width k) (getD ns i 0) buf at
+
+  -- stored in what is lent of a buffer from an offset on, it is stored in the whole
+  pub run-lent : (ks : List Format) (i : ℕ) (buf : List ℕ) (at : ℕ) {t : List ℕ} → at + sizeOf ks ≤ length buf
+      → t ≡ runStored ks ns i (take (length buf - at) (drop at buf)) 0 → take at buf ++ (t ++ drop (length buf - at) (drop at buf)) ≡ runStored ks ns i buf at
+  run-lent ks i buf at h e =
+      let lent = take (length buf - at) (drop at buf) in
+      let long : length lent ≡ length buf - at = length-take-le (length buf - at) (drop at buf) (rw length-drop (omega arith)) in
+      sets-lent at buf 0 (runBytes ks ns i) (omega arith) (e ∙ run-sets ks i lent 0 (omega arith))
+      ∙ ap (λ (o : ℕ). sets buf o (runBytes ks ns i)) (add-zero at)
+      ∙ sym (run-sets ks i buf at h)
