@@ -11,3 +11,4 @@ pub mod Shuffled
 pub mod Between
 pub mod OnceHonest
 pub mod TwoPackets
+pub mod BackAgain

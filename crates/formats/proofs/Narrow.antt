@@ -11,10 +11,10 @@ use lib.Dec.{lit<, leb, ltb}
 use lib.Ieee.{binary64, nanBits}
 use lib.Ieee.Bits.{ofBits-fits}
 use lib.ListN.{length, getD, take, drop, length-drop}
-use lib.Seq.{sets, getD-drop, length-take-le}
+use lib.Seq.{sets, drop-cons, getD-drop, length-take-le}
 use mir.Syntax.{Width, w8, w16, w32, w64, w128}
 use mir.Val.{bits, hbits, SFits, toZ, ofZ}
-use mir.ValLaws.{toZ-pos, toZ-neg}
+use mir.ValLaws.{toZ-pos, toZ-neg, ofZ-toZ}
 use borrow.Author.Tests.{leb-true, ltb-true}
 use Rattle.wire.specs.Number.{bytesOf, storedAt}
 use Rattle.wire.specs.Double.{doubleOf}
@@ -22,7 +22,7 @@ use Rattle.wire.specs.Field.{Format, unsigned, signed, double, width, Held, Set
 use Rattle.wire.proofs.Numbers.{length-bytesOf, stored-sets, length-stored, sets-append, sets-lent}
 use Rattle.wire.proofs.Doubles.{bits-doubleOf}
 use Rattle.wire.proofs.Fields.{signed-settled}
-use Rattle.formats.specs.Wide.{narrowTo, fitsIn, narrowRow, fitsRow}
+use Rattle.formats.specs.Wide.{wideOf, narrowTo, fitsIn, wideRow, narrowRow, fitsRow}
 use Rattle.formats.specs.Digits.{sizeOf, runFits, runStored}
 
 -- every number has 64 bits, as those of a lent slice have
@@ -114,6 +114,12 @@ module _ (k : Format) (n : ℕ) (short : within k ≡ true) (h : n < 2 ^ 64) (fi
       by (signed w) short fits = signed-settled w (toZ w64 n) (narrow-signed w n short h fits .0)
       by double short fits = ap doubleOf (bits-doubleOf n h)
 
+-- it stands for that number alone
+same-wide : (k : Format) (n : ℕ) → n < 2 ^ 64 → wideOf k (narrowTo k n) ≡ n
+same-wide (unsigned w) n h = refl
+same-wide (signed w) n h = ofZ-toZ w64 n (record { fits = h })
+same-wide double n h = bits-doubleOf n h
+
 -- ---- a row
 
 pub fits-row : (fs : List Field) (ns : List ℕ) (i : ℕ) → runFits (map formatOf fs) ns i ≡ fitsRow fs ns i
@@ -146,6 +152,13 @@ module _ (ns : List ℕ) (words : Words ns) where
       let s = and-eq-true-iff _ _ .0 short in
       let h = and-eq-true-iff _ _ .0 fits in
       (settled (formatOf f) (getD ns i 0) (s .0) (words i) (h .0), settled-narrow fs (suc i) (s .1) (h .1))
+
+  -- and as a row they are the numbers again
+  pub wide-narrow : (fs : List Field) (i : ℕ) → i + length fs ≤ length ns → wideRow fs (narrowRow fs ns i) ≡ take (length fs) (drop i ns)
+  wide-narrow [] i long = refl
+  wide-narrow (f ∷ fs) i long =
+      ap₂ (λ (n : ℕ) (t : List ℕ). n ∷ t) (same-wide (formatOf f) (getD ns i 0) (words i)) (wide-narrow fs (suc i) (omega arith))
+      ∙ ap (take (length (f ∷ fs))) (sym (drop-cons ns i 0 (omega arith)))
 
 -- ---- two runs as one
 

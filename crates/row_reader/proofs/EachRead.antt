@@ -33,7 +33,7 @@ module _ (m : Described) (own : entryFor table (m .description .kind) ≡ entryO
       ∙ ap (λ v. ordered (reading d s ++ (true, 32) ∷ []) (wideBody (d .layout) v)) (sym (d .row-make (decodeBody (d .layout) s)))
       ∙ last-passes (reading d s) 32 (inside d s) (λ r. wideBody (d .layout) (d .row r))
 
-  as-read : AsRead m
+  pub as-read : AsRead m
   as-read s room enough =
       let whole = as-mapped s room enough in
       let numbers : m .Of → List ℕ = λ r. wideBody (m .description .layout) (m .description .row r) in

@@ -57,7 +57,7 @@ module _ {R : Type 0} (d : Description R) (ns : List ℕ) (only : alone (d .layo
       ap (λ (t : Bool). ordered ((allowedBody l v, 23) ∷ (t, 31) ∷ writingFrame (bodySize l v) room) (bodySize l v + 8)) (sym (fields-alone l ns only .few))
       ∙ ap (λ (w : Body l). ordered ((allowedBody l w, 23) ∷ (fewEnough l w, 31) ∷ writingFrame (bodySize l w) room) (bodySize l w + 8)) (sym (d .row-make v))
 
-typed : (m : Described) → Found m → AsTyped m
+pub typed : (m : Described) → Found m → AsTyped m
 unfolding writeRow rowWritten writtenAs
 typed m h sender ns buf only counted fits =
     let d = m .description in

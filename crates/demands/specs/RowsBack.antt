@@ -1,0 +1,24 @@
+-- Numbers that were written come back: the frame is found, and its payload is read as those very numbers. Assumes nothing.
+use Prim.Native.Nat.{ℕ, _^_, _≤_, _<_}
+use mathlib.Core.Path.{_≡_}
+use mathlib.Core.Bool.{true}
+use mathlib.Core.List.{List}
+use lib.ListN.{length, getD}
+use Rattle.wire.specs.Refusals.{given}
+use Rattle.frames.specs.Step.{stepAt, payloadIn}
+use Rattle.frames.specs.declared.step.Frame.{Frame}
+use Rattle.frames.specs.declared.step.Step.the-variants.{Found}
+use Rattle.payloads.specs.Payloads.{Described, messages, AllOf}
+use Rattle.row_reader.specs.ReadRow.{readRow}
+use Rattle.row_writer.specs.WriteRow.{alone, writeRow, rowWritten}
+
+-- of a message without a tail, where its numbers, each of 64 bits, are written at all
+abbrev pub RowsBack : Described → Type 0
+RowsBack m =
+    let d = m .description in
+    (sender : ℕ) (ns buf : List ℕ) (n : ℕ) → alone (d .layout) ≡ true → sender < 65536 → ((i : ℕ) → getD ns i 0 < 2 ^ 64) → writeRow (d .kind) ns (length buf) ≡ given n
+    → (room : ℕ) → length ns ≤ room
+    → (f : Frame) × (stepAt (rowWritten (d .kind) sender ns buf) 0 ≡ Found f) × (readRow (f .kind) (payloadIn (rowWritten (d .kind) sender ns buf) f) room ≡ given ns)
+
+abbrev pub AllBack : Type 0
+AllBack = AllOf RowsBack messages
