@@ -10,3 +10,4 @@ pub mod Enlists
 pub mod Tells
 pub mod Grows
 pub mod Untouched
+pub mod UntouchedRows

@@ -1,6 +1,6 @@
 // What C and Rust link: `extern "C"` functions over numbers, lent slices and, for a length, one lent number. None has a `requires`.
 // A refusal is document 01's number and writes nothing. A collator lives in lent bytes.
-// Read specs/Lent.antt (what a call hands back and leaves), specs/Found.antt (the row of a frame), specs/Totals.antt, specs/Text.antt,
+// Read specs/Lent.antt (what a call hands back and leaves), specs/Found.antt (the row of a frame), specs/Totals.antt, specs/Write.antt, specs/Text.antt,
 // specs/Flagged.antt and specs/Phased.antt (flags, carrier phase), specs/State.antt (what a collator's bytes stand for), specs/Feed.antt,
 // specs/Enlist.antt, specs/Growing.antt (a roster that grows) and specs/Claims.antt; proofs/Feeds.antt, Makes.antt, Lives.antt and Grows.antt
 // tie the bytes to the collators of `epochs` and `enlisting`.
@@ -17,6 +17,7 @@ mod reading;
 mod sizes;
 mod texting;
 mod versioning;
+mod writing;
 
 pub use answering::sbp_answer;
 pub use answering::sbp_crc;
@@ -38,3 +39,5 @@ pub use phasing::sbp_phase_parts;
 pub use reading::sbp_next;
 pub use texting::sbp_list;
 pub use versioning::sbp_version;
+pub use writing::sbp_write_frame;
+pub use writing::sbp_write_log;

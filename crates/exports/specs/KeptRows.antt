@@ -1,0 +1,22 @@
+-- A refusal writes nothing and moves no state, by the number that is handed back: of the flags' and the phase's functions, of those that write
+-- frames, and of the roster that grows. Assumes nothing.
+use Prim.Native.Nat.{ℕ}
+use mathlib.Core.Path.{_≡_}
+use mathlib.Core.List.{List}
+use lib.IntN.{ℤ}
+use lib.ListN.{length}
+use Rattle.frames.specs.Writer.{planned, withFrame}
+use Rattle.system.specs.Log.{Logged, logWriteAnswer, logWritten}
+use Rattle.exports.specs.Lent.{zeroOr}
+use Rattle.exports.specs.Phased.{partsNumber, cyclesAfter, partsAfter}
+use Rattle.exports.specs.Enlist.{growingAnswer, growingStored, enlistAnswer, enlistStored}
+use Rattle.exports.specs.Write.{sentBy, sizeLeft}
+
+pub record KeptRows : Type 0 where
+  pub phase-parts : (phase cycles : ℤ) (parts : ℕ) → (partsNumber phase ≡ 0 → ⊥) → (cyclesAfter phase cycles ≡ cycles) × (partsAfter phase parts ≡ parts)
+  pub growing : (s : List ℕ) → (growingAnswer (length s) ≡ 0 → ⊥) → growingStored s ≡ s
+  pub enlist : (s : List ℕ) (kind sender : ℕ) → (enlistAnswer s kind sender ≡ 0 → ⊥) → enlistStored s kind sender ≡ s
+  pub write-log : (buf : List ℕ) (sender : ℕ) (r : Logged) (before : ℕ) → (zeroOr (logWriteAnswer r (length buf)) ≡ 0 → ⊥)
+      → (logWritten (sentBy sender) r buf ≡ buf) × (sizeLeft (logWriteAnswer r (length buf)) before ≡ before)
+  pub write-frame : (buf : List ℕ) (kind sender : ℕ) (payload : List ℕ) (before : ℕ) → (zeroOr (planned (length payload) (length buf)) ≡ 0 → ⊥)
+      → (withFrame kind (sentBy sender) payload buf ≡ buf) × (sizeLeft (planned (length payload) (length buf)) before ≡ before)
