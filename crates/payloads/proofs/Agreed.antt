@@ -11,7 +11,7 @@ use Rattle.wire.specs.Field.{valueAt, u8, s32}
 use Rattle.wire.specs.Refusals.{refused, given, Answer, Tests, ordered}
 use Rattle.observation.specs.Edition.{fitting, first}
 use Rattle.navigation.specs.Range.{inNs, fixUpTo}
-use Rattle.payloads.specs.Payloads.{Entry, table, entryFor, testsOf, readingAny, readFor, numberOf, answerFor}
+use Rattle.payloads.specs.Payloads.{Entry, table, entryFor, knownFor, testsOf, readingAny, readFor, numberOf, answerFor}
 use Rattle.payloads.specs.Checks.{document, checkIn, checkFor, tests, testsBy, numberBy, Agrees, AsInDocument}
 use Rattle.payloads.specs.declared.Message.{Message}
 use Rattle.payloads.specs.declared.check.Check.{Check}
@@ -28,6 +28,11 @@ agreed =
 
 -- ---- of any type
 
+-- the first test passes
+abbrev firstOf : Tests → Bool
+firstOf [] = true
+firstOf (t ∷ ts) = t .0
+
 tests-agree : (es : List Entry) (ds : List (ℕ × Check)) → Agrees es ds → (kind : ℕ) (s : List ℕ) → testsOf (entryFor es kind) s ≡ testsBy (checkIn ds kind) s
 unfolding entryFor checkIn
 tests-agree [] [] h kind s = refl
@@ -37,6 +42,13 @@ tests-agree (e ∷ es) (d ∷ ds) h kind s =
     by : (t : Bool) → testsOf (entryFor es kind) s ≡ testsBy (checkIn ds kind) s → testsOf (cond t e (entryFor es kind)) s ≡ testsBy (cond t (d .1) (checkIn ds kind)) s
     by true rest = h .1 s
     by false rest = rest
+
+-- a type is known by its check as by its entry
+abbrev pub knownBy : Check → Bool
+knownBy k = firstOf (testsBy k [])
+
+pub known-agrees : (kind : ℕ) → knownBy (checkFor kind) ≡ knownFor kind
+known-agrees kind = sym (ap firstOf (tests-agree table document agreed kind []))
 
 pub no-check : {P : Type 0} (ds : List (ℕ × Check)) (kind : ℕ) → Absent P (map (λ (d : ℕ × Check). d .0) ds) kind → P × (Unknown ≡ checkIn ds kind)
 unfolding checkIn

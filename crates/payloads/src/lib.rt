@@ -8,8 +8,11 @@ ghost use Rattle.payloads.specs.Payloads.{readFor, answerFor, readingAns
 ghost use Rattle.wire.specs.Refusals.{mapped};
 
 mod check;
+mod shape;
 
 use observation::ObsRead;
+pub use shape::is_known;
+pub use shape::shape_of;
 use system::LogRead;
 
 // Every message that has a reading. The observations of an Obs and the text of a Log stay in the payload: read_observation and

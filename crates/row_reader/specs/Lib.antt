@@ -1,1 +1,2 @@
 pub mod ReadRow
+pub mod ByDigits

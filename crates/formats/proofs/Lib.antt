@@ -1,0 +1,7 @@
+pub mod Formats
+pub mod Steps
+pub mod Rows
+pub mod Extended
+pub mod Cut
+pub mod Unpacked
+pub mod Widened

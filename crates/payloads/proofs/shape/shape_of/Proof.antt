@@ -1,0 +1,143 @@
+-- `payloads::shape::shape_of` meets its contract: each type by its entry, any other by having none.
+use mathlib.Core.Path.{sym, ap, _∙_}
+use borrow.Author.Needs.{needs}
+use Rattle.formats.specs.Digits.{shapeOf}
+use Rattle.payloads.specs.Payloads.{Entry, table, entryFor, shapeFor}
+use Rattle.payloads.proofs.Entries.{no-entry}
+use Rattle.payloads.proofs.shape.shape_of.Statement.{statement}
+use Rattle.payloads.proofs.shape.shape_of.Tie as tie
+
+digits-requires : tie.Need-digits-requires
+digits-requires c κs = search needs
+
+digits-requires-2 : tie.Need-digits-requires-2
+digits-requires-2 c κs = search needs
+
+digits-requires-3 : tie.Need-digits-requires-3
+digits-requires-3 c κs = search needs
+
+digits-requires-4 : tie.Need-digits-requires-4
+digits-requires-4 c κs = search needs
+
+digits-requires-5 : tie.Need-digits-requires-5
+digits-requires-5 c κs = search needs
+
+digits-requires-6 : tie.Need-digits-requires-6
+digits-requires-6 c κs = search needs
+
+digits-requires-7 : tie.Need-digits-requires-7
+digits-requires-7 c κs = search needs
+
+digits-requires-8 : tie.Need-digits-requires-8
+digits-requires-8 c κs = search needs
+
+digits-requires-9 : tie.Need-digits-requires-9
+digits-requires-9 c κs = search needs
+
+digits-requires-10 : tie.Need-digits-requires-10
+digits-requires-10 c κs = search needs
+
+digits-requires-11 : tie.Need-digits-requires-11
+digits-requires-11 c κs = search needs
+
+digits-requires-12 : tie.Need-digits-requires-12
+digits-requires-12 c κs = search needs
+
+digits-requires-13 : tie.Need-digits-requires-13
+digits-requires-13 c κs = search needs
+
+digits-requires-14 : tie.Need-digits-requires-14
+digits-requires-14 c κs = search needs
+
+digits-requires-15 : tie.Need-digits-requires-15
+digits-requires-15 c κs = search needs
+
+digits-requires-16 : tie.Need-digits-requires-16
+digits-requires-16 c κs = search needs
+
+digits-requires-17 : tie.Need-digits-requires-17
+digits-requires-17 c κs = search needs
+
+digits-requires-18 : tie.Need-digits-requires-18
+digits-requires-18 c κs = search needs
+
+digits-requires-19 : tie.Need-digits-requires-19
+digits-requires-19 c κs = search needs
+
+returns : tie.Need-returns
+unfolding entryFor
+returns c = c .digits .ensures ∙ sym (ap shapeFor (c .before .match .keys1))
+
+returns-2 : tie.Need-returns-2
+unfolding entryFor
+returns-2 c = c .digits2 .ensures ∙ sym (ap shapeFor (c .before .match .keys2))
+
+returns-3 : tie.Need-returns-3
+unfolding entryFor
+returns-3 c = c .digits3 .ensures ∙ sym (ap shapeFor (c .before .match .keys3))
+
+returns-4 : tie.Need-returns-4
+unfolding entryFor
+returns-4 c = c .digits4 .ensures ∙ sym (ap shapeFor (c .before .match .keys4))
+
+returns-5 : tie.Need-returns-5
+unfolding entryFor
+returns-5 c = c .digits5 .ensures ∙ sym (ap shapeFor (c .before .match .keys5))
+
+returns-6 : tie.Need-returns-6
+unfolding entryFor
+returns-6 c = c .digits6 .ensures ∙ sym (ap shapeFor (c .before .match .keys6))
+
+returns-7 : tie.Need-returns-7
+unfolding entryFor
+returns-7 c = c .digits7 .ensures ∙ sym (ap shapeFor (c .before .match .keys7))
+
+returns-8 : tie.Need-returns-8
+unfolding entryFor
+returns-8 c = c .digits8 .ensures ∙ sym (ap shapeFor (c .before .match .keys8))
+
+returns-9 : tie.Need-returns-9
+unfolding entryFor
+returns-9 c = c .digits9 .ensures ∙ sym (ap shapeFor (c .before .match .keys9))
+
+returns-10 : tie.Need-returns-10
+unfolding entryFor
+returns-10 c = c .digits10 .ensures ∙ sym (ap shapeFor (c .before .match .keys10))
+
+returns-11 : tie.Need-returns-11
+unfolding entryFor
+returns-11 c = c .digits11 .ensures ∙ sym (ap shapeFor (c .before .match .keys11))
+
+returns-12 : tie.Need-returns-12
+unfolding entryFor
+returns-12 c = c .digits12 .ensures ∙ sym (ap shapeFor (c .before .match .keys12))
+
+returns-13 : tie.Need-returns-13
+unfolding entryFor
+returns-13 c = c .digits13 .ensures ∙ sym (ap shapeFor (c .before .match .keys13))
+
+returns-14 : tie.Need-returns-14
+unfolding entryFor
+returns-14 c = c .digits14 .ensures ∙ sym (ap shapeFor (c .before .match .keys14))
+
+returns-15 : tie.Need-returns-15
+unfolding entryFor
+returns-15 c = c .digits15 .ensures ∙ sym (ap shapeFor (c .before .match .keys15))
+
+returns-16 : tie.Need-returns-16
+unfolding entryFor
+returns-16 c = c .digits16 .ensures ∙ sym (ap shapeFor (c .before .match .keys16))
+
+returns-17 : tie.Need-returns-17
+unfolding entryFor
+returns-17 c = c .digits17 .ensures ∙ sym (ap shapeFor (c .before .match .keys17))
+
+returns-18 : tie.Need-returns-18
+unfolding entryFor
+returns-18 c = c .digits18 .ensures ∙ sym (ap shapeFor (c .before .match .keys18))
+
+returns-19 : tie.Need-returns-19
+returns-19 c = c .digits19 .ensures ∙ sym (ap (λ (e : Entry). shapeOf (e .layout)) (no-entry table (c .before .before .args .kind) (c .before .match .rest) .1))
+
+pub shape-of-spec : {M : Type 1} → statement M
+shape-of-spec = tie.close (tie.spec digits-requires digits-requires-2 digits-requires-3 digits-requires-4 digits-requires-5 digits-requires-6 digits-requires-7 digits-requires-8 digits-requires-9 digits-requires-10 digits-requires-11 digits-requires-12 digits-requires-13 digits-requires-14 digits-requires-15 digits-requires-16 digits-requires-17 digits-requires-18 digits-requires-19 returns returns-2 returns-3 returns-4 returns-5 returns-6 returns-7 returns-8 returns-9 returns-10 returns-11 returns-12 returns-13 returns-14 returns-15 returns-16 returns-17 returns-18 returns-19)

@@ -1,0 +1,23 @@
+-- What the digits of a shape make of a payload: one number for each field, and of what is repeated to the end, how often. That this is what
+-- the type's layout says is proved (proofs/Shaped.antt). Assumes nothing.
+use Prim.Native.Nat.{ℕ, _/_}
+use mathlib.Core.Bool.{cond}
+use mathlib.Core.List.{List, [], _∷_, _++_}
+use lib.Dec.{eqb}
+use lib.ListN.{length, drop}
+use Rattle.formats.specs.Digits.{formatsBy, sizeOf, numbersAt}
+use Rattle.formats.specs.declared.Shape.{Shape}
+
+-- the numbers of a run, then what some rest makes of the bytes after it
+abbrev pub runThen : ℕ → (List ℕ → List ℕ) → List ℕ → List ℕ
+runThen digits rest s = numbersAt (formatsBy digits) s 0 ++ rest (drop (sizeOf (formatsBy digits)) s)
+
+-- how often a run's bytes are repeated
+abbrev pub tailIn : ℕ → List ℕ → List ℕ
+tailIn each s = cond (eqb each 0) [] (length s / sizeOf (formatsBy each) ∷ [])
+
+abbrev pub restIn : ℕ → ℕ → List ℕ → List ℕ
+restIn more each = runThen more (tailIn each)
+
+abbrev pub rowIn : Shape → List ℕ → List ℕ
+rowIn shape = runThen (shape .head) (restIn (shape .more) (shape .each))
