@@ -1,11 +1,13 @@
--- A refusal writes nothing and moves no state, by the number that is handed back: of the flags' and the phase's functions, of those that write
--- frames, and of the roster that grows. Assumes nothing.
+-- A refusal writes nothing and moves no state, by the number that is handed back: of rows that are read, of the phase's parts, of the roster that
+-- grows, and of frames that are written. Assumes nothing.
 use Prim.Native.Nat.{ℕ}
 use mathlib.Core.Path.{_≡_}
 use mathlib.Core.List.{List}
 use lib.IntN.{ℤ}
 use lib.ListN.{length}
 use Rattle.frames.specs.Writer.{planned, withFrame}
+use Rattle.payloads.specs.Payloads.{numberOf}
+use Rattle.row_reader.specs.ReadRow.{readRow, rowAfter, readOne, rowAfterOne}
 use Rattle.system.specs.Log.{Logged, logWriteAnswer, logWritten}
 use Rattle.exports.specs.Lent.{zeroOr}
 use Rattle.exports.specs.Phased.{partsNumber, cyclesAfter, partsAfter}
@@ -13,6 +15,8 @@ use Rattle.exports.specs.Enlist.{growingAnswer, growingStored, enlistAns
 use Rattle.exports.specs.Write.{sentBy, sizeLeft}
 
 pub record KeptRows : Type 0 where
+  pub read : (kind : ℕ) (s row : List ℕ) → (numberOf (readRow kind s (length row)) ≡ 0 → ⊥) → rowAfter kind s row ≡ row
+  pub observation : (kind : ℕ) (s : List ℕ) (i : ℕ) (row : List ℕ) → (numberOf (readOne kind s i (length row)) ≡ 0 → ⊥) → rowAfterOne kind s i row ≡ row
   pub phase-parts : (phase cycles : ℤ) (parts : ℕ) → (partsNumber phase ≡ 0 → ⊥) → (cyclesAfter phase cycles ≡ cycles) × (partsAfter phase parts ≡ parts)
   pub growing : (s : List ℕ) → (growingAnswer (length s) ≡ 0 → ⊥) → growingStored s ≡ s
   pub enlist : (s : List ℕ) (kind sender : ℕ) → (enlistAnswer s kind sender ≡ 0 → ⊥) → enlistStored s kind sender ≡ s
