@@ -1,7 +1,8 @@
 pub mod Formats
 pub mod Steps
 pub mod Rows
+pub mod Widened
+pub mod Narrow
 pub mod Extended
 pub mod Cut
 pub mod Unpacked
-pub mod Widened

@@ -20,7 +20,7 @@ use Rattle.observation.specs.declared.obs.Obs.{Obs}
 use Rattle.observation.proofs.ObsReading.{allowed, obs-shown}
 use Rattle.system.specs.Log as system
 use Rattle.system.specs.Log.{logLength, readingLog, logIn, readLog}
-use Rattle.payloads.specs.Payloads.{Described, messages, Entry, readIn, entryOf, noEntry, table, entryFor, testsOf, readFor, Typed, TypedIn, PromisedIn, Promised, AllOf}
+use Rattle.payloads.specs.Payloads.{Described, messages, Entry, readIn, entryOf, noEntry, table, entryFor, testsOf, readFor, Typed, TypedIn, Promised, AllOf}
 use Rattle.payloads.specs.declared.Message.{Message}
 use Rattle.payloads.specs.declared.Message.the-variants as M
 
@@ -86,21 +86,36 @@ module _ (m : Described) (es : List Entry) (found : entryFor es (m .description 
   unfolding readAs
   read-own s = ap (λ (e : Entry). ordered (testsOf e s) (e .holds s)) found ∙ ordered-mapped (m .name) (inside (m .description) s) (reading (m .description) s)
 
-all-promised : (before : List Entry) (ms : List Described) → distinct before ms ≡ true → AllOf (PromisedIn (before ++ map entryOf ms)) ms
-all-promised before [] h = tt
-all-promised before (m ∷ ms) h =
+-- what the test of the whole list tells of a message: its entry is found, its type is a u16, its rows take some bytes
+abbrev FoundIn : List Entry → Described → Type 0
+FoundIn es m = let d = m .description in (entryFor es (d .kind) ≡ entryOf m) × (d .kind < 65536) × Sound (d .layout)
+
+abbrev pub Found : Described → Type 0
+Found = FoundIn table
+
+all-found : (before : List Entry) (ms : List Described) → distinct before ms ≡ true → AllOf (FoundIn (before ++ map entryOf ms)) ms
+all-found before [] h = tt
+all-found before (m ∷ ms) h =
     let d = m .description in
     let more = before ++ (entryOf m ∷ []) in
     let new = both (lacks before (d .kind)) (ltb (d .kind) 65536 && (sound (d .layout) && distinct more ms)) h in
     let small = both (ltb (d .kind) 65536) (sound (d .layout) && distinct more ms) (new .1) in
     let rest = both (sound (d .layout)) (distinct more ms) (small .1) in
     let es = map entryOf ms in (
-      (faithful d (ltb-true (d .kind) 65536 (small .0)) (sound-layout (d .layout) (rest .0)), read-own m (before ++ (entryOf m ∷ es)) (own before (entryOf m) es (new .0))),
-      subst (λ (all : List Entry). AllOf (PromisedIn all) ms) (append-assoc before (entryOf m ∷ []) es) (all-promised more ms (rest .1)),
+      (own before (entryOf m) es (new .0), ltb-true (d .kind) 65536 (small .0), sound-layout (d .layout) (rest .0)),
+      subst (λ (all : List Entry). AllOf (FoundIn all) ms) (append-assoc before (entryOf m ∷ []) es) (all-found more ms (rest .1)),
     )
 
+pub found : AllOf Found messages
+found = all-found [] messages refl
+
+-- what follows of each
+pub all-of : {P Q : Described → Type 0} → ((m : Described) → P m → Q m) → (ms : List Described) → AllOf P ms → AllOf Q ms
+all-of f [] h = tt
+all-of f (m ∷ ms) h = (f m (h .0), all-of f ms (h .1))
+
 pub promised : AllOf Promised messages
-promised = all-promised [] messages refl
+promised = all-of {P = Found} {Q = Promised} (λ m h. (faithful (m .description) (h .1) (h .2), read-own m table (h .0))) messages found
 
 -- ---- OBS, and LOG
 

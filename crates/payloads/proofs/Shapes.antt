@@ -15,11 +15,11 @@ use Rattle.payloads.specs.Payloads.{Described, messages, Entry, entryOf,
 
 -- ---- what holds of each row of the table, and where there is none, holds of every type
 
-abbrev OfEach : (Entry → Type 0) → List Entry → Type 0
+abbrev pub OfEach : (Entry → Type 0) → List Entry → Type 0
 OfEach P [] = Unit {0}
 OfEach P (e ∷ es) = P e × OfEach P es
 
-of-any : (P : Entry → Type 0) (es : List Entry) → OfEach P es → (kind : ℕ) → P (noEntry kind) → P (entryFor es kind)
+pub of-any : (P : Entry → Type 0) (es : List Entry) → OfEach P es → (kind : ℕ) → P (noEntry kind) → P (entryFor es kind)
 unfolding entryFor
 of-any P [] h kind none = none
 of-any P (e ∷ es) h kind none = by (eqb kind (e .kind)) (of-any P es (h .1) kind none)

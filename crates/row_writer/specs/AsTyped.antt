@@ -1,16 +1,15 @@
 -- What is written from numbers is what the typed writers write of the record that they stand for. Assumes nothing.
-use Prim.Native.Nat.{ℕ}
 use mathlib.Core.Path.{_≡_}
-use mathlib.Core.Bool.{true, _&&_}
+use mathlib.Core.Bool.{true}
 use mathlib.Core.List.{List}
-use lib.Dec.{eqb}
+use Prim.Native.Nat.{ℕ}
 use lib.ListN.{length}
 use Rattle.wire.specs.Refusals.{given}
+use Rattle.formats.specs.Wide.{fitsRow, numbersIn}
+use Rattle.formats.specs.Digits.{headOf}
 use Rattle.frames.specs.Faithful.{writeAnswer, writtenAs}
 use Rattle.observation.specs.Edition.{obs, first}
 use Rattle.payloads.specs.Payloads.{Described, messages, AllOf}
-use Rattle.formats.specs.Wide.{fitsRow, numbersIn, wideBody}
-use Rattle.formats.specs.Digits.{headOf}
 use Rattle.row_writer.specs.WriteRow.{alone, bodyOf, writeRow, rowWritten}
 use Rattle.row_writer.specs.WriteObsRow.{observedOf, writeObsRow, obsRowWritten}
 

@@ -1,3 +1,8 @@
 // Frames written from rows of numbers of 64 bits.
 // Read specs/WriteRow.antt first, then specs/WriteObsRow.antt; specs/AsTyped.antt says that this is what the typed writers write.
-ghost use mathlib.Core.Path.{_≡_};
+mod obs;
+mod row;
+mod send;
+
+pub use obs::write_obs_row;
+pub use row::write_row;

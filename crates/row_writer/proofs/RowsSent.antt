@@ -1,0 +1,161 @@
+-- The ways through the writer of a row: refused by its numbers, or packed and sent. Assumes nothing.
+use mathlib.Core.Path.{_≡_, refl, sym, ap, ap₂, _∙_, subst⁻¹}
+use mathlib.Core.Bool.{Bool, true, false, _&&_, and-eq-true-iff}
+use mathlib.Core.List.{List, [], _∷_}
+use Prim.Native.Nat.{ℕ, _+_, _≤_}
+use native.Mathlib.Omega.{arith}
+use lib.Dec.{eqb}
+use lib.ListN.{length, take}
+use Rattle.wire.specs.Field.{Format, size, encode}
+use Rattle.wire.specs.Layout.{Layout, Body, HeldBody, allowedBody, bodySize, lengths, LengthOf, encodeBody, decodeBody}
+use Rattle.wire.specs.Refusals.{refused, Answer, Tests, ordered, leaves}
+use Rattle.wire.proofs.Fields.{row-sets, length-encode}
+use Rattle.wire.proofs.Layouts.{allowed-again-body, lengths-true, size-fits, length-encode-body, decode-encode-body}
+use Rattle.formats.specs.Wide.{narrowRow, fitsRow, numbersIn}
+use Rattle.formats.specs.Digits.{runStored, headOf}
+use Rattle.formats.specs.declared.Shape.{Shape}
+use Rattle.formats.proofs.Narrow.{Words, held-narrow, stored-narrow}
+use Rattle.frames.specs.Frame.{frameBytes}
+use Rattle.frames.specs.Writer.{writingFrame, startingWith}
+use Rattle.payloads.specs.Checks.{numberBy}
+use Rattle.payloads.specs.Payloads.{table, entryFor, layoutFor, knownFor, shapeFor, numberOf, answerFor}
+use Rattle.row_writer.specs.WriteRow.{alone, bodyOf, writeRow, rowWritten, sizeLeft}
+use Rattle.row_writer.specs.Parts.{formatsIn, testingRow, sent}
+use Rattle.row_writer.proofs.Runs.{front-sets}
+use Rattle.row_writer.proofs.Alone.{FieldsAlone, fields-alone, plain-for, reads-for, formats-shaped}
+
+-- ---- three tests, and what comes after them
+
+abbrev three : Bool → Bool → Bool → Tests
+three a b f = (a, 21) ∷ (b, 22) ∷ (f, 23) ∷ []
+
+-- what is not 0 is the refusal, and 0 says that all three pass
+stands : (a b f x : Bool) (rest : Tests) (y : ℕ) {n : ℕ} → n ≡ numberBy (three a b f) → (n ≡ 0 → ⊥) → ordered ((a, 21) ∷ (b, 22) ∷ (f && x, 23) ∷ rest) y ≡ refused n
+stands false b f x rest y p h = ap refused (sym p)
+stands true false f x rest y p h = ap refused (sym p)
+stands true true false x rest y p h = ap refused (sym p)
+stands true true true x rest y p h = absurd (h p)
+
+passes : (a b f : Bool) {n : ℕ} → n ≡ numberBy (three a b f) → n ≡ 0 → (a ≡ true) × (b ≡ true) × (f ≡ true)
+passes false b f p h = absurd (omega arith)
+passes true false f p h = absurd (omega arith)
+passes true true false p h = absurd (omega arith)
+passes true true true p h = (refl, refl, refl)
+
+pub opened : {a b f : Bool} (x : Bool) (rest : Tests) (y : ℕ) → a ≡ true → b ≡ true → f ≡ true
+    → ordered ((a, 21) ∷ (b, 22) ∷ (f && x, 23) ∷ rest) y ≡ ordered ((x, 23) ∷ rest) y
+opened x rest y p q r = rw (p, q, r)
+
+-- a payload is taken where its last test passes
+taken : {A : Type 0} (x : A) (t : Bool) → eqb (numberOf (ordered ((t, 23) ∷ []) x)) 0 ≡ t
+taken x true = refl
+taken x false = refl
+
+-- ---- the numbers tested
+
+module _ (kind : ℕ) (ns : List ℕ) where
+  abbrev Alone : Bool → Type 0
+  Alone t = (knownFor kind && alone (layoutFor kind)) ≡ t
+
+  abbrev Counted : Bool → Type 0
+  Counted t = eqb (length ns) (numbersIn (layoutFor kind)) ≡ t
+
+  abbrev Fits : Bool → Type 0
+  Fits t = fitsRow (headOf (layoutFor kind)) ns 0 ≡ t
+
+  pub number-21 : Alone false → 21 ≡ numberBy (testingRow kind ns)
+  number-21 p = rw p
+
+  pub number-22 : Alone true → Counted false → 22 ≡ numberBy (testingRow kind ns)
+  number-22 p q = rw (p, q)
+
+  pub number-23 : Alone true → Counted true → Fits false → 23 ≡ numberBy (testingRow kind ns)
+  number-23 p q r = rw (p, q, r)
+
+  pub number-0 : Alone true → Counted true → Fits true → 0 ≡ numberBy (testingRow kind ns)
+  number-0 p q r = rw (p, q, r)
+
+-- ---- where the numbers fit
+
+pub record Fitting (kind : ℕ) (ns : List ℕ) : Type 0 where
+  pub known : knownFor kind ≡ true
+  pub only : alone (layoutFor kind) ≡ true
+  pub counted : eqb (length ns) (numbersIn (layoutFor kind)) ≡ true
+  pub fits : fitsRow (headOf (layoutFor kind)) ns 0 ≡ true
+
+pub fitting : (kind : ℕ) (ns : List ℕ) {n : ℕ} → n ≡ numberBy (testingRow kind ns) → n ≡ 0 → Fitting kind ns
+fitting kind ns p h =
+    let l = layoutFor kind in
+    let all = passes (knownFor kind && alone l) (eqb (length ns) (numbersIn l)) (fitsRow (headOf l) ns 0) p h in
+    let both = and-eq-true-iff (knownFor kind) (alone l) .0 (all .0) in
+    record { known = both .0; only = both .1; counted = all .1; fits = all .2 }
+
+module _ (kind : ℕ) (ns : List ℕ) (words : Words ns) (f : Fitting kind ns) where
+  abbrev l : Layout
+  l = layoutFor kind
+
+  abbrev v : Body l
+  v = bodyOf l ns
+
+  abbrev p : List ℕ
+  p = encodeBody l v
+
+  is : FieldsAlone l ns
+  is = fields-alone l ns (f .only)
+
+  held : HeldBody l v
+  held = is .held (held-narrow ns words (headOf l) 0 (plain-for kind .0) (f .fits))
+
+  -- the fields' bytes are taken exactly when the numbers are within their ranges
+  accepted : eqb (answerFor kind p) 0 ≡ allowedBody l v
+  accepted =
+      let e = entryFor table kind in
+      let long : lengths l (length p) ≡ true = lengths-true l (length p) (subst⁻¹ (LengthOf l) (length-encode-body l v) (size-fits l v (is .sound) (is .few))) in
+      let again : allowedBody l (decodeBody l p) ≡ allowedBody l v = ap (allowedBody l) (decode-encode-body l v (is .sound) held) ∙ allowed-again-body l v held in
+      ap₂ (λ (t : Bool) (ts : Tests). eqb (numberOf (ordered ((t, 21) ∷ ts) (e .holds p))) 0) (f .known) (reads-for kind (f .known) p)
+      ∙ ap₂ (λ (t u : Bool). eqb (numberOf (ordered ((t, 22) ∷ (u, 23) ∷ []) (e .holds p))) 0) long again
+      ∙ taken (e .holds p) (allowedBody l v)
+
+  pub as-sent : (room : ℕ) → writeRow kind ns room ≡ sent kind p room
+  unfolding writeRow sent
+  as-sent room =
+      opened (allowedBody l v) (writingFrame (bodySize l v) room) (bodySize l v + 8) (and-eq-true-iff (knownFor kind) (alone l) .1 (f .known, f .only)) (f .counted) (f .fits)
+      ∙ ap₂ (λ (t : Bool) (n : ℕ). ordered ((t, 23) ∷ writingFrame n room) (n + 8)) (sym accepted) (sym (length-encode-body l v))
+
+  -- the fields stored from a buffer's start on, by the type's shape
+  pub payload-packed : {s : Shape} (buf : List ℕ) {t : List ℕ} {n : ℕ} → s ≡ shapeFor kind → n ≡ size (headOf l)
+      → t ≡ runStored (formatsIn s) ns 0 buf 0 → 255 ≤ length buf → take n t ≡ p
+  payload-packed buf {n = n} e sized q room =
+      let fs = headOf l in
+      let stored = q ∙ ap (λ (ks : List Format). runStored ks ns 0 buf 0) (formats-shaped kind e)
+      ∙ stored-narrow ns words fs 0 buf 0 (plain-for kind .0) (f .fits) ∙ row-sets fs (narrowRow fs ns 0) buf 0 (omega (arith, plain-for kind .1)) in
+      ap (take n) stored
+      ∙ front-sets (encode fs (narrowRow fs ns 0)) buf n (length-encode fs (narrowRow fs ns 0) ∙ sym sized) (omega (arith, plain-for kind .1))
+      ∙ sym (is .encoded)
+
+-- ---- what a call leaves
+
+module _ (kind sender : ℕ) (ns buf : List ℕ) (size : ℕ) where
+  abbrev pub Wrote : ℕ → List ℕ → ℕ → Type 0
+  Wrote r u s =
+      (r ≡ numberOf (writeRow kind ns (length buf))) × ((u ≡ rowWritten kind sender ns buf) × (s ≡ sizeLeft (writeRow kind ns (length buf)) size))
+
+  -- by the answer, and the payload that it is of
+  by-answer : {a : Answer ℕ} {p : List ℕ} → writeRow kind ns (length buf) ≡ a → p ≡ encodeBody (layoutFor kind) (bodyOf (layoutFor kind) ns)
+      → Wrote (numberOf a) (leaves (startingWith (frameBytes kind sender p)) a buf) (sizeLeft a size)
+  unfolding rowWritten
+  by-answer e q =
+      (ap numberOf (sym e), (ap₂ (λ (p : List ℕ) (a : Answer ℕ). leaves (startingWith (frameBytes kind sender p)) a buf) q (sym e), ap (λ (a : Answer ℕ). sizeLeft a size) (sym e)))
+
+  pub wrote-refused : {n : ℕ} → n ≡ numberBy (testingRow kind ns) → (n ≡ 0 → ⊥) → Wrote n buf size
+  unfolding writeRow
+  wrote-refused p h =
+      let l = layoutFor kind in
+      by-answer (stands (knownFor kind && alone l) (eqb (length ns) (numbersIn l)) (fitsRow (headOf l) ns 0) (allowedBody l (bodyOf l ns)) (writingFrame (bodySize l (bodyOf l ns)) (length buf)) (bodySize l (bodyOf l ns) + 8) p h) refl
+
+  pub wrote-sent : Words ns → Fitting kind ns → {p : List ℕ} {r s : ℕ} {u : List ℕ} → p ≡ encodeBody (layoutFor kind) (bodyOf (layoutFor kind) ns)
+      → r ≡ numberOf (sent kind p (length buf)) → u ≡ leaves (startingWith (frameBytes kind sender p)) (sent kind p (length buf)) buf → s ≡ sizeLeft (sent kind p (length buf)) size
+      → Wrote r u s
+  wrote-sent words f e x y z =
+      let w = by-answer (as-sent kind ns words f (length buf) ∙ ap (λ (p : List ℕ). sent kind p (length buf)) (sym e)) e in
+      (x ∙ w .0, (y ∙ w .1 .0, z ∙ w .1 .1))

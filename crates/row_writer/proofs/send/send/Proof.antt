@@ -1,0 +1,30 @@
+-- `row_writer::send::send` meets its contract: the frame's writer is asked where the payload is taken.
+use borrow.Author.Needs.{needs}
+use Rattle.frames.specs.Writer.{senderOf}
+use Rattle.row_writer.proofs.Sends.{sent-on, sent-not}
+use Rattle.row_writer.proofs.send.send.Statement.{statement}
+use Rattle.row_writer.proofs.send.send.Tie as tie
+
+answer-requires : tie.Need-answer-requires
+answer-requires c κs = search needs
+
+send-frame-requires : tie.Need-send-frame-requires
+send-frame-requires c κs = search needs
+
+same-length : tie.Need-same-length
+same-length c = search needs
+
+returns : tie.Need-returns
+returns c =
+    let on = c .before .before .send-frame .ensures in
+    let asked = c .before .before .before .before .before .before in
+    let a = asked .before .before .before .args in
+    sent-on (a .kind) (senderOf (a .sender)) (a .payload .now) (a .out .now) (a .size .now) (asked .answer .ensures) (c .before .before .before .before .before .if1 .taken) (on .0) (on .1 .0) (on .1 .1)
+
+returns-2 : tie.Need-returns-2
+returns-2 c =
+    let a = c .before .before .before .before .args in
+    sent-not (a .kind) (senderOf (a .sender)) (a .payload .now) (a .out .now) (a .size .now) (c .before .answer .ensures) (c .if1 .left)
+
+pub send-spec : {M : Type 1} → statement M
+send-spec = tie.close (tie.spec answer-requires send-frame-requires same-length returns returns-2)
