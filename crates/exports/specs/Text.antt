@@ -4,7 +4,7 @@ use mathlib.Core.List.{List}
 use lib.ListN.{length}
 use Rattle.listing.specs.Listing.{listAnswer}
 use Rattle.exports.specs.Lent.{zeroOr}
-use Rattle.exports.specs.Write.{sizeLeft}
+use Rattle.row_writer.specs.WriteRow.{sizeLeft}
 
 abbrev pub textAnswer : List ℕ → ℕ → ℕ
 textAnswer s room = zeroOr (listAnswer s room)

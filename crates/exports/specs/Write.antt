@@ -1,8 +1,7 @@
--- What the functions that write a frame hand back, and what they leave in the number that they are lent. Assumes nothing.
+-- Who sends the frames that are written, as a number of 32 bits. Assumes nothing.
 use Prim.Native.Nat.{ℕ}
 use mathlib.Core.Bool.{cond}
 use lib.Dec.{ltb}
-use Rattle.wire.specs.Refusals.{Answer, leaves}
 use Rattle.frames.specs.Writer.{senderOf}
 use Rattle.frames.specs.declared.write.Sender.{Sender}
 use Rattle.frames.specs.declared.write.Sender.the-variants.{Named, Unnamed}
@@ -14,7 +13,3 @@ senderFrom n = cond (ltb n 65536) (Named n) Unnamed
 -- the sender in the frame: the one that is given, or 0x42
 abbrev pub sentBy : ℕ → ℕ
 sentBy n = senderOf (senderFrom n)
-
--- how many bytes were written, or what stood there
-abbrev pub sizeLeft : Answer ℕ → ℕ → ℕ
-sizeLeft a before = leaves (λ n size. n) a before

@@ -42,5 +42,7 @@ pub use rowing::sbp_observation;
 pub use rowing::sbp_read;
 pub use texting::sbp_list;
 pub use versioning::sbp_version;
+pub use writing::sbp_write;
 pub use writing::sbp_write_frame;
 pub use writing::sbp_write_log;
+pub use writing::sbp_write_obs;

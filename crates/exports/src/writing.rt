@@ -2,9 +2,12 @@
 ghost use mathlib.Core.Path.{_≡_};
 ghost use lib.ListN.{length};
 ghost use Rattle.frames.specs.Writer.{writtenAnswer, planned, withFrame};
+ghost use Rattle.payloads.specs.Payloads.{numberOf};
+ghost use Rattle.row_writer.specs.WriteObsRow.{writeObsRow, obsRowWritten};
+ghost use Rattle.row_writer.specs.WriteRow.{writeRow, rowWritten, sizeLeft};
 ghost use Rattle.system.specs.Log.{logWriteAnswer, logWritten};
 ghost use Rattle.exports.specs.Lent.{zeroOr};
-ghost use Rattle.exports.specs.Write.{senderFrom, sentBy, sizeLeft};
+ghost use Rattle.exports.specs.Write.{senderFrom, sentBy};
 use frames::Sender;
 use frames::Written;
 
@@ -30,6 +33,40 @@ pub(crate) fn hand_on(written: Written, size: &mut u64) -> u8
         }
         Written::Refused(n) => n,
     }
+}
+
+// Every message without a tail, from one number for each field: 21 for a type that it does not write, 22 for another number of fields, 23 for a
+// number that its field cannot hold or that is outside its range, 31, 32.
+#[no_mangle]
+pub extern "C" fn sbp_write(
+    out: &mut [u8],
+    kind: u16,
+    sender: u32,
+    row: &[u64],
+    size: &mut u64,
+) -> u8
+    ensures { λ r. ⌜ r ≡ numberOf (writeRow kind (now (row .entry)) (length (now (out .entry)))) ⌝ }
+    ensures { λ _. ⌜ now (out .exit) ≡ rowWritten kind (sentBy sender) (now (row .entry)) (now (out .entry)) ⌝ }
+    ensures { λ _. ⌜ now (size .exit) ≡ sizeLeft (writeRow kind (now (row .entry)) (length (now (out .entry)))) (now (size .entry)) ⌝ }
+{
+    row_writer::write_row(out, kind, sender_from(sender), row, size)
+}
+
+// An OBS, from its header's three numbers and eight for each observation: 21, 22, 23, 31, 32.
+#[no_mangle]
+pub extern "C" fn sbp_write_obs(
+    out: &mut [u8],
+    kind: u16,
+    sender: u32,
+    head: &[u64],
+    rows: &[u64],
+    size: &mut u64,
+) -> u8
+    ensures { λ r. ⌜ r ≡ numberOf (writeObsRow kind (now (head .entry)) (now (rows .entry)) (length (now (out .entry)))) ⌝ }
+    ensures { λ _. ⌜ now (out .exit) ≡ obsRowWritten kind (sentBy sender) (now (head .entry)) (now (rows .entry)) (now (out .entry)) ⌝ }
+    ensures { λ _. ⌜ now (size .exit) ≡ sizeLeft (writeObsRow kind (now (head .entry)) (now (rows .entry)) (length (now (out .entry)))) (now (size .entry)) ⌝ }
+{
+    row_writer::write_obs_row(out, kind, sender_from(sender), head, rows, size)
 }
 
 // A LOG: 31 for a text over 254 bytes, then 32.

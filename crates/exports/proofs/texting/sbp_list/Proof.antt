@@ -3,7 +3,7 @@ use mathlib.Core.Path.{ap, _∙_}
 use Prim.Native.Nat.{ℕ}
 use Rattle.wire.specs.Refusals.{Answer}
 use Rattle.exports.specs.Lent.{zeroOr}
-use Rattle.exports.specs.Write.{sizeLeft}
+use Rattle.row_writer.specs.WriteRow.{sizeLeft}
 use borrow.Author.Needs.{needs}
 use Rattle.exports.proofs.texting.sbp_list.Statement.{statement}
 use Rattle.exports.proofs.texting.sbp_list.Tie as tie

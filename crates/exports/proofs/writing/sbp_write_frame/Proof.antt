@@ -5,7 +5,7 @@ use Rattle.wire.specs.Refusals.{Answer}
 use Rattle.frames.specs.Writer.{senderOf, withFrame}
 use Rattle.frames.specs.declared.write.Sender.{Sender}
 use Rattle.exports.specs.Lent.{zeroOr}
-use Rattle.exports.specs.Write.{sizeLeft}
+use Rattle.row_writer.specs.WriteRow.{sizeLeft}
 use borrow.Author.Needs.{needs}
 use Rattle.exports.proofs.writing.sbp_write_frame.Statement.{statement}
 use Rattle.exports.proofs.writing.sbp_write_frame.Tie as tie

@@ -6,7 +6,7 @@ use Rattle.frames.specs.Writer.{senderOf}
 use Rattle.frames.specs.declared.write.Sender.{Sender}
 use Rattle.system.specs.Log.{logWritten}
 use Rattle.exports.specs.Lent.{zeroOr}
-use Rattle.exports.specs.Write.{sizeLeft}
+use Rattle.row_writer.specs.WriteRow.{sizeLeft}
 use borrow.Author.Needs.{needs}
 use Rattle.exports.proofs.writing.sbp_write_log.Statement.{statement}
 use Rattle.exports.proofs.writing.sbp_write_log.Tie as tie
