@@ -1,9 +1,10 @@
-// What C and Rust link: `extern "C"` functions over numbers, lent slices and, for a length, one lent number. None has a `requires`.
+// What C and Rust link: `extern "C"` functions over numbers, lent slices and lent numbers. None has a `requires`.
 // A refusal is document 01's number and writes nothing. A collator lives in lent bytes.
-// Read specs/Lent.antt (what a call hands back and leaves), specs/Found.antt (the row of a frame), specs/Totals.antt, specs/Write.antt, specs/Text.antt,
-// specs/Flagged.antt and specs/Phased.antt (flags, carrier phase), specs/State.antt (what a collator's bytes stand for), specs/Feed.antt,
-// specs/Enlist.antt, specs/Growing.antt (a roster that grows) and specs/Claims.antt; proofs/Feeds.antt, Makes.antt, Lives.antt and Grows.antt
-// tie the bytes to the collators of `epochs` and `enlisting`.
+// Read specs/Lent.antt (what a call hands back and leaves), specs/Found.antt (the row of a frame), specs/Totals.antt, specs/Text.antt,
+// specs/Flagged.antt and specs/Phased.antt (flags, carrier phase), specs/Write.antt (who sends), specs/State.antt (what a collator's bytes stand
+// for), specs/Feed.antt and specs/Told.antt, specs/Enlist.antt and specs/Growing.antt (a roster that grows), specs/Claims.antt and
+// specs/KeptRows.antt; proofs/Feeds.antt, Makes.antt, Lives.antt and Grows.antt tie the bytes to the collators of `epochs` and `enlisting`.
+// What rows of fields are stands in `row_reader` and `row_writer`.
 mod answering;
 mod beating;
 mod counting;
