@@ -11,3 +11,4 @@ pub mod Shown
 pub mod Enlists
 pub mod Grows
 pub mod Untouched
+pub mod UntouchedRows

@@ -1,10 +1,11 @@
 -- What a flag's function answers, from the table that its type has. Assumes nothing.
-use mathlib.Core.Path.{_≡_, refl, sym, ap, _∙_}
+use mathlib.Core.Path.{_≡_, refl, sym, ap, ap₂, _∙_}
+use mathlib.Core.Bool.{Bool}
 use Prim.Native.Nat.{ℕ}
 use borrow.Author.Tests.{ne-eqb}
 use Rattle.wire.specs.Refusals.{Answer}
 use Rattle.exports.specs.Lent.{asNumber}
-use Rattle.exports.specs.Flagged.{tableFor}
+use Rattle.exports.specs.Flagged.{tableFor, bitNumber, raimIn}
 use Rattle.exports.specs.declared.flagging.Table.{Table}
 use Rattle.exports.specs.declared.flagging.Table.the-variants.{Nothing}
 
@@ -19,3 +20,9 @@ module _ (kind : ℕ) {A : Type 0} (number : A → ℕ) (answer : Table → Answ
   -- a number that is right for a table is right for a type that has it
   pub by-table : {n : ℕ} {t u : Table} → n ≡ asNumber number (answer u) → t ≡ u → t ≡ tableFor kind → n ≡ asNumber number (answer (tableFor kind))
   by-table q e f = q ∙ ap (λ (t : Table). asNumber number (answer t)) (sym e ∙ f)
+
+-- the same of a flag of RAIM, from its two places
+pub raim-by-table : (kind : ℕ) {n : ℕ} {t : Table} {llh llh' other other' : Bool} → n ≡ asNumber bitNumber (raimIn t llh other) → t ≡ tableFor kind → llh ≡ llh' → other ≡ other'
+    → n ≡ asNumber bitNumber (raimIn (tableFor kind) llh' other')
+raim-by-table kind {n} {t} {llh} {llh'} {other} {other'} q f l o =
+    q ∙ ap (λ (t : Table). asNumber bitNumber (raimIn t llh other)) f ∙ ap₂ (λ (l o : Bool). asNumber bitNumber (raimIn (tableFor kind) l o)) l o

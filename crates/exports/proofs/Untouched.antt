@@ -26,7 +26,7 @@ module _ {A B : Type 0} (number : A → ℕ) (put : A → B → B) (Is : ℕ →
   untouched-by (given x) lent h = absurd (none x h)
   untouched-by (refused n) lent h = refl
 
-not-zero : {A B : Type 0} (put : A → B → B) (a : Answer A) (lent : B) → (zeroOr a ≡ 0 → ⊥) → leaves put a lent ≡ lent
+pub not-zero : {A B : Type 0} (put : A → B → B) (a : Answer A) (lent : B) → (zeroOr a ≡ 0 → ⊥) → leaves put a lent ≡ lent
 not-zero put = untouched-by (λ x. 0) put (λ n. n ≡ 0 → ⊥) (λ x h. h refl)
 
 -- what comes next is 0, 1 or 2

@@ -39,17 +39,12 @@ fixBy Llh = llhFix
 fixBy Baseline = baselineFix
 fixBy Nothing = λ flags. Reserved
 
-abbrev pub availableBy : Table → ℕ → Bool
-availableBy Ecef = raimAvailable
-availableBy Llh = llhRaimAvailable
-availableBy Baseline = raimAvailable
-availableBy Nothing = λ flags. false
-
-abbrev pub repairedBy : Table → ℕ → Bool
-repairedBy Ecef = raimRepaired
-repairedBy Llh = llhRaimRepaired
-repairedBy Baseline = raimRepaired
-repairedBy Nothing = λ flags. false
+-- a flag of RAIM has a place of its own in POS_LLH, and one in all others
+abbrev pub raimBy : Table → Bool → Bool → Bool
+raimBy Ecef llh other = other
+raimBy Llh llh other = llh
+raimBy Baseline llh other = other
+raimBy Nothing llh other = other
 
 -- ---- as numbers
 
@@ -70,25 +65,22 @@ bitNumber true = 1
 abbrev pub flagging : Bool → Tests
 flagging has = (has, 21) ∷ []
 
--- of a table, so that each is said once: whether it has the flag, and the flag
+-- of a table
 abbrev pub fixIn : Table → ℕ → Answer Fix
 fixIn t flags = ordered (flagging (isTable t)) (fixBy t flags)
 
-abbrev pub availableIn : Table → ℕ → Answer Bool
-availableIn t flags = ordered (flagging (isTable t)) (availableBy t flags)
-
-abbrev pub repairedIn : Table → ℕ → Answer Bool
-repairedIn t flags = ordered (flagging (isTable t)) (repairedBy t flags)
+abbrev pub raimIn : Table → Bool → Bool → Answer Bool
+raimIn t llh other = ordered (flagging (isTable t)) (raimBy t llh other)
 
 -- of a type
 abbrev pub fixAnswer : ℕ → ℕ → ℕ
 fixAnswer kind flags = asNumber fixNumber (fixIn (tableFor kind) flags)
 
 abbrev pub availableAnswer : ℕ → ℕ → ℕ
-availableAnswer kind flags = asNumber bitNumber (availableIn (tableFor kind) flags)
+availableAnswer kind flags = asNumber bitNumber (raimIn (tableFor kind) (llhRaimAvailable flags) (raimAvailable flags))
 
 abbrev pub repairedAnswer : ℕ → ℕ → ℕ
-repairedAnswer kind flags = asNumber bitNumber (repairedIn (tableFor kind) flags)
+repairedAnswer kind flags = asNumber bitNumber (raimIn (tableFor kind) (llhRaimRepaired flags) (raimRepaired flags))
 
 -- only a POS_LLH says what its height is above
 abbrev pub aboveSeaAnswer : ℕ → ℕ → ℕ

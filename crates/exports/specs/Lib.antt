@@ -1,6 +1,7 @@
 pub mod Lent
 pub mod Found
 pub mod Totals
+pub mod Write
 pub mod Text
 pub mod Flagged
 pub mod Phased
@@ -10,3 +11,4 @@ pub mod Told
 pub mod Enlist
 pub mod Growing
 pub mod Claims
+pub mod KeptRows

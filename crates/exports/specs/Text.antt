@@ -2,13 +2,13 @@
 use Prim.Native.Nat.{ℕ}
 use mathlib.Core.List.{List}
 use lib.ListN.{length}
-use Rattle.wire.specs.Refusals.{leaves}
 use Rattle.listing.specs.Listing.{listAnswer}
 use Rattle.exports.specs.Lent.{zeroOr}
+use Rattle.row_writer.specs.WriteRow.{sizeLeft}
 
 abbrev pub textAnswer : List ℕ → ℕ → ℕ
 textAnswer s room = zeroOr (listAnswer s room)
 
 -- the text's length, or what stood there
 abbrev pub sizeAfter : List ℕ → ℕ → ℕ → ℕ
-sizeAfter s room before = leaves (λ n size. n) (listAnswer s room) before
+sizeAfter s room before = sizeLeft (listAnswer s room) before

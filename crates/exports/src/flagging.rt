@@ -1,6 +1,7 @@
 // One flag of a message, as a number: the fix mode and the RAIM flags of positions, baselines and the heading, and what a POS_LLH's height is above.
 ghost use mathlib.Core.Path.{_≡_};
-ghost use Rattle.exports.specs.Flagged.{tableFor, fixNumber, bitNumber, fixAnswer, availableAnswer, repairedAnswer, aboveSeaAnswer};
+ghost use Rattle.exports.specs.Lent.{asNumber};
+ghost use Rattle.exports.specs.Flagged.{tableFor, fixNumber, bitNumber, raimIn, fixAnswer, availableAnswer, repairedAnswer, aboveSeaAnswer};
 use navigation::Fix;
 
 // Whose flags a message has. Those of the two positions differ; both baselines and the heading have one table.
@@ -58,31 +59,39 @@ pub extern "C" fn sbp_fix(kind: u16, flags: u8) -> u8
     }
 }
 
+// A flag of RAIM, by its place in POS_LLH and in all others.
+fn raim_number(table: Table, llh: bool, other: bool) -> u8
+    ensures { λ r. ⌜ r ≡ asNumber bitNumber (raimIn table llh other) ⌝ }
+{
+    match table {
+        Table::Llh => bit_number(llh),
+        Table::Ecef => bit_number(other),
+        Table::Baseline => bit_number(other),
+        Table::Nothing => 21,
+    }
+}
+
 // 0 or 1; 21 for a type that has no such flag.
 #[no_mangle]
 pub extern "C" fn sbp_raim_available(kind: u16, flags: u8) -> u8
     ensures { λ r. ⌜ r ≡ availableAnswer kind flags ⌝ }
 {
-    let table = table_of(kind);
-    match table {
-        Table::Ecef => bit_number(navigation::raim_available(flags)),
-        Table::Llh => bit_number(navigation::pos_llh_raim_available(flags)),
-        Table::Baseline => bit_number(navigation::raim_available(flags)),
-        Table::Nothing => 21,
-    }
+    raim_number(
+        table_of(kind),
+        navigation::pos_llh_raim_available(flags),
+        navigation::raim_available(flags),
+    )
 }
 
 #[no_mangle]
 pub extern "C" fn sbp_raim_repaired(kind: u16, flags: u8) -> u8
     ensures { λ r. ⌜ r ≡ repairedAnswer kind flags ⌝ }
 {
-    let table = table_of(kind);
-    match table {
-        Table::Ecef => bit_number(navigation::raim_repaired(flags)),
-        Table::Llh => bit_number(navigation::pos_llh_raim_repaired(flags)),
-        Table::Baseline => bit_number(navigation::raim_repaired(flags)),
-        Table::Nothing => 21,
-    }
+    raim_number(
+        table_of(kind),
+        navigation::pos_llh_raim_repaired(flags),
+        navigation::raim_repaired(flags),
+    )
 }
 
 // POS_LLH: 1 where the height is above mean sea level, 0 where it is above the ellipsoid; 21 for any other type.

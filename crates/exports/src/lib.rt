@@ -1,9 +1,10 @@
-// What C and Rust link: `extern "C"` functions over numbers, lent slices and, for a length, one lent number. None has a `requires`.
+// What C and Rust link: `extern "C"` functions over numbers, lent slices and lent numbers. None has a `requires`.
 // A refusal is document 01's number and writes nothing. A collator lives in lent bytes.
 // Read specs/Lent.antt (what a call hands back and leaves), specs/Found.antt (the row of a frame), specs/Totals.antt, specs/Text.antt,
-// specs/Flagged.antt and specs/Phased.antt (flags, carrier phase), specs/State.antt (what a collator's bytes stand for), specs/Feed.antt,
-// specs/Enlist.antt, specs/Growing.antt (a roster that grows) and specs/Claims.antt; proofs/Feeds.antt, Makes.antt, Lives.antt and Grows.antt
-// tie the bytes to the collators of `epochs` and `enlisting`.
+// specs/Flagged.antt and specs/Phased.antt (flags, carrier phase), specs/Write.antt (who sends), specs/State.antt (what a collator's bytes stand
+// for), specs/Feed.antt and specs/Told.antt, specs/Enlist.antt and specs/Growing.antt (a roster that grows), specs/Claims.antt and
+// specs/KeptRows.antt; proofs/Feeds.antt, Makes.antt, Lives.antt and Grows.antt tie the bytes to the collators of `epochs` and `enlisting`.
+// What rows of fields are stands in `row_reader` and `row_writer`.
 mod answering;
 mod beating;
 mod counting;
@@ -14,9 +15,11 @@ mod making;
 mod phasing;
 mod placing;
 mod reading;
+mod rowing;
 mod sizes;
 mod texting;
 mod versioning;
+mod writing;
 
 pub use answering::sbp_answer;
 pub use answering::sbp_crc;
@@ -36,5 +39,11 @@ pub use making::sbp_collator;
 pub use phasing::sbp_carrier_phase;
 pub use phasing::sbp_phase_parts;
 pub use reading::sbp_next;
+pub use rowing::sbp_observation;
+pub use rowing::sbp_read;
 pub use texting::sbp_list;
 pub use versioning::sbp_version;
+pub use writing::sbp_write;
+pub use writing::sbp_write_frame;
+pub use writing::sbp_write_log;
+pub use writing::sbp_write_obs;

@@ -1,0 +1,104 @@
+// Frames written into a lent buffer.
+ghost use mathlib.Core.Path.{_≡_};
+ghost use lib.ListN.{length};
+ghost use Rattle.frames.specs.Writer.{writtenAnswer, planned, withFrame};
+ghost use Rattle.payloads.specs.Payloads.{numberOf};
+ghost use Rattle.row_writer.specs.WriteObsRow.{writeObsRow, obsRowWritten};
+ghost use Rattle.row_writer.specs.WriteRow.{writeRow, rowWritten, sizeLeft};
+ghost use Rattle.system.specs.Log.{logWriteAnswer, logWritten};
+ghost use Rattle.exports.specs.Lent.{zeroOr};
+ghost use Rattle.exports.specs.Write.{senderFrom, sentBy};
+use frames::Sender;
+use frames::Written;
+
+// None above 65535: what C calls SBP_NO_SENDER, and any number beyond.
+fn sender_from(n: u32) -> Sender
+    ensures { λ r. ⌜ r ≡ senderFrom n ⌝ }
+{
+    if n < 65536 {
+        return Sender::Named(n as u16);
+    }
+    Sender::Unnamed
+}
+
+// 0 with the number of bytes through size, or the refusal's number.
+pub(crate) fn hand_on(written: Written, size: &mut u64) -> u8
+    ensures { λ r. ⌜ r ≡ zeroOr (writtenAnswer written) ⌝ }
+    ensures { λ _. ⌜ now (size .exit) ≡ sizeLeft (writtenAnswer written) (now (size .entry)) ⌝ }
+{
+    match written {
+        Written::Bytes(n) => {
+            *size = n as u64;
+            0
+        }
+        Written::Refused(n) => n,
+    }
+}
+
+// Every message without a tail, from one number for each field: 21 for a type that it does not write, 22 for another number of fields, 23 for a
+// number that its field cannot hold or that is outside its range, 31, 32.
+#[no_mangle]
+pub extern "C" fn sbp_write(
+    out: &mut [u8],
+    kind: u16,
+    sender: u32,
+    row: &[u64],
+    size: &mut u64,
+) -> u8
+    ensures { λ r. ⌜ r ≡ numberOf (writeRow kind (now (row .entry)) (length (now (out .entry)))) ⌝ }
+    ensures { λ _. ⌜ now (out .exit) ≡ rowWritten kind (sentBy sender) (now (row .entry)) (now (out .entry)) ⌝ }
+    ensures { λ _. ⌜ now (size .exit) ≡ sizeLeft (writeRow kind (now (row .entry)) (length (now (out .entry)))) (now (size .entry)) ⌝ }
+{
+    row_writer::write_row(out, kind, sender_from(sender), row, size)
+}
+
+// An OBS, from its header's three numbers and eight for each observation: 21, 22, 23, 31, 32.
+#[no_mangle]
+pub extern "C" fn sbp_write_obs(
+    out: &mut [u8],
+    kind: u16,
+    sender: u32,
+    head: &[u64],
+    rows: &[u64],
+    size: &mut u64,
+) -> u8
+    ensures { λ r. ⌜ r ≡ numberOf (writeObsRow kind (now (head .entry)) (now (rows .entry)) (length (now (out .entry)))) ⌝ }
+    ensures { λ _. ⌜ now (out .exit) ≡ obsRowWritten kind (sentBy sender) (now (head .entry)) (now (rows .entry)) (now (out .entry)) ⌝ }
+    ensures { λ _. ⌜ now (size .exit) ≡ sizeLeft (writeObsRow kind (now (head .entry)) (now (rows .entry)) (length (now (out .entry)))) (now (size .entry)) ⌝ }
+{
+    row_writer::write_obs_row(out, kind, sender_from(sender), head, rows, size)
+}
+
+// A LOG: 31 for a text over 254 bytes, then 32.
+#[no_mangle]
+pub extern "C" fn sbp_write_log(
+    out: &mut [u8],
+    sender: u32,
+    level: u8,
+    text: &[u8],
+    size: &mut u64,
+) -> u8
+    ensures { λ r. ⌜ r ≡ zeroOr (logWriteAnswer (record { level = level; text = now (text .entry) }) (length (now (out .entry)))) ⌝ }
+    ensures { λ _. ⌜ now (out .exit) ≡ logWritten (sentBy sender) (record { level = level; text = now (text .entry) }) (now (out .entry)) ⌝ }
+    ensures { λ _. ⌜ now (size .exit) ≡ sizeLeft (logWriteAnswer (record { level = level; text = now (text .entry) }) (length (now (out .entry)))) (now (size .entry)) ⌝ }
+{
+    let written = system::write_log(out, sender_from(sender), level, text);
+    hand_on(written, size)
+}
+
+// A frame of any type with any payload: 31 over 255 bytes, then 32.
+#[no_mangle]
+pub extern "C" fn sbp_write_frame(
+    out: &mut [u8],
+    kind: u16,
+    sender: u32,
+    payload: &[u8],
+    size: &mut u64,
+) -> u8
+    ensures { λ r. ⌜ r ≡ zeroOr (planned (length (now (payload .entry))) (length (now (out .entry)))) ⌝ }
+    ensures { λ _. ⌜ now (out .exit) ≡ withFrame kind (sentBy sender) (now (payload .entry)) (now (out .entry)) ⌝ }
+    ensures { λ _. ⌜ now (size .exit) ≡ sizeLeft (planned (length (now (payload .entry))) (length (now (out .entry)))) (now (size .entry)) ⌝ }
+{
+    let written = frames::write_frame(out, kind, sender_from(sender), payload);
+    hand_on(written, size)
+}
