@@ -32,7 +32,7 @@ fn fill_rest(row: &mut [u64], s: &[u8], more: u64, each: u64)
     fill_tail(&mut row[start..], &s[at..], each);
 }
 
-pub fn fill(row: &mut [u64], s: &[u8], shape: Shape)
+pub(crate) fn fill(row: &mut [u64], s: &[u8], shape: Shape)
     requires { ⌜ sizeOf (formatsBy (shape .head)) + sizeOf (formatsBy (shape .more)) ≤ length (now s) ⌝ }
     requires { ⌜ length (rowIn shape (now s)) ≤ length (now row) ⌝ }
     ensures { λ _. ⌜ now (row .exit) ≡ beginning (rowIn shape (now (s .entry))) (now (row .entry)) ⌝ }
