@@ -67,11 +67,11 @@ number-alone (t ∷ ts) a b = by (t .0) (number-alone ts a b)
     by false rest = refl
 
 -- no refusal is 0
-abbrev positive : Tests → Bool
+abbrev pub positive : Tests → Bool
 positive [] = true
 positive (t ∷ ts) = ltb 0 (t .1) && positive ts
 
-passes : {A : Type 0} (ts : Tests) (x : A) → positive ts ≡ true → numberOf (ordered ts x) ≡ 0 → given x ≡ ordered ts x
+pub passes : {A : Type 0} (ts : Tests) (x : A) → positive ts ≡ true → numberOf (ordered ts x) ≡ 0 → given x ≡ ordered ts x
 passes [] x p z = refl
 passes (t ∷ ts) x p z = let q = both (ltb 0 (t .1)) (positive ts) p in by (t .0) (ltb-true 0 (t .1) (q .0)) z (passes ts x (q .1))
   where
@@ -89,7 +89,7 @@ positive-by Obs s = refl
 positive-by Log s = refl
 
 -- what is not 0 is the refusal
-refuses-by : {A : Type 0} (a : Answer A) {n : ℕ} → n ≡ numberOf a → (n ≡ 0 → ⊥) → refused n ≡ a
+pub refuses-by : {A : Type 0} (a : Answer A) {n : ℕ} → n ≡ numberOf a → (n ≡ 0 → ⊥) → refused n ≡ a
 refuses-by (given x) p h = absurd (h p)
 refuses-by (refused m) p h = ap refused p
 

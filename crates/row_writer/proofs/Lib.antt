@@ -1,4 +1,5 @@
 pub mod Runs
+pub mod Tested
 pub mod Sends
 pub mod Alone
 pub mod RowsSent

@@ -1,50 +1,47 @@
 -- The ways through the writer of a row: refused by its numbers, or packed and sent. Assumes nothing.
 use mathlib.Core.Path.{_≡_, refl, sym, ap, ap₂, _∙_, subst⁻¹}
-use mathlib.Core.Bool.{Bool, true, false, _&&_, and-eq-true-iff}
-use mathlib.Core.List.{List, [], _∷_}
+use mathlib.Core.Bool.{Bool, true, false, _&&_, cond, and-eq-true-iff}
+use mathlib.Core.List.{List, [], _∷_, _++_}
 use Prim.Native.Nat.{ℕ, _+_, _≤_}
 use native.Mathlib.Omega.{arith}
 use lib.Dec.{eqb}
 use lib.ListN.{length, take}
 use Rattle.wire.specs.Field.{Format, size, encode}
 use Rattle.wire.specs.Layout.{Layout, Body, HeldBody, allowedBody, bodySize, lengths, LengthOf, encodeBody, decodeBody}
-use Rattle.wire.specs.Refusals.{refused, Answer, Tests, ordered, leaves}
+use Rattle.wire.specs.Refusals.{refused, Answer, Tests, ordered}
 use Rattle.wire.proofs.Fields.{row-sets, length-encode}
 use Rattle.wire.proofs.Layouts.{allowed-again-body, lengths-true, size-fits, length-encode-body, decode-encode-body}
 use Rattle.formats.specs.Wide.{narrowRow, fitsRow, numbersIn}
 use Rattle.formats.specs.Digits.{runStored, headOf}
 use Rattle.formats.specs.declared.Shape.{Shape}
 use Rattle.formats.proofs.Narrow.{Words, held-narrow, stored-narrow}
-use Rattle.frames.specs.Frame.{frameBytes}
-use Rattle.frames.specs.Writer.{writingFrame, startingWith}
+use Rattle.frames.specs.Writer.{writingFrame}
 use Rattle.payloads.specs.Checks.{numberBy}
 use Rattle.payloads.specs.Payloads.{table, entryFor, layoutFor, knownFor, shapeFor, numberOf, answerFor}
 use Rattle.row_writer.specs.WriteRow.{alone, bodyOf, writeRow, rowWritten, sizeLeft}
 use Rattle.row_writer.specs.Parts.{formatsIn, testingRow, sent}
+use Rattle.row_writer.proofs.Tested.{stands, goes-on, all-pass}
+use Rattle.row_writer.proofs.Sends.{LeftBy, left-as, left-alone, left-of}
 use Rattle.row_writer.proofs.Runs.{front-sets}
 use Rattle.row_writer.proofs.Alone.{FieldsAlone, fields-alone, plain-for, reads-for, formats-shaped}
 
--- ---- three tests, and what comes after them
+-- ---- the tests in two lists: of the numbers alone, and those that come after
 
-abbrev three : Bool → Bool → Bool → Tests
-three a b f = (a, 21) ∷ (b, 22) ∷ (f, 23) ∷ []
+-- two tests with one number
+both-23 : (f x : Bool) (a : Answer ℕ) → cond (f && x) a (refused 23) ≡ cond f (cond x a (refused 23)) (refused 23)
+both-23 true x a = refl
+both-23 false x a = refl
 
--- what is not 0 is the refusal, and 0 says that all three pass
-stands : (a b f x : Bool) (rest : Tests) (y : ℕ) {n : ℕ} → n ≡ numberBy (three a b f) → (n ≡ 0 → ⊥) → ordered ((a, 21) ∷ (b, 22) ∷ (f && x, 23) ∷ rest) y ≡ refused n
-stands false b f x rest y p h = ap refused (sym p)
-stands true false f x rest y p h = ap refused (sym p)
-stands true true false x rest y p h = ap refused (sym p)
-stands true true true x rest y p h = absurd (h p)
+abbrev after : ℕ → List ℕ → ℕ → Tests
+after kind ns room = let l = layoutFor kind in (allowedBody l (bodyOf l ns), 23) ∷ writingFrame (bodySize l (bodyOf l ns)) room
 
-passes : (a b f : Bool) {n : ℕ} → n ≡ numberBy (three a b f) → n ≡ 0 → (a ≡ true) × (b ≡ true) × (f ≡ true)
-passes false b f p h = absurd (omega arith)
-passes true false f p h = absurd (omega arith)
-passes true true false p h = absurd (omega arith)
-passes true true true p h = (refl, refl, refl)
-
-pub opened : {a b f : Bool} (x : Bool) (rest : Tests) (y : ℕ) → a ≡ true → b ≡ true → f ≡ true
-    → ordered ((a, 21) ∷ (b, 22) ∷ (f && x, 23) ∷ rest) y ≡ ordered ((x, 23) ∷ rest) y
-opened x rest y p q r = rw (p, q, r)
+in-parts : (kind : ℕ) (ns : List ℕ) (room : ℕ) → writeRow kind ns room ≡ ordered (testingRow kind ns ++ after kind ns room) (bodySize (layoutFor kind) (bodyOf (layoutFor kind) ns) + 8)
+unfolding writeRow
+in-parts kind ns room =
+    let l = layoutFor kind in
+    let v = bodyOf l ns in
+    ap (λ (a : Answer ℕ). cond (knownFor kind && alone l) (cond (eqb (length ns) (numbersIn l)) a (refused 22)) (refused 21))
+    (both-23 (fitsRow (headOf l) ns 0) (allowedBody l v) (ordered (writingFrame (bodySize l v) room) (bodySize l v + 8)))
 
 -- a payload is taken where its last test passes
 taken : {A : Type 0} (x : A) (t : Bool) → eqb (numberOf (ordered ((t, 23) ∷ []) x)) 0 ≡ t
@@ -77,18 +74,25 @@ module _ (kind : ℕ) (ns : List ℕ) where
 
 -- ---- where the numbers fit
 
+-- past the tests
 pub record Fitting (kind : ℕ) (ns : List ℕ) : Type 0 where
   pub known : knownFor kind ≡ true
   pub only : alone (layoutFor kind) ≡ true
   pub counted : eqb (length ns) (numbersIn (layoutFor kind)) ≡ true
   pub fits : fitsRow (headOf (layoutFor kind)) ns 0 ≡ true
+  pub on : (room : ℕ) → writeRow kind ns room ≡ ordered (after kind ns room) (bodySize (layoutFor kind) (bodyOf (layoutFor kind) ns) + 8)
 
 pub fitting : (kind : ℕ) (ns : List ℕ) {n : ℕ} → n ≡ numberBy (testingRow kind ns) → n ≡ 0 → Fitting kind ns
 fitting kind ns p h =
-    let l = layoutFor kind in
-    let all = passes (knownFor kind && alone l) (eqb (length ns) (numbersIn l)) (fitsRow (headOf l) ns 0) p h in
-    let both = and-eq-true-iff (knownFor kind) (alone l) .0 (all .0) in
-    record { known = both .0; only = both .1; counted = all .1; fits = all .2 }
+    let ts = testingRow kind ns in
+    let all = all-pass ts [] 0 p refl h in
+    let both = and-eq-true-iff (knownFor kind) (alone (layoutFor kind)) .0 (all .0) in record {
+      known = both .0;
+      only = both .1;
+      counted = all .1 .0;
+      fits = all .1 .1 .0;
+      on = λ room. in-parts kind ns room ∙ goes-on ts (after kind ns room) (bodySize (layoutFor kind) (bodyOf (layoutFor kind) ns) + 8) p refl h;
+    }
 
 module _ (kind : ℕ) (ns : List ℕ) (words : Words ns) (f : Fitting kind ns) where
   abbrev l : Layout
@@ -117,10 +121,8 @@ module _ (kind : ℕ) (ns : List ℕ) (words : Words ns) (f : Fitting kind ns) w
       ∙ taken (e .holds p) (allowedBody l v)
 
   pub as-sent : (room : ℕ) → writeRow kind ns room ≡ sent kind p room
-  unfolding writeRow sent
-  as-sent room =
-      opened (allowedBody l v) (writingFrame (bodySize l v) room) (bodySize l v + 8) (and-eq-true-iff (knownFor kind) (alone l) .1 (f .known, f .only)) (f .counted) (f .fits)
-      ∙ ap₂ (λ (t : Bool) (n : ℕ). ordered ((t, 23) ∷ writingFrame n room) (n + 8)) (sym accepted) (sym (length-encode-body l v))
+  unfolding sent
+  as-sent room = f .on room ∙ ap₂ (λ (t : Bool) (n : ℕ). ordered ((t, 23) ∷ writingFrame n room) (n + 8)) (sym accepted) (sym (length-encode-body l v))
 
   -- the fields stored from a buffer's start on, by the type's shape
   pub payload-packed : {s : Shape} (buf : List ℕ) {t : List ℕ} {n : ℕ} → s ≡ shapeFor kind → n ≡ size (headOf l)
@@ -140,22 +142,16 @@ module _ (kind sender : ℕ) (ns buf : List ℕ) (size : ℕ) where
   Wrote r u s =
       (r ≡ numberOf (writeRow kind ns (length buf))) × ((u ≡ rowWritten kind sender ns buf) × (s ≡ sizeLeft (writeRow kind ns (length buf)) size))
 
-  -- by the answer, and the payload that it is of
-  by-answer : {a : Answer ℕ} {p : List ℕ} → writeRow kind ns (length buf) ≡ a → p ≡ encodeBody (layoutFor kind) (bodyOf (layoutFor kind) ns)
-      → Wrote (numberOf a) (leaves (startingWith (frameBytes kind sender p)) a buf) (sizeLeft a size)
-  unfolding rowWritten
-  by-answer e q =
-      (ap numberOf (sym e), (ap₂ (λ (p : List ℕ) (a : Answer ℕ). leaves (startingWith (frameBytes kind sender p)) a buf) q (sym e), ap (λ (a : Answer ℕ). sizeLeft a size) (sym e)))
+  abbrev payload : List ℕ
+  payload = encodeBody (layoutFor kind) (bodyOf (layoutFor kind) ns)
 
   pub wrote-refused : {n : ℕ} → n ≡ numberBy (testingRow kind ns) → (n ≡ 0 → ⊥) → Wrote n buf size
-  unfolding writeRow
+  unfolding rowWritten
   wrote-refused p h =
-      let l = layoutFor kind in
-      by-answer (stands (knownFor kind && alone l) (eqb (length ns) (numbersIn l)) (fitsRow (headOf l) ns 0) (allowedBody l (bodyOf l ns)) (writingFrame (bodySize l (bodyOf l ns)) (length buf)) (bodySize l (bodyOf l ns) + 8) p h) refl
+      let e = in-parts kind ns (length buf) ∙ stands (testingRow kind ns) (after kind ns (length buf)) (bodySize (layoutFor kind) (bodyOf (layoutFor kind) ns) + 8) p h in
+      left-alone kind sender buf size payload (writeRow kind ns (length buf)) e
 
-  pub wrote-sent : Words ns → Fitting kind ns → {p : List ℕ} {r s : ℕ} {u : List ℕ} → p ≡ encodeBody (layoutFor kind) (bodyOf (layoutFor kind) ns)
-      → r ≡ numberOf (sent kind p (length buf)) → u ≡ leaves (startingWith (frameBytes kind sender p)) (sent kind p (length buf)) buf → s ≡ sizeLeft (sent kind p (length buf)) size
-      → Wrote r u s
-  wrote-sent words f e x y z =
-      let w = by-answer (as-sent kind ns words f (length buf) ∙ ap (λ (p : List ℕ). sent kind p (length buf)) (sym e)) e in
-      (x ∙ w .0, (y ∙ w .1 .0, z ∙ w .1 .1))
+  pub wrote-sent : Words ns → Fitting kind ns → {q : List ℕ} {r s : ℕ} {u : List ℕ} → q ≡ payload → LeftBy kind sender buf size q (sent kind q (length buf)) r u s → Wrote r u s
+  unfolding rowWritten
+  wrote-sent words f e w =
+      left-as kind sender buf size payload (sent kind payload (length buf)) (writeRow kind ns (length buf)) (left-of kind sender buf size payload (λ q. sent kind q (length buf)) e w) (sym (as-sent kind ns words f (length buf)))

@@ -10,7 +10,7 @@ use lib.Seq.{take-all}
 use borrow.Author.Tests.{eq-eqb}
 use Rattle.wire.specs.Layout.{Layout, Body, allowedBody, fewEnough, bodySize, encodeBody}
 use Rattle.wire.specs.Description.{Description}
-use Rattle.wire.specs.Refusals.{given, Answer, ordered, leaves}
+use Rattle.wire.specs.Refusals.{given, Answer, Tests, ordered, leaves}
 use Rattle.wire.proofs.Ordered.{exactly-all}
 use Rattle.formats.specs.Wide.{fitsRow, narrowRows, numbersIn}
 use Rattle.formats.specs.Digits.{headOf}
@@ -27,7 +27,6 @@ use Rattle.row_writer.specs.WriteRow.{alone, bodyOf, writeRow, rowWritte
 use Rattle.row_writer.specs.WriteObsRow.{observationsIn, observedOf, writingObsRow, writeObsRow, obsRowWritten}
 use Rattle.row_writer.specs.AsTyped.{AsTyped, Typed}
 use Rattle.row_writer.proofs.Alone.{fields-alone}
-use Rattle.row_writer.proofs.RowsSent.{opened}
 use Rattle.row_writer.proofs.ObsRows.{length-made, length-narrow}
 
 -- ---- a message without a tail
@@ -56,6 +55,11 @@ module _ {R : Type 0} (d : Description R) (ns : List ℕ) (only : alone (d .layo
   as-described =
       ap (λ (t : Bool). ordered ((allowedBody l v, 23) ∷ (t, 31) ∷ writingFrame (bodySize l v) room) (bodySize l v + 8)) (sym (fields-alone l ns only .few))
       ∙ ap (λ (w : Body l). ordered ((allowedBody l w, 23) ∷ (fewEnough l w, 31) ∷ writingFrame (bodySize l w) room) (bodySize l w + 8)) (sym (d .row-make v))
+
+-- past three tests
+opened : {a b f : Bool} (x : Bool) (rest : Tests) (y : ℕ) → a ≡ true → b ≡ true → f ≡ true
+    → ordered ((a, 21) ∷ (b, 22) ∷ (f && x, 23) ∷ rest) y ≡ ordered ((x, 23) ∷ rest) y
+opened x rest y p q r = rw (p, q, r)
 
 pub typed : (m : Described) → Found m → AsTyped m
 unfolding writeRow rowWritten writtenAs

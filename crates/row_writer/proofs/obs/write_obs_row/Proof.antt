@@ -74,10 +74,9 @@ returns-2 c =
     let a = known .before .before .args in
     let f = fit past in
     let words : Words (a .head .now) = λ i. known .shared-slice-known .given i .fits in
-    let s = on .send-frame .ensures in
     wrote-sent (a .kind) (senderOf (a .sender)) (a .head .now) (a .rows .now) (a .out .now) (a .size .now) f
     (payload-packed (a .head .now) (a .rows .now) words (fitting-rows (a .kind) (a .head .now) (a .rows .now) f .0) _ (store .store-run .ensures) (pack .pack-rows .ensures) (omega (arith, few past)))
-    (s .0) (s .1 .0) (s .1 .1)
+    (on .send-frame .ensures)
 
 pub write-obs-row-spec : {M : Type 1} → statement M
 write-obs-row-spec =

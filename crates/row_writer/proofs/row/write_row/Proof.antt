@@ -81,10 +81,9 @@ returns-2 c =
     let a = known .before .before .args in
     let words : Words (a .row .now) = λ i. known .shared-slice-known .given i .fits in
     let f = fit shape in
-    let s = on .send .ensures in
     wrote-sent (a .kind) (senderOf (a .sender)) (a .row .now) (a .out .now) (a .size .now) words f
     (payload-packed (a .kind) (a .row .now) words f _ (shape .shape-of .ensures) (sized two) (pack .pack .ensures) (omega arith))
-    (s .0) (s .1 .0) (s .1 .1)
+    (on .send .ensures)
 
 pub write-row-spec : {M : Type 1} → statement M
 write-row-spec =

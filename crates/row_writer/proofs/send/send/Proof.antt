@@ -16,15 +16,14 @@ same-length c = search needs
 
 returns : tie.Need-returns
 returns c =
-    let on = c .before .before .send-frame .ensures in
     let asked = c .before .before .before .before .before .before in
     let a = asked .before .before .before .args in
-    sent-on (a .kind) (senderOf (a .sender)) (a .payload .now) (a .out .now) (a .size .now) (asked .answer .ensures) (c .before .before .before .before .before .if1 .taken) (on .0) (on .1 .0) (on .1 .1)
+    sent-on (a .kind) (senderOf (a .sender)) (a .out .now) (a .size .now) (a .payload .now) (asked .answer .ensures) (c .before .before .before .before .before .if1 .taken) (c .before .before .send-frame .ensures)
 
 returns-2 : tie.Need-returns-2
 returns-2 c =
     let a = c .before .before .before .before .args in
-    sent-not (a .kind) (senderOf (a .sender)) (a .payload .now) (a .out .now) (a .size .now) (c .before .answer .ensures) (c .if1 .left)
+    sent-not (a .kind) (senderOf (a .sender)) (a .out .now) (a .size .now) (a .payload .now) (c .before .answer .ensures) (c .if1 .left)
 
 pub send-spec : {M : Type 1} → statement M
 send-spec = tie.close (tie.spec answer-requires send-frame-requires same-length returns returns-2)
