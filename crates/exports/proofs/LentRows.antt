@@ -5,12 +5,12 @@ use mathlib.Core.List.{List}
 use Prim.Native.Nat.{ℕ, _^_, _≤_, _<_}
 use lib.ListN.{length}
 use borrow.Author.Tests.{le-leb, lt-leb}
-use Rattle.wire.specs.Refusals.{Answer, ordered, leaves}
+use Rattle.wire.specs.Refusals.{Answer, ordered, leaves, asNumber, roomFor}
 use Rattle.wire.specs.Field.{Field, Row, size, rowStored}
 use Rattle.frames.specs.Reading.{steps, framesOf}
 use Rattle.frames.specs.Cursors.{nextOf, Says}
 use Rattle.frames.proofs.NextAnswers.{says}
-use Rattle.exports.specs.Lent.{asNumber, roomFor, atFront}
+use Rattle.exports.specs.Lent.{atFront}
 use Rattle.exports.specs.Found.{startAt}
 use Rattle.exports.proofs.Parts.{stored-front}
 

@@ -9,7 +9,7 @@ use lib.Dec.{leb}
 use lib.ListN.{length, getD, replicate, length-append, getD-replicate}
 use lib.Seq.{length-take-le, getD-take}
 use borrow.Author.Tests.{le-leb, lt-leb}
-use Rattle.wire.specs.Refusals.{refused, given, Answer, ordered, leaves}
+use Rattle.wire.specs.Refusals.{refused, given, Answer, ordered, leaves, zeroOr, roomFor}
 use Rattle.wire.proofs.Joined.{ordered-joined, andThen}
 use Rattle.epochs.specs.Search.{repeats}
 use Rattle.epochs.specs.Collator.{idle, fresh, rostering, asMade, made}
@@ -17,7 +17,6 @@ use Rattle.epochs.specs.declared.collating.Collator.{Collator}
 use Rattle.epochs.specs.declared.collating.Made.{Made}
 use Rattle.epochs.proofs.Making.{accepted}
 use Rattle.epochs.proofs.Searches.{with-zeros}
-use Rattle.exports.specs.Lent.{zeroOr, roomFor}
 use Rattle.exports.specs.State.{stateSize, stateIn, collatorStored}
 use Rattle.exports.specs.Feed.{madeIn, madeAnswer, madeStored}
 use Rattle.exports.proofs.States.{Held, Small, state-stored, length-collator}

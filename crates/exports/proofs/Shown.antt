@@ -9,7 +9,7 @@ use lib.ListN.{length}
 use borrow.Author.Tests.{le-leb}
 use Rattle.wire.specs.Number.{Bytes}
 use Rattle.wire.specs.Field.{Field, Row, HeldRow, SettledRow, size, decode}
-use Rattle.wire.specs.Refusals.{Answer, ordered, leaves}
+use Rattle.wire.specs.Refusals.{Answer, ordered, leaves, roomFor}
 use Rattle.frames.specs.Step.{stepAt}
 use Rattle.frames.specs.Decides.{Decides, headless, cut}
 use Rattle.frames.specs.Reading.{closedSteps, countsOf}
@@ -22,7 +22,7 @@ use Rattle.frames.proofs.Steps.{decided}
 use Rattle.frames.proofs.Frames.{found-at, found-numbers}
 use Rattle.frames.proofs.Tiling.{adds-up}
 use Rattle.frames.proofs.GoingOn.{here, Answered, pass, end, answered}
-use Rattle.exports.specs.Lent.{roomFor, atFront}
+use Rattle.exports.specs.Lent.{atFront}
 use Rattle.exports.specs.Found.{foundFields, foundSize, foundValues, startAt, foundIn, nextFrom, nextStored}
 use Rattle.exports.specs.Totals.{totalsFields, totalsSize, totalsRow, totalsFor, totalsStored}
 use Rattle.exports.specs.Claims.{FoundShown, CountsShown}

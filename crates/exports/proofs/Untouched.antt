@@ -6,14 +6,13 @@ use mathlib.Core.List.{List}
 use Prim.Native.Nat.{ℕ, _≤_}
 use native.Mathlib.Omega.{arith}
 use lib.ListN.{length}
-use Rattle.wire.specs.Refusals.{refused, given, Answer, leaves}
+use Rattle.wire.specs.Refusals.{refused, given, Answer, leaves, asNumber, zeroOr}
 use Rattle.frames.specs.declared.cursor.Next as Next
 use Rattle.frames.specs.Frame.{Content}
 use Rattle.packets.specs.declared.packet.Packet.{Packet}
 use Rattle.runs.specs.declared.running.Ended.{Ended}
 use Rattle.runs.specs.declared.running.Ended.the-variants.{Not, Whole}
 use Rattle.listing.specs.Listing.{listAnswer, withListing}
-use Rattle.exports.specs.Lent.{asNumber, zeroOr}
 use Rattle.exports.specs.Found.{numberIn, nextFrom, nextAnswer, nextStored}
 use Rattle.exports.specs.Totals.{totalsFor, totalsAnswer, totalsStored}
 use Rattle.exports.specs.Text.{textAnswer, sizeAfter}

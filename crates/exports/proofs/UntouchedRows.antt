@@ -1,39 +1,27 @@
 -- A refusal writes nothing and moves no state, call by call. Assumes nothing.
-use mathlib.Core.Path.{_≡_, refl, _∙_}
 use lib.ListN.{length}
-use Rattle.wire.specs.Refusals.{refused, given, Answer, leaves}
 use Rattle.frames.specs.Writer.{planned, withFrame}
 use Rattle.observation.specs.Phase.{readPhase}
-use Rattle.payloads.specs.Payloads.{numberOf}
 use Rattle.row_reader.specs.ReadRow.{beginning, readRow, readOne}
 use Rattle.row_writer.specs.WriteObsRow.{writeObsRow, obsRowWritten}
 use Rattle.row_writer.specs.WriteRow.{writeRow, rowWritten}
 use Rattle.system.specs.Log.{logWriteAnswer, logWritten}
-use Rattle.exports.specs.Lent.{zeroOr}
 use Rattle.exports.specs.State.{collatorStored}
 use Rattle.exports.specs.Enlist.{growingIn, enlistIn}
 use Rattle.exports.specs.KeptRows.{KeptRows}
 use Rattle.exports.proofs.Untouched.{not-zero}
 
--- of a number as the crates below give it
-number-kept : {A B : Type 0} (put : A → B → B) (a : Answer A) (lent : B) → (numberOf a ≡ 0 → ⊥) → leaves put a lent ≡ lent
-number-kept put a lent h = not-zero put a lent (λ e. h (same a ∙ e))
-  where
-    same : {A : Type 0} (a : Answer A) → numberOf a ≡ zeroOr a
-    same (given x) = refl
-    same (refused n) = refl
-
 pub rows-kept : KeptRows
 unfolding rowWritten obsRowWritten logWritten withFrame
 rows-kept =
     record {
-      read = λ kind s row. number-kept beginning (readRow kind s (length row)) row;
-      observation = λ kind s i row. number-kept beginning (readOne kind s i (length row)) row;
+      read = λ kind s row. not-zero beginning (readRow kind s (length row)) row;
+      observation = λ kind s i row. not-zero beginning (readOne kind s i (length row)) row;
       phase-parts = λ phase cycles parts h. (not-zero _ (readPhase phase) cycles h, not-zero _ (readPhase phase) parts h);
       growing = λ s. not-zero collatorStored (growingIn (length s)) s;
       enlist = λ s kind sender. not-zero _ (enlistIn s kind sender) s;
-      write = λ buf kind sender row before h. let a = writeRow kind row (length buf) in (number-kept _ a buf h, number-kept _ a before h);
-      write-obs = λ buf kind sender head rows before h. let a = writeObsRow kind head rows (length buf) in (number-kept _ a buf h, number-kept _ a before h);
+      write = λ buf kind sender row before h. let a = writeRow kind row (length buf) in (not-zero _ a buf h, not-zero _ a before h);
+      write-obs = λ buf kind sender head rows before h. let a = writeObsRow kind head rows (length buf) in (not-zero _ a buf h, not-zero _ a before h);
       write-log = λ buf sender r before h. let a = logWriteAnswer r (length buf) in (not-zero _ a buf h, not-zero _ a before h);
       write-frame = λ buf kind sender payload before h. let a = planned (length payload) (length buf) in (not-zero _ a buf h, not-zero _ a before h);
     }

@@ -4,7 +4,7 @@ use mathlib.Core.Bool.{cond}
 use mathlib.Core.List.{List, []}
 use lib.Dec.{leb}
 use lib.ListN.{length}
-use Rattle.wire.specs.Refusals.{Answer, ordered, leaves}
+use Rattle.wire.specs.Refusals.{Answer, ordered, leaves, zeroOr, roomFor}
 use Rattle.wire.specs.Field.{rowStored}
 use Rattle.observation.specs.Edition.{isObs}
 use Rattle.epochs.specs.Search.{seatOf}
@@ -12,7 +12,6 @@ use Rattle.epochs.specs.Collator.{rosterOf, made}
 use Rattle.epochs.specs.declared.seating.Seat.{Seat}
 use Rattle.epochs.specs.declared.seating.Seat.the-variants.{At, Nowhere}
 use Rattle.epochs.specs.declared.collating.Collator.{Collator}
-use Rattle.exports.specs.Lent.{zeroOr, roomFor}
 use Rattle.exports.specs.State.{stateSize, seatFields, seatAt, sendersIn, stateIn, countStored, collatorStored}
 
 -- ---- a collator that lists nobody: 32

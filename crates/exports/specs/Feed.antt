@@ -2,7 +2,7 @@
 use Prim.Native.Nat.{ℕ}
 use mathlib.Core.List.{List, [], _∷_, _++_}
 use lib.ListN.{length}
-use Rattle.wire.specs.Refusals.{Answer, Tests, ordered, leaves}
+use Rattle.wire.specs.Refusals.{Answer, Tests, ordered, leaves, asNumber, zeroOr, roomFor}
 use Rattle.wire.specs.Field.{Field, any, u8, u16, u32, Row, size}
 use Rattle.frames.specs.Frame.{Content}
 use Rattle.packets.specs.declared.packet.Packet.{Packet}
@@ -13,7 +13,7 @@ use Rattle.runs.specs.declared.running.Stepped.{Stepped}
 use Rattle.epochs.specs.Collator.{feeding, ownPlace, reportOf, rosterOf, fresh, rostering}
 use Rattle.epochs.specs.declared.collating.Collator.{Collator}
 use Rattle.epochs.specs.declared.collating.Report.{Report}
-use Rattle.exports.specs.Lent.{asNumber, zeroOr, roomFor, atFront}
+use Rattle.exports.specs.Lent.{atFront}
 use Rattle.exports.specs.State.{stateSize, placeIn, placeStored, stateIn, collatorStored}
 
 -- ---- made

@@ -4,7 +4,7 @@ use Prim.Native.Nat.{ℕ}
 use mathlib.Core.Bool.{Bool, true, false, cond, _||_}
 use mathlib.Core.List.{[], _∷_}
 use lib.Dec.{eqb}
-use Rattle.wire.specs.Refusals.{Answer, Tests, ordered}
+use Rattle.wire.specs.Refusals.{Answer, Tests, ordered, asNumber}
 use Rattle.navigation.specs.Flags.{ecefFix, llhFix, baselineFix, raimAvailable, raimRepaired, llhAboveSea, llhRaimAvailable, llhRaimRepaired}
 use Rattle.navigation.specs.Ecef.{baselineEcef}
 use Rattle.navigation.specs.Heading.{baselineHeading}
@@ -13,7 +13,6 @@ use Rattle.navigation.specs.PosEcef.{posEcef}
 use Rattle.navigation.specs.PosLlh.{posLlh}
 use Rattle.navigation.specs.declared.flags.Fix.{Fix}
 use Rattle.navigation.specs.declared.flags.Fix.the-variants.{SinglePoint, Float, Fixed, Reserved}
-use Rattle.exports.specs.Lent.{asNumber}
 use Rattle.exports.specs.declared.flagging.Table.{Table}
 use Rattle.exports.specs.declared.flagging.Table.the-variants.{Ecef, Llh, Baseline, Nothing}
 

@@ -3,12 +3,12 @@ use Prim.Native.Nat.{ℕ}
 use mathlib.Core.Bool.{Bool}
 use mathlib.Core.List.{List, [], _∷_}
 use lib.ListN.{length}
-use Rattle.wire.specs.Refusals.{Answer, Tests, ordered, leaves}
+use Rattle.wire.specs.Refusals.{Answer, Tests, ordered, leaves, asNumber, roomFor}
 use Rattle.wire.specs.Field.{Field, any, u8, u16, u64, Row, size}
 use Rattle.frames.specs.Cursors.{nextOf}
 use Rattle.frames.specs.declared.cursor.Cursor.{Cursor}
 use Rattle.frames.specs.declared.cursor.Next as Next
-use Rattle.exports.specs.Lent.{asNumber, roomFor, atFront}
+use Rattle.exports.specs.Lent.{atFront}
 use Rattle.exports.specs.declared.reading.FoundRow.{FoundRow}
 
 -- at, next, needed, junk, bad, short, kind, sender, length

@@ -5,26 +5,25 @@ use mathlib.Core.Path.{_≡_}
 use mathlib.Core.List.{List}
 use lib.IntN.{ℤ}
 use lib.ListN.{length}
+use Rattle.wire.specs.Refusals.{zeroOr}
 use Rattle.frames.specs.Writer.{planned, withFrame}
-use Rattle.payloads.specs.Payloads.{numberOf}
 use Rattle.row_reader.specs.ReadRow.{readRow, rowAfter, readOne, rowAfterOne}
 use Rattle.row_writer.specs.WriteObsRow.{writeObsRow, obsRowWritten}
 use Rattle.row_writer.specs.WriteRow.{writeRow, rowWritten, sizeLeft}
 use Rattle.system.specs.Log.{Logged, logWriteAnswer, logWritten}
-use Rattle.exports.specs.Lent.{zeroOr}
 use Rattle.exports.specs.Phased.{partsNumber, cyclesAfter, partsAfter}
 use Rattle.exports.specs.Enlist.{growingAnswer, growingStored, enlistAnswer, enlistStored}
 use Rattle.exports.specs.Write.{sentBy}
 
 pub record KeptRows : Type 0 where
-  pub read : (kind : ℕ) (s row : List ℕ) → (numberOf (readRow kind s (length row)) ≡ 0 → ⊥) → rowAfter kind s row ≡ row
-  pub observation : (kind : ℕ) (s : List ℕ) (i : ℕ) (row : List ℕ) → (numberOf (readOne kind s i (length row)) ≡ 0 → ⊥) → rowAfterOne kind s i row ≡ row
+  pub read : (kind : ℕ) (s row : List ℕ) → (zeroOr (readRow kind s (length row)) ≡ 0 → ⊥) → rowAfter kind s row ≡ row
+  pub observation : (kind : ℕ) (s : List ℕ) (i : ℕ) (row : List ℕ) → (zeroOr (readOne kind s i (length row)) ≡ 0 → ⊥) → rowAfterOne kind s i row ≡ row
   pub phase-parts : (phase cycles : ℤ) (parts : ℕ) → (partsNumber phase ≡ 0 → ⊥) → (cyclesAfter phase cycles ≡ cycles) × (partsAfter phase parts ≡ parts)
   pub growing : (s : List ℕ) → (growingAnswer (length s) ≡ 0 → ⊥) → growingStored s ≡ s
   pub enlist : (s : List ℕ) (kind sender : ℕ) → (enlistAnswer s kind sender ≡ 0 → ⊥) → enlistStored s kind sender ≡ s
-  pub write : (buf : List ℕ) (kind sender : ℕ) (row : List ℕ) (before : ℕ) → (numberOf (writeRow kind row (length buf)) ≡ 0 → ⊥)
+  pub write : (buf : List ℕ) (kind sender : ℕ) (row : List ℕ) (before : ℕ) → (zeroOr (writeRow kind row (length buf)) ≡ 0 → ⊥)
       → (rowWritten kind (sentBy sender) row buf ≡ buf) × (sizeLeft (writeRow kind row (length buf)) before ≡ before)
-  pub write-obs : (buf : List ℕ) (kind sender : ℕ) (head rows : List ℕ) (before : ℕ) → (numberOf (writeObsRow kind head rows (length buf)) ≡ 0 → ⊥)
+  pub write-obs : (buf : List ℕ) (kind sender : ℕ) (head rows : List ℕ) (before : ℕ) → (zeroOr (writeObsRow kind head rows (length buf)) ≡ 0 → ⊥)
       → (obsRowWritten kind (sentBy sender) head rows buf ≡ buf) × (sizeLeft (writeObsRow kind head rows (length buf)) before ≡ before)
   pub write-log : (buf : List ℕ) (sender : ℕ) (r : Logged) (before : ℕ) → (zeroOr (logWriteAnswer r (length buf)) ≡ 0 → ⊥)
       → (logWritten (sentBy sender) r buf ≡ buf) × (sizeLeft (logWriteAnswer r (length buf)) before ≡ before)

@@ -2,8 +2,8 @@
 use Prim.Native.Nat.{ℕ}
 use mathlib.Core.List.{List}
 use lib.ListN.{length}
+use Rattle.wire.specs.Refusals.{zeroOr}
 use Rattle.listing.specs.Listing.{listAnswer}
-use Rattle.exports.specs.Lent.{zeroOr}
 use Rattle.row_writer.specs.WriteRow.{sizeLeft}
 
 abbrev pub textAnswer : List ℕ → ℕ → ℕ

@@ -2,11 +2,11 @@
 use Prim.Native.Nat.{ℕ}
 use mathlib.Core.List.{List, [], _∷_}
 use lib.ListN.{length}
-use Rattle.wire.specs.Refusals.{Answer, Tests, ordered, leaves}
+use Rattle.wire.specs.Refusals.{Answer, Tests, ordered, leaves, zeroOr, roomFor}
 use Rattle.wire.specs.Field.{Field, any, u64, Row, size}
 use Rattle.frames.specs.Reading.{closedSteps, countsOf}
 use Rattle.frames.specs.declared.cursor.Counts.{Counts}
-use Rattle.exports.specs.Lent.{zeroOr, roomFor, atFront}
+use Rattle.exports.specs.Lent.{atFront}
 
 -- frame bytes, junk, bad, short
 abbrev pub totalsFields : List Field

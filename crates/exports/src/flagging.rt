@@ -1,6 +1,6 @@
 // One flag of a message, as a number: the fix mode and the RAIM flags of positions, baselines and the heading, and what a POS_LLH's height is above.
 ghost use mathlib.Core.Path.{_≡_};
-ghost use Rattle.exports.specs.Lent.{asNumber};
+ghost use Rattle.wire.specs.Refusals.{asNumber};
 ghost use Rattle.exports.specs.Flagged.{tableFor, fixNumber, bitNumber, raimIn, fixAnswer, availableAnswer, repairedAnswer, aboveSeaAnswer};
 use navigation::Fix;
 

@@ -1,12 +1,11 @@
 // Frames written into a lent buffer.
 ghost use mathlib.Core.Path.{_≡_};
 ghost use lib.ListN.{length};
+ghost use Rattle.wire.specs.Refusals.{zeroOr};
 ghost use Rattle.frames.specs.Writer.{writtenAnswer, planned, withFrame};
-ghost use Rattle.payloads.specs.Payloads.{numberOf};
 ghost use Rattle.row_writer.specs.WriteObsRow.{writeObsRow, obsRowWritten};
 ghost use Rattle.row_writer.specs.WriteRow.{writeRow, rowWritten, sizeLeft};
 ghost use Rattle.system.specs.Log.{logWriteAnswer, logWritten};
-ghost use Rattle.exports.specs.Lent.{zeroOr};
 ghost use Rattle.exports.specs.Write.{senderFrom, sentBy};
 use frames::Sender;
 use frames::Written;
@@ -45,7 +44,7 @@ pub extern "C" fn sbp_write(
     row: &[u64],
     size: &mut u64,
 ) -> u8
-    ensures { λ r. ⌜ r ≡ numberOf (writeRow kind (now (row .entry)) (length (now (out .entry)))) ⌝ }
+    ensures { λ r. ⌜ r ≡ zeroOr (writeRow kind (now (row .entry)) (length (now (out .entry)))) ⌝ }
     ensures { λ _. ⌜ now (out .exit) ≡ rowWritten kind (sentBy sender) (now (row .entry)) (now (out .entry)) ⌝ }
     ensures { λ _. ⌜ now (size .exit) ≡ sizeLeft (writeRow kind (now (row .entry)) (length (now (out .entry)))) (now (size .entry)) ⌝ }
 {
@@ -62,7 +61,7 @@ pub extern "C" fn sbp_write_obs(
     rows: &[u64],
     size: &mut u64,
 ) -> u8
-    ensures { λ r. ⌜ r ≡ numberOf (writeObsRow kind (now (head .entry)) (now (rows .entry)) (length (now (out .entry)))) ⌝ }
+    ensures { λ r. ⌜ r ≡ zeroOr (writeObsRow kind (now (head .entry)) (now (rows .entry)) (length (now (out .entry)))) ⌝ }
     ensures { λ _. ⌜ now (out .exit) ≡ obsRowWritten kind (sentBy sender) (now (head .entry)) (now (rows .entry)) (now (out .entry)) ⌝ }
     ensures { λ _. ⌜ now (size .exit) ≡ sizeLeft (writeObsRow kind (now (head .entry)) (now (rows .entry)) (length (now (out .entry)))) (now (size .entry)) ⌝ }
 {

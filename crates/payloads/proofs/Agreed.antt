@@ -8,10 +8,10 @@ use lib.Dec.{eqb, ltb}
 use lib.ListN.{length}
 use borrow.Author.Tests.{ne-eqb, ltb-true}
 use Rattle.wire.specs.Field.{valueAt, u8, s32}
-use Rattle.wire.specs.Refusals.{refused, given, Answer, Tests, ordered}
+use Rattle.wire.specs.Refusals.{refused, given, Answer, Tests, ordered, zeroOr}
 use Rattle.observation.specs.Edition.{fitting, first}
 use Rattle.navigation.specs.Range.{inNs, fixUpTo}
-use Rattle.payloads.specs.Payloads.{Entry, table, entryFor, knownFor, testsOf, readingAny, readFor, numberOf, answerFor}
+use Rattle.payloads.specs.Payloads.{Entry, table, entryFor, knownFor, testsOf, readingAny, readFor, answerFor}
 use Rattle.payloads.specs.Checks.{document, checkIn, checkFor, tests, testsBy, numberBy, Agrees, AsInDocument}
 use Rattle.payloads.specs.declared.Message.{Message}
 use Rattle.payloads.specs.declared.check.Check.{Check}
@@ -58,11 +58,11 @@ no-check (d ∷ ds) kind h = let rest = no-check ds kind h in (rest .0 .0, rw (n
 -- ---- the answer
 
 -- the number does not ask what would be given
-number-alone : {A B : Type 0} (ts : Tests) (a : A) (b : B) → numberOf (ordered ts a) ≡ numberOf (ordered ts b)
+number-alone : {A B : Type 0} (ts : Tests) (a : A) (b : B) → zeroOr (ordered ts a) ≡ zeroOr (ordered ts b)
 number-alone [] a b = refl
 number-alone (t ∷ ts) a b = by (t .0) (number-alone ts a b)
   where
-    by : (c : Bool) → numberOf (ordered ts a) ≡ numberOf (ordered ts b) → numberOf (cond c (ordered ts a) (refused (t .1))) ≡ numberOf (cond c (ordered ts b) (refused (t .1)))
+    by : (c : Bool) → zeroOr (ordered ts a) ≡ zeroOr (ordered ts b) → zeroOr (cond c (ordered ts a) (refused (t .1))) ≡ zeroOr (cond c (ordered ts b) (refused (t .1)))
     by true rest = rest
     by false rest = refl
 
@@ -71,11 +71,11 @@ abbrev pub positive : Tests → Bool
 positive [] = true
 positive (t ∷ ts) = ltb 0 (t .1) && positive ts
 
-pub passes : {A : Type 0} (ts : Tests) (x : A) → positive ts ≡ true → numberOf (ordered ts x) ≡ 0 → given x ≡ ordered ts x
+pub passes : {A : Type 0} (ts : Tests) (x : A) → positive ts ≡ true → zeroOr (ordered ts x) ≡ 0 → given x ≡ ordered ts x
 passes [] x p z = refl
 passes (t ∷ ts) x p z = let q = both (ltb 0 (t .1)) (positive ts) p in by (t .0) (ltb-true 0 (t .1) (q .0)) z (passes ts x (q .1))
   where
-    by : (c : Bool) → 0 < t .1 → numberOf (cond c (ordered ts x) (refused (t .1))) ≡ 0 → (numberOf (ordered ts x) ≡ 0 → given x ≡ ordered ts x)
+    by : (c : Bool) → 0 < t .1 → zeroOr (cond c (ordered ts x) (refused (t .1))) ≡ 0 → (zeroOr (ordered ts x) ≡ 0 → given x ≡ ordered ts x)
         → given x ≡ cond c (ordered ts x) (refused (t .1))
     by true more z rest = rest z
     by false more z rest = absurd (omega arith)
@@ -89,7 +89,7 @@ positive-by Obs s = refl
 positive-by Log s = refl
 
 -- what is not 0 is the refusal
-pub refuses-by : {A : Type 0} (a : Answer A) {n : ℕ} → n ≡ numberOf a → (n ≡ 0 → ⊥) → refused n ≡ a
+pub refuses-by : {A : Type 0} (a : Answer A) {n : ℕ} → n ≡ zeroOr a → (n ≡ 0 → ⊥) → refused n ≡ a
 refuses-by (given x) p h = absurd (h p)
 refuses-by (refused m) p h = ap refused p
 

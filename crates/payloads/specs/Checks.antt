@@ -8,11 +8,11 @@ use mathlib.Core.List.{List, [], _∷_}
 use lib.Dec.{eqb}
 use lib.ListN.{length}
 use Rattle.wire.specs.Field.{valueAt, u8, s32}
-use Rattle.wire.specs.Refusals.{Tests, ordered}
+use Rattle.wire.specs.Refusals.{Tests, ordered, zeroOr}
 use Rattle.navigation.specs.Range.{inNs, fixUpTo}
 use Rattle.observation.specs.Edition.{fitting, first}
 use Rattle.system.specs.Log.{logLength}
-use Rattle.payloads.specs.Payloads.{Entry, table, testsOf, numberOf}
+use Rattle.payloads.specs.Payloads.{Entry, table, testsOf}
 use Rattle.payloads.specs.declared.check.Check.{Check}
 use Rattle.payloads.specs.declared.check.Check.the-variants.{Unknown, Length, Ns, Fix, Obs, Log}
 
@@ -60,7 +60,7 @@ testsBy Log s = tests (logLength (length s)) true
 
 -- the number of the first that fails, or 0
 abbrev pub numberBy : Tests → ℕ
-numberBy ts = numberOf (ordered {A = Unit {0}} ts tt)
+numberBy ts = zeroOr (ordered {A = Unit {0}} ts tt)
 
 -- entry by entry the types are these, and the tests of the descriptions are these
 abbrev pub Agrees : List Entry → List (ℕ × Check) → Type 0

@@ -8,7 +8,7 @@ use mathlib.Core.List.{List, [], _∷_, map}
 use lib.Dec.{eqb}
 use Rattle.wire.specs.Layout.{Layout, run}
 use Rattle.wire.specs.Description.{Description, inside, reading, readAs}
-use Rattle.wire.specs.Refusals.{refused, given, Answer, Tests, mapped, ordered}
+use Rattle.wire.specs.Refusals.{refused, given, Answer, Tests, mapped, ordered, zeroOr}
 use Rattle.formats.specs.Digits.{shapeOf}
 use Rattle.formats.specs.declared.Shape.{Shape}
 use Rattle.frames.specs.Faithful.{Faithful}
@@ -124,12 +124,8 @@ abbrev pub readFor : ℕ → List ℕ → Answer Message
 readFor kind s = ordered (readingAny kind s) (entryFor table kind .holds s)
 
 -- 0 for a record, and a refusal's number
-abbrev pub numberOf : {A : Type 0} → Answer A → ℕ
-numberOf (given x) = 0
-numberOf (refused n) = n
-
 abbrev pub answerFor : ℕ → List ℕ → ℕ
-answerFor kind s = numberOf (readFor kind s)
+answerFor kind s = zeroOr (readFor kind s)
 
 -- ---- what is promised of every message
 

@@ -5,14 +5,14 @@ use mathlib.Core.List.{List, [], _∷_, _++_}
 use Prim.Native.Nat.{ℕ, _≤_}
 use lib.Dec.{leb}
 use borrow.Author.Tests.{le-leb}
-use Rattle.wire.specs.Refusals.{refused, given, Answer, Tests, ordered, mapped}
+use Rattle.wire.specs.Refusals.{refused, given, Answer, Tests, ordered, mapped, roomFor}
 use Rattle.wire.specs.Layout.{Layout, decodeBody}
 use Rattle.wire.specs.Description.{inside, reading, readAs}
 use Rattle.wire.proofs.Distinct.{same-given, never-both}
 use Rattle.formats.specs.Wide.{wideBody, numbersIn}
 use Rattle.payloads.specs.Payloads.{Described, messages, Entry, entryOf, entryFor, table, testsOf}
 use Rattle.payloads.proofs.Entries.{Found, found, all-of}
-use Rattle.row_reader.specs.ReadRow.{rowRoom, readRow}
+use Rattle.row_reader.specs.ReadRow.{readRow}
 use Rattle.row_reader.specs.AsRead.{AsRead, AllRead}
 
 -- a last test that passes changes no answer
@@ -28,7 +28,7 @@ module _ (m : Described) (own : entryFor table (m .description .kind) ≡ entryO
   unfolding readRow readAs
   as-mapped s room enough =
       let d = m .description in
-      ap (λ (e : Entry). ordered (testsOf e s ++ rowRoom (numbersIn (e .layout)) room) (wideBody (e .layout) (decodeBody (e .layout) s))) own
+      ap (λ (e : Entry). ordered (testsOf e s ++ roomFor (numbersIn (e .layout)) room) (wideBody (e .layout) (decodeBody (e .layout) s))) own
       ∙ ap (λ (t : Bool). ordered (reading d s ++ (t, 32) ∷ []) (wideBody (d .layout) (decodeBody (d .layout) s))) (le-leb (numbersIn (d .layout)) room enough)
       ∙ ap (λ v. ordered (reading d s ++ (true, 32) ∷ []) (wideBody (d .layout) v)) (sym (d .row-make (decodeBody (d .layout) s)))
       ∙ last-passes (reading d s) 32 (inside d s) (λ r. wideBody (d .layout) (d .row r))

@@ -8,7 +8,7 @@ use lib.ListN.{length, length-map}
 use borrow.Author.Tests.{ltb-true}
 use Rattle.wire.specs.Number.{bytesStored}
 use Rattle.wire.specs.Field.{Format, formatOf, size}
-use Rattle.wire.specs.Refusals.{refused, given, AllPass}
+use Rattle.wire.specs.Refusals.{refused, given, AllPass, zeroOr}
 use Rattle.wire.proofs.Ordered.{exactly-all}
 use Rattle.formats.specs.Digits.{upTo, formatsBy, sizeOf, numbersAt}
 use Rattle.formats.specs.declared.Shape.{Shape}
@@ -18,7 +18,7 @@ use Rattle.observation.specs.Edition.{countIn, startOf, first}
 use Rattle.observation.specs.Obs.{entryAt, oneOfFrame, readEntryOf}
 use Rattle.observation.specs.declared.entry.Observation.{Observation}
 use Rattle.observation.proofs.Editions.{obs-kind, whole}
-use Rattle.payloads.specs.Payloads.{entryFor, shapeFor, numberOf}
+use Rattle.payloads.specs.Payloads.{entryFor, shapeFor}
 use Rattle.payloads.proofs.Shapes.{shaped-each}
 use Rattle.row_reader.specs.ReadRow.{beginning, observationNumbers, readOne, rowAfterOne}
 use Rattle.row_reader.proofs.Filling.{lentFrom, lent-all, stored-front}
@@ -40,7 +40,7 @@ head-size = refl
 
 module _ (kind : ℕ) (s : List ℕ) (i : ℕ) (row : List ℕ) where
   abbrev Done : ℕ → List ℕ → Type 0
-  Done r t = (r ≡ numberOf (readOne kind s i (length row))) × (t ≡ rowAfterOne kind s i row)
+  Done r t = (r ≡ zeroOr (readOne kind s i (length row))) × (t ≡ rowAfterOne kind s i row)
 
   pub one-refused : {n : ℕ} → refused n ≡ readEntryOf kind s i → Done n row
   unfolding readOne readEntryOf

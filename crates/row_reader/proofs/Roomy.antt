@@ -4,23 +4,22 @@ use mathlib.Core.List.{List, _++_}
 use Prim.Native.Nat.{ℕ, _≤_, _<_}
 use lib.ListN.{length}
 use borrow.Author.Tests.{le-leb, lt-leb}
-use Rattle.wire.specs.Refusals.{refused, given, Answer, Tests, ordered, leaves}
+use Rattle.wire.specs.Refusals.{refused, given, Answer, Tests, ordered, leaves, zeroOr, roomFor}
 use Rattle.wire.proofs.Joined.{andThen, ordered-joined}
-use Rattle.payloads.specs.Payloads.{numberOf}
-use Rattle.row_reader.specs.ReadRow.{rowRoom, beginning}
+use Rattle.row_reader.specs.ReadRow.{beginning}
 
 module _ {A : Type 0} (ts : Tests) (x : A) (ns : List ℕ) (n : ℕ) (row : List ℕ) where
   abbrev answer : Answer (List ℕ)
-  answer = ordered (ts ++ rowRoom n (length row)) ns
+  answer = ordered (ts ++ roomFor n (length row)) ns
 
   abbrev Left : ℕ → List ℕ → Type 0
-  Left r t = (r ≡ numberOf answer) × (t ≡ leaves beginning answer row)
+  Left r t = (r ≡ zeroOr answer) × (t ≡ leaves beginning answer row)
 
-  by-answer : {a : Answer (List ℕ)} → answer ≡ a → Left (numberOf a) (leaves beginning a row)
-  by-answer e = (sym (ap numberOf e), sym (ap (λ (a : Answer (List ℕ)). leaves beginning a row) e))
+  by-answer : {a : Answer (List ℕ)} → answer ≡ a → Left (zeroOr a) (leaves beginning a row)
+  by-answer e = (sym (ap zeroOr e), sym (ap (λ (a : Answer (List ℕ)). leaves beginning a row) e))
 
-  after : {a : Answer A} → a ≡ ordered ts x → answer ≡ andThen a (ordered (rowRoom n (length row)) ns)
-  after p = ordered-joined x ns (rowRoom n (length row)) ts ∙ ap (λ (a : Answer A). andThen a (ordered (rowRoom n (length row)) ns)) (sym p)
+  after : {a : Answer A} → a ≡ ordered ts x → answer ≡ andThen a (ordered (roomFor n (length row)) ns)
+  after p = ordered-joined x ns (roomFor n (length row)) ts ∙ ap (λ (a : Answer A). andThen a (ordered (roomFor n (length row)) ns)) (sym p)
 
   -- the payload's refusal stands
   pub stands : {m : ℕ} → refused m ≡ ordered ts x → Left m row

@@ -4,12 +4,12 @@ use mathlib.Core.List.{List, []}
 use Prim.Native.Nat.{ℕ, _+_, _≤_, _<_}
 use native.Mathlib.Omega.{arith}
 use lib.ListN.{length}
-use Rattle.wire.specs.Refusals.{given}
+use Rattle.wire.specs.Refusals.{given, zeroOr}
 use Rattle.wire.proofs.Ordered.{exactly-all}
 use Rattle.formats.specs.Wide.{numbersIn}
 use Rattle.formats.specs.Digits.{formatsBy, sizeOf}
 use Rattle.formats.specs.declared.Shape.{Shape}
-use Rattle.payloads.specs.Payloads.{table, entryFor, layoutFor, shapeFor, readingAny, readFor, numberOf, answerFor}
+use Rattle.payloads.specs.Payloads.{table, entryFor, layoutFor, shapeFor, readingAny, readFor, answerFor}
 use Rattle.payloads.proofs.Agreed.{refuses, gives}
 use Rattle.row_reader.specs.ReadRow.{beginning, numbersFor, readRow, rowAfter}
 use Rattle.row_reader.specs.ByDigits.{rowIn}
@@ -18,7 +18,7 @@ use Rattle.row_reader.proofs.Roomy.{stands, too-short, roomy}
 
 module _ (kind : ℕ) (s row : List ℕ) where
   abbrev Done : ℕ → List ℕ → Type 0
-  Done r t = (r ≡ numberOf (readRow kind s (length row))) × (t ≡ rowAfter kind s row)
+  Done r t = (r ≡ zeroOr (readRow kind s (length row))) × (t ≡ rowAfter kind s row)
 
   module _ {n : ℕ} (answered : n ≡ answerFor kind s) where
     pub row-refused : (n ≡ 0 → ⊥) → Done n row

@@ -1,9 +1,8 @@
 -- A payload's fields as a row of numbers of 64 bits in a lent buffer, over the type's layout; and one observation's. Assumes nothing.
 use Prim.Native.Nat.{ℕ}
-use mathlib.Core.List.{List, [], _∷_, _++_}
-use lib.Dec.{leb}
+use mathlib.Core.List.{List, _++_}
 use lib.ListN.{length}
-use Rattle.wire.specs.Refusals.{Answer, Tests, ordered, leaves}
+use Rattle.wire.specs.Refusals.{Answer, Tests, ordered, leaves, roomFor}
 use Rattle.wire.specs.Field.{decode}
 use Rattle.wire.specs.Layout.{decodeBody}
 use Rattle.formats.specs.Wide.{wideRow, wideBody, numbersIn}
@@ -12,10 +11,6 @@ use Rattle.observation.specs.Edition.{first, startOf}
 use Rattle.observation.specs.Obs.{oneOfFrame}
 use Rattle.payloads.specs.Payloads.{layoutFor, readingAny}
 
--- 32 where so many numbers have no room
-abbrev pub rowRoom : ℕ → ℕ → Tests
-rowRoom n room = (leb n room, 32) ∷ []
-
 -- a row that begins with these numbers, the numbers after as they were
 abbrev pub beginning : List ℕ → List ℕ → List ℕ
 beginning ns row = startingWith ns (length ns) row
@@ -23,7 +18,7 @@ beginning ns row = startingWith ns (length ns) row
 -- ---- a payload of any type: 21, 22, 23, then 32
 
 abbrev pub readingRow : ℕ → List ℕ → ℕ → Tests
-readingRow kind s room = readingAny kind s ++ rowRoom (numbersIn (layoutFor kind)) room
+readingRow kind s room = readingAny kind s ++ roomFor (numbersIn (layoutFor kind)) room
 
 -- one number for each field in order; of observations and of text, how many
 abbrev pub numbersFor : ℕ → List ℕ → List ℕ
@@ -38,7 +33,7 @@ rowAfter kind s row = leaves beginning (readRow kind s (length row)) row
 -- ---- one observation: 21, 22, 25, then 32
 
 abbrev pub readingOne : ℕ → List ℕ → ℕ → ℕ → Tests
-readingOne kind s i room = oneOfFrame kind s i ++ rowRoom (length (first .row .fields)) room
+readingOne kind s i room = oneOfFrame kind s i ++ roomFor (length (first .row .fields)) room
 
 abbrev pub observationNumbers : List ℕ → ℕ → List ℕ
 observationNumbers s i = wideRow (first .row .fields) (decode (first .row .fields) s (startOf first i))

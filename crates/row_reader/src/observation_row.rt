@@ -2,8 +2,8 @@
 ghost use Prim.Native.Nat.{_+_, _*_, _≤_};
 ghost use mathlib.Core.Path.{_≡_};
 ghost use lib.ListN.{length};
+ghost use Rattle.wire.specs.Refusals.{zeroOr};
 ghost use Rattle.formats.specs.Digits.{formatsBy, sizeOf, numbersAt};
-ghost use Rattle.payloads.specs.Payloads.{numberOf};
 ghost use Rattle.row_reader.specs.ReadRow.{beginning, readOne, rowAfterOne};
 use formats::Shape;
 use formats::count;
@@ -23,7 +23,7 @@ fn fill_one(row: &mut [u64], s: &[u8], shape: Shape, index: usize)
 }
 
 pub fn read_observation_row(kind: u16, payload: &[u8], index: usize, row: &mut [u64]) -> u8
-    ensures { λ r. ⌜ r ≡ numberOf (readOne kind (now (payload .entry)) index (length (now (row .entry)))) ⌝ }
+    ensures { λ r. ⌜ r ≡ zeroOr (readOne kind (now (payload .entry)) index (length (now (row .entry)))) ⌝ }
     ensures { λ _. ⌜ now (row .exit) ≡ rowAfterOne kind (now (payload .entry)) index (now (row .entry)) ⌝ }
 {
     match read_observation_of(kind, payload, index) {

@@ -2,7 +2,7 @@
 ghost use mathlib.Core.Path.{_≡_};
 ghost use lib.ListN.{length};
 ghost use mathlib.Core.List.{[]};
-ghost use Rattle.payloads.specs.Payloads.{numberOf};
+ghost use Rattle.wire.specs.Refusals.{zeroOr};
 ghost use Rattle.row_reader.specs.ReadRow.{readRow, rowAfter};
 ghost use Rattle.row_reader.specs.ByDigits.{rowIn};
 use crate::fill::fill;
@@ -21,7 +21,7 @@ fn numbers(shape: Shape) -> usize
 }
 
 pub fn read_row(kind: u16, payload: &[u8], row: &mut [u64]) -> u8
-    ensures { λ r. ⌜ r ≡ numberOf (readRow kind (now (payload .entry)) (length (now (row .entry)))) ⌝ }
+    ensures { λ r. ⌜ r ≡ zeroOr (readRow kind (now (payload .entry)) (length (now (row .entry)))) ⌝ }
     ensures { λ _. ⌜ now (row .exit) ≡ rowAfter kind (now (payload .entry)) (now (row .entry)) ⌝ }
 {
     let refusal = payloads::answer(kind, payload);

@@ -6,11 +6,11 @@ use Prim.Native.Nat.{ℕ, _+_, _%_, _≤_, _<_}
 use lib.Dec.{leb}
 use lib.ListN.{length}
 use borrow.Author.Tests.{eq-eqb, ne-eqb, le-leb, lt-leb, leb-true}
+use Rattle.wire.specs.Refusals.{zeroOr}
 use Rattle.formats.specs.Wide.{fitsRow, fitsRows}
 use Rattle.frames.specs.Writer.{writingFrame, planned, withFrame}
 use Rattle.observation.specs.Edition.{startOf, head, observation, first, isObs}
 use Rattle.payloads.specs.Checks.{numberBy}
-use Rattle.payloads.specs.Payloads.{numberOf}
 use Rattle.row_writer.specs.WriteRow.{sizeLeft}
 use Rattle.row_writer.specs.WriteObsRow.{observationsIn, writeObsRow, obsRowWritten}
 use Rattle.row_writer.specs.Parts.{testingObsRow}
@@ -80,7 +80,7 @@ module _ (kind : ℕ) (hs ns : List ℕ) where
 module _ (kind sender : ℕ) (hs ns buf : List ℕ) (size : ℕ) where
   abbrev pub Wrote : ℕ → List ℕ → ℕ → Type 0
   Wrote r u s =
-      (r ≡ numberOf (writeObsRow kind hs ns (length buf))) × ((u ≡ obsRowWritten kind sender hs ns buf) × (s ≡ sizeLeft (writeObsRow kind hs ns (length buf)) size))
+      (r ≡ zeroOr (writeObsRow kind hs ns (length buf))) × ((u ≡ obsRowWritten kind sender hs ns buf) × (s ≡ sizeLeft (writeObsRow kind hs ns (length buf)) size))
 
   pub wrote-refused : {n : ℕ} → n ≡ numberBy (testingObsRow kind hs ns) → (n ≡ 0 → ⊥) → Wrote n buf size
   unfolding writeObsRow obsRowWritten
@@ -89,7 +89,7 @@ module _ (kind sender : ℕ) (hs ns buf : List ℕ) (size : ℕ) where
       left-alone kind sender buf size (payloadOf hs ns) (writeObsRow kind hs ns (length buf)) (stands (testingObsRow kind hs ns) (writingFrame n (length buf)) (n + 8) p h)
 
   pub wrote-sent : Fitting kind hs ns → {q : List ℕ} {r s : ℕ} {u : List ℕ} → q ≡ payloadOf hs ns
-      → (r ≡ numberOf (planned (length q) (length buf))) × ((u ≡ withFrame kind sender q buf) × (s ≡ sizeLeft (planned (length q) (length buf)) size)) → Wrote r u s
+      → (r ≡ zeroOr (planned (length q) (length buf))) × ((u ≡ withFrame kind sender q buf) × (s ≡ sizeLeft (planned (length q) (length buf)) size)) → Wrote r u s
   unfolding withFrame obsRowWritten
   wrote-sent f e w =
       let p = payloadOf hs ns in

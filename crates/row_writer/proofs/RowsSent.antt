@@ -8,7 +8,7 @@ use lib.Dec.{eqb}
 use lib.ListN.{length, take}
 use Rattle.wire.specs.Field.{Format, size, encode}
 use Rattle.wire.specs.Layout.{Layout, Body, HeldBody, allowedBody, bodySize, lengths, LengthOf, encodeBody, decodeBody}
-use Rattle.wire.specs.Refusals.{refused, Answer, Tests, ordered}
+use Rattle.wire.specs.Refusals.{refused, Answer, Tests, ordered, zeroOr}
 use Rattle.wire.proofs.Fields.{row-sets, length-encode}
 use Rattle.wire.proofs.Layouts.{allowed-again-body, lengths-true, size-fits, length-encode-body, decode-encode-body}
 use Rattle.formats.specs.Wide.{narrowRow, fitsRow, numbersIn}
@@ -17,7 +17,7 @@ use Rattle.formats.specs.declared.Shape.{Shape}
 use Rattle.formats.proofs.Narrow.{Words, held-narrow, stored-narrow}
 use Rattle.frames.specs.Writer.{writingFrame}
 use Rattle.payloads.specs.Checks.{numberBy}
-use Rattle.payloads.specs.Payloads.{table, entryFor, layoutFor, knownFor, shapeFor, numberOf, answerFor}
+use Rattle.payloads.specs.Payloads.{table, entryFor, layoutFor, knownFor, shapeFor, answerFor}
 use Rattle.row_writer.specs.WriteRow.{alone, bodyOf, writeRow, rowWritten, sizeLeft}
 use Rattle.row_writer.specs.Parts.{formatsIn, testingRow, sent}
 use Rattle.row_writer.proofs.Tested.{stands, goes-on, all-pass}
@@ -44,7 +44,7 @@ in-parts kind ns room =
     (both-23 (fitsRow (headOf l) ns 0) (allowedBody l v) (ordered (writingFrame (bodySize l v) room) (bodySize l v + 8)))
 
 -- a payload is taken where its last test passes
-taken : {A : Type 0} (x : A) (t : Bool) → eqb (numberOf (ordered ((t, 23) ∷ []) x)) 0 ≡ t
+taken : {A : Type 0} (x : A) (t : Bool) → eqb (zeroOr (ordered ((t, 23) ∷ []) x)) 0 ≡ t
 taken x true = refl
 taken x false = refl
 
@@ -116,8 +116,8 @@ module _ (kind : ℕ) (ns : List ℕ) (words : Words ns) (f : Fitting kind ns) w
       let e = entryFor table kind in
       let long : lengths l (length p) ≡ true = lengths-true l (length p) (subst⁻¹ (LengthOf l) (length-encode-body l v) (size-fits l v (is .sound) (is .few))) in
       let again : allowedBody l (decodeBody l p) ≡ allowedBody l v = ap (allowedBody l) (decode-encode-body l v (is .sound) held) ∙ allowed-again-body l v held in
-      ap₂ (λ (t : Bool) (ts : Tests). eqb (numberOf (ordered ((t, 21) ∷ ts) (e .holds p))) 0) (f .known) (reads-for kind (f .known) p)
-      ∙ ap₂ (λ (t u : Bool). eqb (numberOf (ordered ((t, 22) ∷ (u, 23) ∷ []) (e .holds p))) 0) long again
+      ap₂ (λ (t : Bool) (ts : Tests). eqb (zeroOr (ordered ((t, 21) ∷ ts) (e .holds p))) 0) (f .known) (reads-for kind (f .known) p)
+      ∙ ap₂ (λ (t u : Bool). eqb (zeroOr (ordered ((t, 22) ∷ (u, 23) ∷ []) (e .holds p))) 0) long again
       ∙ taken (e .holds p) (allowedBody l v)
 
   pub as-sent : (room : ℕ) → writeRow kind ns room ≡ sent kind p room
@@ -140,7 +140,7 @@ module _ (kind : ℕ) (ns : List ℕ) (words : Words ns) (f : Fitting kind ns) w
 module _ (kind sender : ℕ) (ns buf : List ℕ) (size : ℕ) where
   abbrev pub Wrote : ℕ → List ℕ → ℕ → Type 0
   Wrote r u s =
-      (r ≡ numberOf (writeRow kind ns (length buf))) × ((u ≡ rowWritten kind sender ns buf) × (s ≡ sizeLeft (writeRow kind ns (length buf)) size))
+      (r ≡ zeroOr (writeRow kind ns (length buf))) × ((u ≡ rowWritten kind sender ns buf) × (s ≡ sizeLeft (writeRow kind ns (length buf)) size))
 
   abbrev payload : List ℕ
   payload = encodeBody (layoutFor kind) (bodyOf (layoutFor kind) ns)

@@ -3,12 +3,12 @@ ghost use mathlib.Core.Path.{_≡_};
 ghost use mathlib.Core.Bool.{true};
 ghost use Prim.Native.Nat.{_+_, _*_, _≤_};
 ghost use lib.ListN.{length};
+ghost use Rattle.wire.specs.Refusals.{zeroOr};
 ghost use Rattle.wire.specs.Layout.{rowsStored};
 ghost use Rattle.formats.specs.Wide.{narrowRows, fitsRows};
 ghost use Rattle.frames.specs.Writer.{senderOf};
 ghost use Rattle.observation.specs.Edition.{observation};
 ghost use Rattle.payloads.specs.Checks.{numberBy};
-ghost use Rattle.payloads.specs.Payloads.{numberOf};
 ghost use Rattle.row_writer.specs.WriteRow.{sizeLeft};
 ghost use Rattle.row_writer.specs.WriteObsRow.{writeObsRow, obsRowWritten};
 ghost use Rattle.row_writer.specs.Parts.{testingObsRow};
@@ -97,7 +97,7 @@ pub fn write_obs_row(
     rows: &[u64],
     size: &mut u64,
 ) -> u8
-    ensures { λ r. ⌜ r ≡ numberOf (writeObsRow kind (now (head .entry)) (now (rows .entry)) (length (now (out .entry)))) ⌝ }
+    ensures { λ r. ⌜ r ≡ zeroOr (writeObsRow kind (now (head .entry)) (now (rows .entry)) (length (now (out .entry)))) ⌝ }
     ensures { λ _. ⌜ now (out .exit) ≡ obsRowWritten kind (senderOf sender) (now (head .entry)) (now (rows .entry)) (now (out .entry)) ⌝ }
     ensures { λ _. ⌜ now (size .exit) ≡ sizeLeft (writeObsRow kind (now (head .entry)) (now (rows .entry)) (length (now (out .entry)))) (now (size .entry)) ⌝ }
 {

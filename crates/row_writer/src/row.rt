@@ -3,10 +3,11 @@ ghost use mathlib.Core.Path.{_≡_};
 ghost use mathlib.Core.Bool.{_&&_};
 ghost use Prim.Native.Nat.{_+_, _≤_};
 ghost use lib.ListN.{length};
+ghost use Rattle.wire.specs.Refusals.{zeroOr};
 ghost use Rattle.formats.specs.Digits.{formatsBy, sizeOf, runFits, runStored};
 ghost use Rattle.frames.specs.Writer.{senderOf};
 ghost use Rattle.payloads.specs.Checks.{numberBy};
-ghost use Rattle.payloads.specs.Payloads.{layoutFor, knownFor, numberOf};
+ghost use Rattle.payloads.specs.Payloads.{layoutFor, knownFor};
 ghost use Rattle.row_writer.specs.WriteRow.{alone, writeRow, rowWritten, sizeLeft};
 ghost use Rattle.row_writer.specs.Parts.{formatsIn, testingRow};
 use crate::send::send;
@@ -67,7 +68,7 @@ fn pack(bytes: &mut [u8], row: &[u64], shape: Shape)
 
 // 21, 22, 23, 31, 32, or 0 with the frame's size through size. The frame is written once nothing is left to refuse.
 pub fn write_row(out: &mut [u8], kind: u16, sender: Sender, row: &[u64], size: &mut u64) -> u8
-    ensures { λ r. ⌜ r ≡ numberOf (writeRow kind (now (row .entry)) (length (now (out .entry)))) ⌝ }
+    ensures { λ r. ⌜ r ≡ zeroOr (writeRow kind (now (row .entry)) (length (now (out .entry)))) ⌝ }
     ensures { λ _. ⌜ now (out .exit) ≡ rowWritten kind (senderOf sender) (now (row .entry)) (now (out .entry)) ⌝ }
     ensures { λ _. ⌜ now (size .exit) ≡ sizeLeft (writeRow kind (now (row .entry)) (length (now (out .entry)))) (now (size .entry)) ⌝ }
 {

@@ -6,6 +6,7 @@ use mathlib.Core.Path.{_≡_}
 use mathlib.Core.Bool.{Bool, true, false, cond}
 use mathlib.Core.List.{List, [], _∷_}
 use mathlib.Core.Logic.{_⊎_}
+use lib.Dec.{leb}
 
 -- what a call answers: what was asked for, or the number of its refusal
 pub data Answer (A : Type 0) : Type 0 where
@@ -30,6 +31,19 @@ ordered (t ∷ ts) x = cond (t .0) (ordered ts x) (refused (t .1))
 abbrev pub leaves : {A B : Type 0} → (A → B → B) → Answer A → B → B
 leaves put (given x) lent = put x lent
 leaves put (refused n) lent = lent
+
+-- the number that C and Rust are handed: what is given has one of its own, a refusal has its own
+abbrev pub asNumber : {A : Type 0} → (A → ℕ) → Answer A → ℕ
+asNumber number (given x) = number x
+asNumber number (refused n) = n
+
+-- 0, or the number of a refusal
+abbrev pub zeroOr : {A : Type 0} → Answer A → ℕ
+zeroOr = asNumber (λ x. 0)
+
+-- 32 where n bytes or numbers have no room
+abbrev pub roomFor : ℕ → ℕ → Tests
+roomFor n room = (leb n room, 32) ∷ []
 
 -- n is the number of the first test that fails
 abbrev pub FirstFails : Tests → ℕ → Type 0

@@ -1,8 +1,7 @@
 -- `exports::texting::sbp_list` meets its contract: it hands on what the listing answers.
 use mathlib.Core.Path.{ap, _∙_}
 use Prim.Native.Nat.{ℕ}
-use Rattle.wire.specs.Refusals.{Answer}
-use Rattle.exports.specs.Lent.{zeroOr}
+use Rattle.wire.specs.Refusals.{Answer, zeroOr}
 use Rattle.row_writer.specs.WriteRow.{sizeLeft}
 use borrow.Author.Needs.{needs}
 use Rattle.exports.proofs.texting.sbp_list.Statement.{statement}

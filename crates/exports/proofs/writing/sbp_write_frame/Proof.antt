@@ -1,10 +1,9 @@
 -- `exports::writing::sbp_write_frame` meets its contract: it hands on what the writer answers.
 use mathlib.Core.Path.{ap, _∙_}
 use Prim.Native.Nat.{ℕ}
-use Rattle.wire.specs.Refusals.{Answer}
+use Rattle.wire.specs.Refusals.{Answer, zeroOr}
 use Rattle.frames.specs.Writer.{senderOf, withFrame}
 use Rattle.frames.specs.declared.write.Sender.{Sender}
-use Rattle.exports.specs.Lent.{zeroOr}
 use Rattle.row_writer.specs.WriteRow.{sizeLeft}
 use borrow.Author.Needs.{needs}
 use Rattle.exports.proofs.writing.sbp_write_frame.Statement.{statement}

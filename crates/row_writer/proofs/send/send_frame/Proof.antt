@@ -2,9 +2,8 @@
 use mathlib.Core.Path.{sym, ap, _∙_}
 use Prim.Native.Nat.{ℕ}
 use borrow.Author.Needs.{needs}
-use Rattle.wire.specs.Refusals.{Answer}
+use Rattle.wire.specs.Refusals.{Answer, zeroOr}
 use Rattle.frames.specs.Writer.{writtenAnswer}
-use Rattle.payloads.specs.Payloads.{numberOf}
 use Rattle.row_writer.specs.WriteRow.{sizeLeft}
 use Rattle.row_writer.proofs.send.send_frame.Statement.{statement}
 use Rattle.row_writer.proofs.send.send_frame.Tie as tie
@@ -25,7 +24,7 @@ returns : tie.Need-returns
 returns c =
     let w = c .before .before .before .before .before in
     let e = sym (ap writtenAnswer (c .before .written .given .1)) ∙ w .write-frame .ensures .0 in
-    (ap numberOf e, (w .write-frame .ensures .1, ap (λ (a : Answer ℕ). sizeLeft a (w .before .before .before .before .args .size .now)) e))
+    (ap zeroOr e, (w .write-frame .ensures .1, ap (λ (a : Answer ℕ). sizeLeft a (w .before .before .before .before .args .size .now)) e))
 
 same-length-2 : tie.Need-same-length-2
 same-length-2 c = search needs
@@ -34,7 +33,7 @@ returns-2 : tie.Need-returns-2
 returns-2 c =
     let w = c .before .before .before .before .before in
     let e = sym (ap writtenAnswer (c .before .written2 .given .1)) ∙ w .write-frame .ensures .0 in
-    (ap numberOf e, (w .write-frame .ensures .1, ap (λ (a : Answer ℕ). sizeLeft a (w .before .before .before .before .args .size .now)) e))
+    (ap zeroOr e, (w .write-frame .ensures .1, ap (λ (a : Answer ℕ). sizeLeft a (w .before .before .before .before .args .size .now)) e))
 
 pub send-frame-spec : {M : Type 1} → statement M
 send-frame-spec =
