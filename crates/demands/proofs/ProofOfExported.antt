@@ -7,10 +7,10 @@ use Rattle.epochs.proofs.Making.{seated}
 use Rattle.epochs.proofs.Collations.{same-state, same-reports}
 use Rattle.exports.specs.Found.{nextFrom}
 use Rattle.exports.specs.Totals.{totalsFor}
-use Rattle.exports.specs.Feed.{madeIn, forPlaceIn}
+use Rattle.states.specs.Feed.{madeIn, forPlaceIn}
 use Rattle.exports.proofs.LentRows.{next-left}
-use Rattle.exports.proofs.Lives.{told-made, stands, tells-epoch}
-use Rattle.exports.proofs.Grows.{grows}
+use Rattle.states.proofs.Lives.{told-made, stands, tells-epoch}
+use Rattle.states.proofs.Grows.{grows}
 use Rattle.exports.proofs.Shown.{found-shown, counts-shown}
 use Rattle.exports.proofs.Untouched.{next-keeps, totals-keeps, list-keeps, collator-keeps, feed-keeps}
 use Rattle.demands.specs.Exported.{ByNumber, Exported}

@@ -16,13 +16,13 @@ use Rattle.epochs.specs.Search.{names}
 use Rattle.epochs.specs.Epoch.{reportsIn, reportsOf, SameFrames, EndsEpoch, Epochs}
 use Rattle.epochs.specs.declared.collating.Report.{Report}
 use Rattle.epochs.specs.declared.collating.Happened.the-variants as H
-use Rattle.exports.specs.Claims.{Kept, FoundShown, CountsShown, Filled}
+use Rattle.exports.specs.Claims.{Kept, FoundShown, CountsShown}
 use Rattle.exports.specs.Found.{foundSize, startAt, foundIn, finding, nextFrom, nextStored}
 use Rattle.exports.specs.Totals.{totalsSize, totalling, totalsFor, totalsStored}
-use Rattle.exports.specs.State.{stateIn}
-use Rattle.exports.specs.Feed.{making, madeIn, madeStored, reportSize, feedingIn, forPlaceIn, fedIn, afterIn}
-use Rattle.exports.specs.Told.{AsSent, told, toldIn}
-use Rattle.exports.specs.Growing.{Grows}
+use Rattle.states.specs.State.{stateIn}
+use Rattle.states.specs.Feed.{making, madeIn, madeStored, reportSize, feedingIn, forPlaceIn, fedIn, afterIn}
+use Rattle.states.specs.Told.{AsSent, told, toldIn, Filled}
+use Rattle.states.specs.Growing.{Grows}
 
 -- demand 1: "refused by number". The number handed back is read off an answer by the call's own list; what that comes to is `in-order` there.
 -- `sbp_list` answers by demand 1's list for a capture, `sbp_answer` by that for a payload

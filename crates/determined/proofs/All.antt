@@ -45,6 +45,9 @@ module _ {M : Type 1} (𝓤 : URA M) (H : Heap 𝓤) (A : Atoms 𝓤) (mem : Mem
   pub row-reader : public.RowReader 𝓤 H A mem run
   row-reader = search determinations
 
+  pub row-writer : public.RowWriter 𝓤 H A mem run
+  row-writer = search determinations
+
   pub packets : public.Packets 𝓤 H A mem run
   packets = search determinations
 
@@ -59,6 +62,9 @@ module _ {M : Type 1} (𝓤 : URA M) (H : Heap 𝓤) (A : Atoms 𝓤) (mem : Mem
 
   pub listing : public.Listing 𝓤 H A mem run
   listing = search determinations
+
+  pub states : public.States 𝓤 H A mem run
+  states = search determinations
 
   pub exports : public.Exports 𝓤 H A mem run
   exports = search determinations

@@ -22,11 +22,13 @@ use Rattle.system.proofs as system
 use Rattle.obs_reader.proofs as obs_reader
 use Rattle.payloads.proofs as payloads
 use Rattle.row_reader.proofs as row_reader
+use Rattle.row_writer.proofs as row_writer
 use Rattle.packets.proofs as packets
 use Rattle.runs.proofs as runs
 use Rattle.epochs.proofs as epochs
 use Rattle.enlisting.proofs as enlisting
 use Rattle.listing.proofs as listing
+use Rattle.states.proofs as states
 use Rattle.exports.proofs as exports
 use Rattle.determined.specs.Determined.{Determined, DeterminedAs}
 
@@ -173,6 +175,10 @@ module _ {M : Type 1} (𝓤 : URA M) (H : Heap 𝓤) (A : Atoms 𝓤) (mem : Mem
     pub read-row : Determined 𝓤 row_reader.read_row.ended (row_reader.read_row.clauses 𝓤 H A mem run)
     pub read-observation-row : Determined 𝓤 row_reader.read_observation_row.ended (row_reader.read_observation_row.clauses 𝓤 H A mem run)
 
+  pub record RowWriter : Type 1 where
+    pub write-row : Determined 𝓤 row_writer.write_row.ended (row_writer.write_row.clauses 𝓤 H A mem run)
+    pub write-obs-row : Determined 𝓤 row_writer.write_obs_row.ended (row_writer.write_obs_row.clauses 𝓤 H A mem run)
+
   pub record Packets : Type 1 where
     pub same-key : Determined 𝓤 packets.same_key.ended (packets.same_key.clauses 𝓤 H A mem run)
     pub read-packet : Determined 𝓤 packets.read_packet.ended (packets.read_packet.clauses 𝓤 H A mem run)
@@ -193,6 +199,12 @@ module _ {M : Type 1} (𝓤 : URA M) (H : Heap 𝓤) (A : Atoms 𝓤) (mem : Mem
 
   pub record Listing : Type 1 where
     pub list : Determined 𝓤 listing.list.ended (listing.list.clauses 𝓤 H A mem run)
+
+  pub record States : Type 1 where
+    pub make : Determined 𝓤 states.make.ended (states.make.clauses 𝓤 H A mem run)
+    pub feed : Determined 𝓤 states.feed.ended (states.feed.clauses 𝓤 H A mem run)
+    pub grow : Determined 𝓤 states.grow.ended (states.grow.clauses 𝓤 H A mem run)
+    pub enlist : Determined 𝓤 states.enlist.ended (states.enlist.clauses 𝓤 H A mem run)
 
   pub record Exports : Type 1 where
     pub sbp-crc : Determined 𝓤 exports.sbp_crc.ended (exports.sbp_crc.clauses 𝓤 H A mem run)
@@ -215,3 +227,9 @@ module _ {M : Type 1} (𝓤 : URA M) (H : Heap 𝓤) (A : Atoms 𝓤) (mem : Mem
     pub sbp-growing : Determined 𝓤 exports.sbp_growing.ended (exports.sbp_growing.clauses 𝓤 H A mem run)
     pub sbp-enlist : Determined 𝓤 exports.sbp_enlist.ended (exports.sbp_enlist.clauses 𝓤 H A mem run)
     pub sbp-version : Determined 𝓤 exports.sbp_version.ended (exports.sbp_version.clauses 𝓤 H A mem run)
+    pub sbp-read : Determined 𝓤 exports.sbp_read.ended (exports.sbp_read.clauses 𝓤 H A mem run)
+    pub sbp-observation : Determined 𝓤 exports.sbp_observation.ended (exports.sbp_observation.clauses 𝓤 H A mem run)
+    pub sbp-write : Determined 𝓤 exports.sbp_write.ended (exports.sbp_write.clauses 𝓤 H A mem run)
+    pub sbp-write-obs : Determined 𝓤 exports.sbp_write_obs.ended (exports.sbp_write_obs.clauses 𝓤 H A mem run)
+    pub sbp-write-log : Determined 𝓤 exports.sbp_write_log.ended (exports.sbp_write_log.clauses 𝓤 H A mem run)
+    pub sbp-write-frame : Determined 𝓤 exports.sbp_write_frame.ended (exports.sbp_write_frame.clauses 𝓤 H A mem run)

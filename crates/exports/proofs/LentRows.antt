@@ -10,9 +10,9 @@ use Rattle.wire.specs.Field.{Field, Row, size, rowStored}
 use Rattle.frames.specs.Reading.{steps, framesOf}
 use Rattle.frames.specs.Cursors.{nextOf, Says}
 use Rattle.frames.proofs.NextAnswers.{says}
-use Rattle.exports.specs.Lent.{atFront}
+use Rattle.states.specs.Lent.{atFront}
 use Rattle.exports.specs.Found.{startAt}
-use Rattle.exports.proofs.Parts.{stored-front}
+use Rattle.states.proofs.Parts.{stored-front}
 
 module _ {A : Type 0} (fs : List Field) (number : A → ℕ) (values : A → Row fs) (x : A) (buf : List ℕ) where
   -- a number and a buffer as they have to be

@@ -1,14 +1,5 @@
-pub mod Parts
-pub mod Tables
 pub mod LentRows
 pub mod Tabled
-pub mod States
-pub mod Feeds
-pub mod Makes
-pub mod Tells
-pub mod Lives
 pub mod Shown
-pub mod Enlists
-pub mod Grows
 pub mod Untouched
 pub mod UntouchedRows

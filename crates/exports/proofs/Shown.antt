@@ -22,11 +22,11 @@ use Rattle.frames.proofs.Steps.{decided}
 use Rattle.frames.proofs.Frames.{found-at, found-numbers}
 use Rattle.frames.proofs.Tiling.{adds-up}
 use Rattle.frames.proofs.GoingOn.{here, Answered, pass, end, answered}
-use Rattle.exports.specs.Lent.{atFront}
+use Rattle.states.specs.Lent.{atFront}
 use Rattle.exports.specs.Found.{foundFields, foundSize, foundValues, startAt, foundIn, nextFrom, nextStored}
 use Rattle.exports.specs.Totals.{totalsFields, totalsSize, totalsRow, totalsFor, totalsStored}
 use Rattle.exports.specs.Claims.{FoundShown, CountsShown}
-use Rattle.exports.proofs.Parts.{stored-front, decode-stored}
+use Rattle.states.proofs.Parts.{stored-front, decode-stored}
 
 -- ---- a row with room, stored by a call that tests nothing else
 

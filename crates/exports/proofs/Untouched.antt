@@ -16,8 +16,8 @@ use Rattle.listing.specs.Listing.{listAnswer, withListing}
 use Rattle.exports.specs.Found.{numberIn, nextFrom, nextAnswer, nextStored}
 use Rattle.exports.specs.Totals.{totalsFor, totalsAnswer, totalsStored}
 use Rattle.exports.specs.Text.{textAnswer, sizeAfter}
-use Rattle.exports.specs.State.{collatorStored}
-use Rattle.exports.specs.Feed.{madeIn, madeAnswer, madeStored, endedNumber, forPlaceIn, stepIn, fedIn}
+use Rattle.states.specs.State.{collatorStored}
+use Rattle.states.specs.Feed.{madeIn, madeAnswer, madeStored, endedNumber, forPlaceIn, stepIn, fedIn}
 
 -- a number that is none of those of what is given says that nothing was put
 module _ {A B : Type 0} (number : A → ℕ) (put : A → B → B) (Is : ℕ → Type 0) (none : (x : A) → Is (number x) → ⊥) where

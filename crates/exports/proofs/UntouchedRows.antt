@@ -6,8 +6,8 @@ use Rattle.row_reader.specs.ReadRow.{beginning, readRow, readOne}
 use Rattle.row_writer.specs.WriteObsRow.{writeObsRow, obsRowWritten}
 use Rattle.row_writer.specs.WriteRow.{writeRow, rowWritten}
 use Rattle.system.specs.Log.{logWriteAnswer, logWritten}
-use Rattle.exports.specs.State.{collatorStored}
-use Rattle.exports.specs.Enlist.{growingIn, enlistIn}
+use Rattle.states.specs.State.{collatorStored}
+use Rattle.states.specs.Enlist.{growingIn, enlistIn}
 use Rattle.exports.specs.KeptRows.{KeptRows}
 use Rattle.exports.proofs.Untouched.{not-zero}
 

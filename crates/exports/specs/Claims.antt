@@ -13,9 +13,9 @@ use Rattle.listing.specs.Listing.{withListing}
 use Rattle.exports.specs.Found.{nextAnswer, nextStored}
 use Rattle.exports.specs.Totals.{totalsAnswer, totalsStored}
 use Rattle.exports.specs.Text.{textAnswer, sizeAfter}
-use Rattle.exports.specs.State.{stateSize}
-use Rattle.exports.specs.Feed.{reportSize, madeAnswer, madeStored, fedIn}
-use Rattle.exports.specs.Told.{Sent}
+use Rattle.states.specs.State.{stateSize}
+use Rattle.states.specs.Feed.{reportSize, madeAnswer, madeStored, fedIn}
+use Rattle.states.specs.Told.{Sent}
 
 -- demand 1: "and a refusal writes nothing and moves no state", by the number that is handed back
 pub record Kept : Type 0 where
@@ -44,13 +44,3 @@ pub record CountsShown (row : List ℕ) (c : Counts) : Type 0 where
   pub junk : numberAt 8 row 8 ≡ c .junk
   pub bad : numberAt 8 row 16 ≡ c .bad
   pub short : numberAt 8 row 24 ≡ c .short
-
--- ---- what they are claimed of
-
--- bytes that `sbp_collator` filled for a roster, and frames fed to them by `sbp_feed`
-pub record Filled (roster s report : List ℕ) (xs : List Content) : Type 0 where
-  pub taken : made roster .number ≡ 0
-  pub senders : (i : ℕ) → getD roster i 0 < 65536
-  pub long : stateSize ≤ length s
-  pub room : reportSize ≤ length report
-  pub sent : Sent xs

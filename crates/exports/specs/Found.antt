@@ -8,7 +8,7 @@ use Rattle.wire.specs.Field.{Field, any, u8, u16, u64, Row, size}
 use Rattle.frames.specs.Cursors.{nextOf}
 use Rattle.frames.specs.declared.cursor.Cursor.{Cursor}
 use Rattle.frames.specs.declared.cursor.Next as Next
-use Rattle.exports.specs.Lent.{atFront}
+use Rattle.states.specs.Lent.{atFront}
 use Rattle.exports.specs.declared.reading.FoundRow.{FoundRow}
 
 -- at, next, needed, junk, bad, short, kind, sender, length

@@ -12,7 +12,7 @@ use Rattle.row_writer.specs.WriteObsRow.{writeObsRow, obsRowWritten}
 use Rattle.row_writer.specs.WriteRow.{writeRow, rowWritten, sizeLeft}
 use Rattle.system.specs.Log.{Logged, logWriteAnswer, logWritten}
 use Rattle.exports.specs.Phased.{partsNumber, cyclesAfter, partsAfter}
-use Rattle.exports.specs.Enlist.{growingAnswer, growingStored, enlistAnswer, enlistStored}
+use Rattle.states.specs.Enlist.{growingAnswer, growingStored, enlistAnswer, enlistStored}
 use Rattle.exports.specs.Write.{sentBy}
 
 pub record KeptRows : Type 0 where

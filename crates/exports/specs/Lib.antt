@@ -1,14 +1,8 @@
-pub mod Lent
 pub mod Found
 pub mod Totals
 pub mod Write
 pub mod Text
 pub mod Flagged
 pub mod Phased
-pub mod State
-pub mod Feed
-pub mod Told
-pub mod Enlist
-pub mod Growing
 pub mod Claims
 pub mod KeptRows

@@ -6,7 +6,7 @@ use Rattle.wire.specs.Refusals.{Answer, Tests, ordered, leaves, zeroOr, roomFor
 use Rattle.wire.specs.Field.{Field, any, u64, Row, size}
 use Rattle.frames.specs.Reading.{closedSteps, countsOf}
 use Rattle.frames.specs.declared.cursor.Counts.{Counts}
-use Rattle.exports.specs.Lent.{atFront}
+use Rattle.states.specs.Lent.{atFront}
 
 -- frame bytes, junk, bad, short
 abbrev pub totalsFields : List Field

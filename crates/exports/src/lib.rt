@@ -1,19 +1,14 @@
 // What C and Rust link: `extern "C"` functions over numbers, lent slices and lent numbers. None has a `requires`.
 // A refusal is document 01's number and writes nothing. A collator lives in lent bytes.
-// Read specs/Lent.antt (what a call hands back and leaves), specs/Found.antt (the row of a frame), specs/Totals.antt, specs/Text.antt,
-// specs/Flagged.antt and specs/Phased.antt (flags, carrier phase), specs/Write.antt (who sends), specs/State.antt (what a collator's bytes stand
-// for), specs/Feed.antt and specs/Told.antt, specs/Enlist.antt and specs/Growing.antt (a roster that grows), specs/Claims.antt and
-// specs/KeptRows.antt; proofs/Feeds.antt, Makes.antt, Lives.antt and Grows.antt tie the bytes to the collators of `epochs` and `enlisting`.
-// What rows of fields are stands in `row_reader` and `row_writer`.
+// Read specs/Found.antt (the row of a frame), specs/Totals.antt, specs/Text.antt, specs/Flagged.antt and specs/Phased.antt (flags, carrier phase),
+// specs/Write.antt (who sends), specs/Claims.antt and specs/KeptRows.antt. What a collator's bytes are stands in `states`, what rows of fields are in
+// `row_reader` and `row_writer`.
 mod answering;
 mod beating;
+mod collating;
 mod counting;
-mod feeding;
 mod flagging;
-mod growing;
-mod making;
 mod phasing;
-mod placing;
 mod reading;
 mod rowing;
 mod sizes;
@@ -27,15 +22,15 @@ pub use beating::sbp_external_antenna;
 pub use beating::sbp_io_error;
 pub use beating::sbp_nap_error;
 pub use beating::sbp_system_error;
+pub use collating::sbp_collator;
+pub use collating::sbp_enlist;
+pub use collating::sbp_feed;
+pub use collating::sbp_growing;
 pub use counting::sbp_totals;
-pub use feeding::sbp_feed;
 pub use flagging::sbp_above_sea;
 pub use flagging::sbp_fix;
 pub use flagging::sbp_raim_available;
 pub use flagging::sbp_raim_repaired;
-pub use growing::sbp_enlist;
-pub use growing::sbp_growing;
-pub use making::sbp_collator;
 pub use phasing::sbp_carrier_phase;
 pub use phasing::sbp_phase_parts;
 pub use reading::sbp_next;

@@ -1,16 +1,4 @@
-// How many bytes the rows and the state take, and where the state's parts begin: as specs/ has it, and link/include/sbp.h.
+// How many bytes the rows take: as specs/ has it, and link/include/sbp.h.
 pub(crate) const FOUND_SIZE: usize = 53;
 
 pub(crate) const TOTALS_SIZE: usize = 32;
-
-pub(crate) const REPORT_SIZE: usize = 11;
-
-pub(crate) const SEATS_AT: usize = 1;
-
-pub(crate) const SEAT_SIZE: usize = 2;
-
-pub(crate) const PLACES_AT: usize = SEATS_AT + 8 * SEAT_SIZE;
-
-pub(crate) const SLOT_SIZE: usize = 11;
-
-pub(crate) const STATE_SIZE: usize = PLACES_AT + 8 * SLOT_SIZE;

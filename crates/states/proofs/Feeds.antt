@@ -1,0 +1,140 @@
+-- A frame fed to a collator in bytes: what `feed` answers, case by case, and that it is what the collator does that the bytes stand for.
+-- Assumes nothing.
+use mathlib.Core.Path.{_≡_, refl, sym, ap, _∙_, subst}
+use mathlib.Core.List.{List}
+use Prim.Native.Nat.{ℕ, _≤_, _<_}
+use native.Mathlib.Omega.{arith}
+use lib.ListN.{length, getD, set, length-take}
+use borrow.Author.Tests.{le-leb, lt-leb}
+use Rattle.wire.specs.Number.{Bytes}
+use Rattle.wire.specs.Refusals.{refused, given, Answer}
+use Rattle.wire.specs.Field.{decode}
+use Rattle.crc.specs.Table.{tabulated}
+use Rattle.crc.proofs.ByTable.{tabulated-at}
+use Rattle.frames.specs.Frame.{Content}
+use Rattle.packets.specs.declared.packet.Packet.{Packet}
+use Rattle.packets.proofs.Recognitions.{formed, n-small, time-small}
+use Rattle.runs.specs.declared.running.Ended.{Ended}
+use Rattle.runs.specs.declared.running.Ended.the-variants.{Not, Whole}
+use Rattle.runs.specs.declared.running.Stepped.{Stepped}
+use Rattle.runs.specs.Run.{stepped}
+use Rattle.epochs.specs.Collator.{forPlace, idle, outcome, acted, rosterOf, fedFrame}
+use Rattle.epochs.specs.declared.collating.Place.{Place}
+use Rattle.epochs.specs.declared.collating.Report.{Report}
+use Rattle.epochs.specs.declared.collating.Fed.{Fed}
+use Rattle.epochs.specs.declared.collating.Happened.{Happened}
+use Rattle.epochs.specs.declared.collating.Happened.the-variants as H
+use Rattle.epochs.proofs.Placings.{placed, placed-below}
+use Rattle.epochs.proofs.Reports.{SmallIn, Small, report-small}
+use Rattle.states.specs.Lent.{atFront}
+use Rattle.states.specs.State.{stateSize, placeIn, placeStored, stateIn}
+use Rattle.states.specs.Feed.{reportFields, reportSize, reportRow, endedNumber, endedStored, forPlaceIn, stepIn, FedIn, cameOut, fedIn}
+use Rattle.states.proofs.Parts.{stored-front, decode-stored}
+use Rattle.states.proofs.States.{SmallPacket, stepped-small, state-place}
+
+module _ (s : List ℕ) (x : Content) (report : List ℕ) where
+  -- an answer, a state and a report as they have to be
+  abbrev pub Out : ℕ → List ℕ → List ℕ → Type 0
+  Out n t u = (n ≡ fedIn s x report .answer) × ((t ≡ fedIn s x report .state) × (u ≡ fedIn s x report .report))
+
+  pub came : {a : Answer (ℕ × Packet)} → forPlaceIn s (length report) x ≡ a
+      → Out (cameOut s x report a .answer) (cameOut s x report a .state) (cameOut s x report a .report)
+  unfolding fedIn
+  came e =
+      let out = ap (cameOut s x report) (sym e) in
+      (ap (λ (o : FedIn). o .answer) out, (ap (λ (o : FedIn). o .state) out, ap (λ (o : FedIn). o .report) out))
+
+  pub state-short : length s < stateSize → forPlaceIn s (length report) x ≡ refused 32
+  unfolding forPlaceIn
+  state-short h = rw (lt-leb stateSize (length s) h)
+
+  module _ (long : stateSize ≤ length s) where
+    pub report-short : length report < reportSize → forPlaceIn s (length report) x ≡ refused 32
+    unfolding forPlaceIn
+    report-short h = rw (le-leb stateSize (length s) long, lt-leb reportSize (length report) h)
+
+    module _ (room : reportSize ≤ length report) where
+      -- with room for both the frame is what it is to the collator
+      pub as-collator : forPlaceIn s (length report) x ≡ forPlace (rosterOf (stateIn s)) x
+      unfolding forPlaceIn forPlace
+      as-collator = rw (le-leb stateSize (length s) long, le-leb reportSize (length report) room)
+
+      -- a packet, from the calls that take it
+      pub came-taken : {i : ℕ} {p : Packet} {y : Ended} {n : ℕ} {t u : List ℕ} → forPlace (rosterOf (stateIn s)) x ≡ given (i, p)
+          → y ≡ stepIn s i p .ended → t ≡ placeStored s i (record { run = stepIn s i p .run }) → n ≡ endedNumber y → u ≡ endedStored (x .sender) p y report → Out n t u
+      came-taken {i} {p} e q r v w =
+          let out = came (as-collator ∙ e) in (
+            v ∙ ap endedNumber q ∙ out .0,
+            (r ∙ out .1 .0, w ∙ ap (λ (y : Ended). endedStored (x .sender) p y report) q ∙ out .1 .1),
+          )
+
+-- the place of a packet is one of the eight
+pub eight : (s : List ℕ) (x : Content) {i : ℕ} {p : Packet} → forPlace (rosterOf (stateIn s)) x ≡ given (i, p) → i < 8
+unfolding tabulated
+eight s x e = omega (arith, simp length-take at (placed-below (rosterOf (stateIn s)) x e))
+
+-- ---- tied to the collator
+
+-- what happened, as a number and as the bytes of a report
+abbrev pub happenedNumber : Happened → ℕ
+happenedNumber (H.Refused n) = n
+happenedNumber H.Taken = 0
+happenedNumber (H.Epoch e) = 1
+
+abbrev pub happenedStored : Happened → List ℕ → List ℕ
+happenedStored (H.Refused n) buf = buf
+happenedStored H.Taken buf = buf
+happenedStored (H.Epoch e) buf = atFront reportFields (reportRow e) buf
+
+-- what came out of the bytes is what came out of the collator
+pub record Tied (out : FedIn) (f : Fed) (report : List ℕ) : Type 0 where
+  pub state : stateIn (out .state) ≡ f .collator
+  pub answer : out .answer ≡ happenedNumber (f .happened)
+  pub reported : out .report ≡ happenedStored (f .happened) report
+
+module _ (sender : ℕ) (p : Packet) where
+  number-outcome : (y : Ended) → endedNumber y ≡ happenedNumber (outcome sender p y)
+  number-outcome Not = refl
+  number-outcome (Whole total) = refl
+
+  stored-outcome : (y : Ended) (report : List ℕ) → endedStored sender p y report ≡ happenedStored (outcome sender p y) report
+  stored-outcome Not report = refl
+  stored-outcome (Whole total) report = refl
+
+module _ (s : List ℕ) (x : Content) (report : List ℕ) (long : stateSize ≤ length s) (room : reportSize ≤ length report) (bytes : Bytes (x .payload)) where
+  -- feeding the bytes is feeding the collator that they stand for
+  pub feeds : Tied (fedIn s x report) (fedFrame (stateIn s) x) report
+  unfolding fedIn fedFrame
+  feeds = subst (λ (a : Answer (ℕ × Packet)). Tied (cameOut s x report a) (fedFrame (stateIn s) x) report) (sym (as-collator s x report long room)) (by (forPlace (rosterOf (stateIn s)) x) refl)
+    where
+      small : {i : ℕ} {p : Packet} → forPlace (rosterOf (stateIn s)) x ≡ given (i, p) → SmallPacket p
+      small e =
+          let own = placed (rosterOf (stateIn s)) x e .1 in
+          let time = time-small (x .kind) (x .payload) own bytes in
+          let n = n-small (x .kind) (x .payload) own bytes in
+          record { tow = time .0; wn = time .1; n = omega arith; observations = omega (arith, formed (x .kind) (x .payload) own .few) }
+
+      by : (a : Answer (ℕ × Packet)) → forPlace (rosterOf (stateIn s)) x ≡ a → Tied (cameOut s x report a) (acted (stateIn s) (x .sender) a) report
+      by (refused n) e = record { state = refl; answer = refl; reported = refl }
+      by (given (i, p)) e =
+          let h : i < 8 = eight s x e in
+          let c = stateIn s in
+          let own : getD (tabulated (placeIn s) 8) i idle ≡ placeIn s i = tabulated-at (placeIn s) 8 i idle h in
+          let same : stepIn s i p ≡ stepped (getD (c .places) i idle .run) p = ap (λ (q : Place). stepped (q .run) p) (sym own) in
+          record {
+            state =
+                state-place s long i h (record { run = stepIn s i p .run }) (stepped-small p (small e) (placeIn s i .run))
+                ∙ ap (λ (y : Stepped). record { places = set (c .places) i (record { run = y .run }); roster = c .roster; count = c .count }) same;
+            answer = number-outcome (x .sender) p (stepIn s i p .ended) ∙ ap (λ (y : Stepped). happenedNumber (outcome (x .sender) p (y .ended))) same;
+            reported = stored-outcome (x .sender) p (stepIn s i p .ended) report ∙ ap (λ (y : Stepped). happenedStored (outcome (x .sender) p (y .ended)) report) same;
+          }
+
+  -- an epoch's report is read back as it is
+  pub report-back : {e : Report} → x .sender < 65536 → fedFrame (stateIn s) x .happened ≡ H.Epoch e → decode reportFields (fedIn s x report .report) 0 ≡ reportRow e
+  report-back {e} h q =
+      let small : Small e = subst SmallIn q (report-small (stateIn s) x bytes h) in
+      let n : e .n < 256 = omega (arith, small .n) in
+      ap (λ (t : List ℕ). decode reportFields t 0) (feeds .reported ∙ ap (λ (y : Happened). happenedStored y report) q ∙ sym (stored-front reportFields (reportRow e) report room))
+      ∙ decode-stored reportFields (reportRow e) report 0 (omega arith)
+      (record { fits = small .sender }, (record { fits = small .wn }, (record { fits = small .tow }, (record { fits = n }, (record { fits = small .observations }, tt)))))
+      (refl, (refl, (refl, (refl, (refl, tt)))))

@@ -1,0 +1,9 @@
+pub mod Parts
+pub mod Tables
+pub mod States
+pub mod Feeds
+pub mod Makes
+pub mod Tells
+pub mod Lives
+pub mod Enlists
+pub mod Grows

@@ -1,0 +1,164 @@
+-- What the bytes of a collator stand for after a place, or a whole collator, is stored among them. Assumes nothing.
+use mathlib.Core.Path.{_≡_, refl, sym, ap, _∙_}
+use mathlib.Core.Bool.{Bool, true, false}
+use mathlib.Core.List.{List}
+use Prim.Native.Nat.{ℕ, _+_, _^_, _≤_, _<_}
+use native.Mathlib.Omega.{arith}
+use lib.Dec.{ltb}
+use lib.ListN.{length, getD, set}
+use borrow.Author.Tests.{ltb-true, ltb-false}
+use Rattle.wire.specs.Field.{HeldRow, SettledRow, Row, size}
+use Rattle.wire.proofs.Fields.{length-row}
+use Rattle.crc.specs.Table.{tabulated}
+use Rattle.runs.specs.Run.{stepped}
+use Rattle.epochs.specs.Collator.{idle}
+use Rattle.packets.specs.declared.packet.Packet.{Packet}
+use Rattle.runs.specs.declared.running.Part.{Part}
+use Rattle.runs.specs.declared.running.Run.{Run}
+use Rattle.runs.specs.declared.running.Run.the-variants.{Idle, Open}
+use Rattle.epochs.specs.declared.collating.Place.{Place}
+use Rattle.runs.specs.declared.running.Stepped.{Stepped}
+use Rattle.epochs.specs.declared.collating.Collator.{Collator}
+use Rattle.runs.proofs.StepCases.{step-cases}
+use Rattle.states.specs.State.{countFields, seatFields, slotFields, seatsAt, placesAt, stateSize, seatAt, slotAt, slotRow, slotMake, placeOf, slotFor, slotOf, placeIn, placeStored, sendersIn, seatIn, seatsIn, stateIn, countStored, seatRow, seatsStored, placeRow, collatorStored}
+use Rattle.states.proofs.Parts.{decode-stored, decode-before, decode-after}
+use Rattle.states.proofs.Tables.{tabulated-set, tabulated-same, tabulated-all, rows-own, rows-before, length-stored}
+
+-- ---- a place that its bytes hold
+
+pub record SmallPart (x : Part) : Type 0 where
+  pub tow : x .key .tow < 2 ^ 32
+  pub wn : x .key .wn < 65536
+  pub n : x .key .n < 256
+  pub next : x .next < 256
+  pub total : x .total < 65536
+
+abbrev pub SmallRun : Run → Type 0
+SmallRun Idle = Unit {0}
+SmallRun (Open part) = SmallPart part
+
+abbrev pub Small : Place → Type 0
+Small place = SmallRun (place .run)
+
+held : (r : Run) → SmallRun r → HeldRow slotFields (slotRow (slotFor r))
+held Idle h =
+    (record { fits = omega arith }, (record { fits = omega arith }, (record { fits = omega arith }, (record { fits = omega arith }, (record { fits = omega arith }, (record { fits = omega arith }, tt))))))
+held (Open part) h =
+    (record { fits = omega arith }, (record { fits = h .tow }, (record { fits = h .wn }, (record { fits = h .n }, (record { fits = h .next }, (record { fits = h .total }, tt))))))
+
+settled : (r : Run) → SettledRow slotFields (slotRow (slotFor r))
+settled r = (refl, (refl, (refl, (refl, (refl, (refl, tt))))))
+
+-- a place comes back from its numbers
+back : (r : Run) → placeOf (slotFor r) ≡ record { run = r }
+back Idle = refl
+back (Open part) = refl
+
+-- a packet whose numbers are small leaves a run whose numbers are
+pub record SmallPacket (p : Packet) : Type 0 where
+  pub tow : p .key .tow < 2 ^ 32
+  pub wn : p .key .wn < 65536
+  pub n : p .key .n < 256
+  pub observations : p .observations < 65536
+
+pub stepped-small : (p : Packet) → SmallPacket p → (run : Run) → SmallRun (stepped run p .run)
+stepped-small p small =
+    step-cases (λ (s : Stepped). SmallRun (s .run)) p tt (λ total h. tt)
+    (λ total h. record { tow = small .tow; wn = small .wn; n = small .n; next = omega arith; total = h (small .observations) })
+
+-- ---- one place stored
+
+module _ (s : List ℕ) (long : stateSize ≤ length s) (i : ℕ) (h : i < 8) (place : Place) where
+  room : slotAt i + size slotFields ≤ length s
+  room = omega arith
+
+  pub own-place : Small place → placeIn (placeStored s i place) i ≡ place
+  own-place small =
+      ap (λ (v : Row slotFields). placeOf (slotMake v))
+      (decode-stored slotFields (slotRow (slotOf place)) s (slotAt i) room (held (place .run) small) (settled (place .run)))
+      ∙ back (place .run)
+
+  pub other-place : (j : ℕ) → (j ≡ i → ⊥) → placeIn (placeStored s i place) j ≡ placeIn s j
+  other-place j other = by (ltb j i) refl
+    where
+      by : (t : Bool) → ltb j i ≡ t → placeIn (placeStored s i place) j ≡ placeIn s j
+      by true e =
+          let below : j < i = ltb-true j i e in
+          ap (λ (v : Row slotFields). placeOf (slotMake v)) (decode-before slotFields (slotRow (slotOf place)) s (slotAt i) room slotFields (slotAt j) (omega arith))
+      by false e =
+          let above : i ≤ j = ltb-false j i e in
+          let apart : i < j = omega arith in
+          ap (λ (v : Row slotFields). placeOf (slotMake v)) (decode-after slotFields (slotRow (slotOf place)) s (slotAt i) room slotFields (slotAt j) (omega arith))
+
+  same-count : sendersIn (placeStored s i place) ≡ sendersIn s
+  same-count = ap (λ (v : Row countFields). v .0) (decode-before slotFields (slotRow (slotOf place)) s (slotAt i) room countFields 0 (omega arith))
+
+  same-seats : seatsIn (placeStored s i place) ≡ seatsIn s
+  same-seats =
+      tabulated-same (seatIn (placeStored s i place)) (seatIn s) 8
+      λ j b.
+      ap (λ (v : Row seatFields). v .0) (decode-before slotFields (slotRow (slotOf place)) s (slotAt i) room seatFields (seatAt j) (omega arith))
+
+  -- the bytes stand for the same collator with that place
+  pub state-place : Small place
+      → stateIn (placeStored s i place) ≡ record { places = set (stateIn s .places) i place; roster = stateIn s .roster; count = stateIn s .count }
+  state-place small =
+      let places : tabulated (placeIn (placeStored s i place)) 8 ≡ set (tabulated (placeIn s) 8) i place
+      = tabulated-set (placeIn s) (placeIn (placeStored s i place)) 8 i h (λ k b. other-place k) ∙ ap (set (tabulated (placeIn s) 8) i) (own-place small) in
+      λ k. record { places = places k; roster = same-seats k; count = same-count k }
+
+-- ---- a whole collator stored
+
+-- a collator that its bytes hold
+pub record Held (c : Collator) : Type 0 where
+  pub count : c .count < 256
+  pub seats : length (c .roster) ≡ 8
+  pub senders : (i : ℕ) → i < 8 → getD (c .roster) i 0 < 65536
+  pub eight : length (c .places) ≡ 8
+  pub small : (i : ℕ) → i < 8 → Small (getD (c .places) i idle)
+
+pub length-collator : (c : Collator) (s : List ℕ) → length (collatorStored c s) ≡ length s
+length-collator c s =
+    length-stored slotFields (placeRow (c .places)) (seatsStored (c .roster) (countStored (c .count) s)) placesAt 8
+    ∙ length-stored seatFields (seatRow (c .roster)) (countStored (c .count) s) seatsAt 8
+    ∙ length-row countFields (c .count, tt) s 0
+
+module _ (c : Collator) (h : Held c) (s : List ℕ) (long : stateSize ≤ length s) where
+  counted-long : stateSize ≤ length (countStored (c .count) s)
+  counted-long = omega (arith, length-row countFields (c .count, tt) s 0)
+
+  seated-long : stateSize ≤ length (seatsStored (c .roster) (countStored (c .count) s))
+  seated-long = omega (arith, counted-long, length-stored seatFields (seatRow (c .roster)) (countStored (c .count) s) seatsAt 8)
+
+  count-back : sendersIn (collatorStored c s) ≡ c .count
+  count-back =
+      let first = countStored (c .count) s in
+      ap (λ (v : Row countFields). v .0)
+      (rows-before slotFields (placeRow (c .places)) (seatsStored (c .roster) first) placesAt countFields 0 8 (omega (arith, seated-long)) (omega arith)
+      ∙ rows-before seatFields (seatRow (c .roster)) first seatsAt countFields 0 8 (omega (arith, counted-long)) (omega arith)
+      ∙ decode-stored countFields (c .count, tt) s 0 (omega arith) (record { fits = h .count }, tt) (refl, tt))
+
+  seat-back : (j : ℕ) → j < 8 → seatIn (collatorStored c s) j ≡ getD (c .roster) j 0
+  seat-back j b =
+      let first = countStored (c .count) s in
+      ap (λ (v : Row seatFields). v .0)
+      (rows-before slotFields (placeRow (c .places)) (seatsStored (c .roster) first) placesAt seatFields (seatAt j) 8 (omega (arith, seated-long)) (omega arith)
+      ∙ rows-own seatFields (seatRow (c .roster)) first seatsAt 8 (omega (arith, counted-long)) (λ k d. ((record { fits = h .senders k d }, tt), (refl, tt))) j b)
+
+  place-back : (j : ℕ) → j < 8 → placeIn (collatorStored c s) j ≡ getD (c .places) j idle
+  place-back j b =
+      let run : ℕ → Run = λ k. getD (c .places) k idle .run in
+      ap (λ (v : Row slotFields). placeOf (slotMake v))
+      (rows-own slotFields (placeRow (c .places)) (seatsStored (c .roster) (countStored (c .count) s)) placesAt 8 (omega (arith, seated-long))
+      (λ k d. (held (run k) (h .small k d), settled (run k))) j b)
+      ∙ back (run j)
+
+  -- the bytes stand for that collator
+  pub state-stored : stateIn (collatorStored c s) ≡ c
+  state-stored =
+      let t = collatorStored c s in
+      let seats : tabulated (seatIn t) 8 ≡ c .roster
+      = ap (tabulated (seatIn t)) (sym (h .seats)) ∙ tabulated-all (seatIn t) (c .roster) 0 (λ j b. seat-back j (omega (arith, h .seats))) in
+      let places : tabulated (placeIn t) 8 ≡ c .places
+      = ap (tabulated (placeIn t)) (sym (h .eight)) ∙ tabulated-all (placeIn t) (c .places) idle (λ j b. place-back j (omega (arith, h .eight))) in
+      λ k. record { places = places k; roster = seats k; count = count-back k }

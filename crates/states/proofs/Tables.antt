@@ -1,0 +1,94 @@
+-- Rows stored one after the other: each decodes where it stands. And lists of what stands at each index. Assumes nothing.
+use mathlib.Core.Path.{_≡_, refl, sym, ap, ap₂, _∙_}
+use mathlib.Core.Bool.{Bool, true, false}
+use mathlib.Core.List.{List, [], _∷_}
+use Prim.Native.Nat.{ℕ, zero, suc, _+_, _*_, _≤_, _<_}
+use native.Mathlib.Nat.{suc-mul, mul-le-mul-right}
+use native.Mathlib.Numerals.{add-one}
+use native.Mathlib.Omega.{arith}
+use lib.Dec.{eqb}
+use lib.ListN.{length, getD, set}
+use borrow.Author.Tests.{eqb-true, eqb-false}
+use Rattle.wire.specs.Field.{Field, Row, HeldRow, SettledRow, size, decode, rowStored}
+use Rattle.wire.proofs.Fields.{length-row}
+use Rattle.crc.specs.Table.{tabulated}
+use Rattle.states.specs.Lent.{firstRowsStored}
+use Rattle.states.proofs.Parts.{decode-stored, decode-before}
+
+-- ---- lists by index
+
+module _ {A : Type 0} where
+  pub tabulated-same : (f g : ℕ → A) (n : ℕ) → ((j : ℕ) → j < n → f j ≡ g j) → tabulated f n ≡ tabulated g n
+  unfolding tabulated
+  tabulated-same f g zero h = refl
+  tabulated-same f g (suc n) h =
+      ap₂ (λ (x : A) (xs : List A). x ∷ xs) (h 0 (omega arith)) (tabulated-same (λ k. f (suc k)) (λ k. g (suc k)) n (λ j b. h (suc j) (omega arith)))
+
+  -- one index alone is another's
+  pub tabulated-set : (f g : ℕ → A) (n j : ℕ) → j < n → ((k : ℕ) → k < n → (k ≡ j → ⊥) → g k ≡ f k) → tabulated g n ≡ set (tabulated f n) j (g j)
+  unfolding tabulated
+  tabulated-set f g zero j h others = absurd (omega arith)
+  tabulated-set f g (suc n) zero h others =
+      ap (λ (xs : List A). g 0 ∷ xs) (tabulated-same (λ k. g (suc k)) (λ k. f (suc k)) n (λ k b. others (suc k) (omega arith) (λ e. omega arith)))
+  tabulated-set f g (suc n) (suc j) h others =
+      ap₂ (λ (x : A) (xs : List A). x ∷ xs) (others 0 (omega arith) (λ e. omega arith))
+      (tabulated-set (λ k. f (suc k)) (λ k. g (suc k)) n j (omega arith) (λ k b other. others (suc k) (omega arith) (λ e. other (omega arith))))
+
+  pub tabulated-all : (f : ℕ → A) (xs : List A) (d : A) → ((j : ℕ) → j < length xs → f j ≡ getD xs j d) → tabulated f (length xs) ≡ xs
+  unfolding tabulated
+  tabulated-all f [] d h = refl
+  tabulated-all f (x ∷ xs) d h =
+      ap₂ (λ (x : A) (xs : List A). x ∷ xs) (h 0 (omega arith)) (tabulated-all (λ k. f (suc k)) xs d (λ j b. h (suc j) (omega arith)))
+
+-- ---- rows
+
+module _ (fs : List Field) (row : ℕ → Row fs) (s : List ℕ) (at : ℕ) where
+  pub length-stored : (n : ℕ) → length (firstRowsStored fs row n s at) ≡ length s
+  unfolding firstRowsStored
+  length-stored zero = refl
+  length-stored (suc n) = length-row fs (row n) (firstRowsStored fs row n s at) (at + n * size fs) ∙ length-stored n
+
+  pub rows-none : s ≡ firstRowsStored fs row 0 s at
+  unfolding firstRowsStored
+  rows-none = refl
+
+  -- one row more
+  pub rows-more : (n : ℕ) {t u : List ℕ} → t ≡ firstRowsStored fs row n s at → u ≡ rowStored fs (row n) t (at + n * size fs) → u ≡ firstRowsStored fs row (n + 1) s at
+  unfolding firstRowsStored
+  rows-more n p q = q ∙ ap (λ (t : List ℕ). rowStored fs (row n) t (at + n * size fs)) p ∙ rw add-one
+
+  -- the row after n others has room
+  next-room : (n : ℕ) → at + suc n * size fs ≤ length s → at + n * size fs + size fs ≤ length (firstRowsStored fs row n s at)
+  next-room n room = omega (arith, length-stored n, suc-mul n (size fs))
+
+  fewer-room : (n : ℕ) → at + suc n * size fs ≤ length s → at + n * size fs ≤ length s
+  fewer-room n room = omega (arith, suc-mul n (size fs))
+
+  module _ (gs : List Field) (b : ℕ) where
+    pub rows-before : (n : ℕ) → at + n * size fs ≤ length s → b + size gs ≤ at → decode gs (firstRowsStored fs row n s at) b ≡ decode gs s b
+    unfolding firstRowsStored
+    rows-before zero room h = refl
+    rows-before (suc n) room h =
+        decode-before fs (row n) (firstRowsStored fs row n s at) (at + n * size fs) (next-room n room) gs b (omega arith)
+        ∙ rows-before n (fewer-room n room) h
+
+  -- each row decodes where it stands
+  pub rows-own : (n : ℕ) → at + n * size fs ≤ length s → ((j : ℕ) → j < n → HeldRow fs (row j) × SettledRow fs (row j))
+      → (j : ℕ) → j < n → decode fs (firstRowsStored fs row n s at) (at + j * size fs) ≡ row j
+  unfolding firstRowsStored
+  rows-own zero room kept j h = absurd (omega arith)
+  rows-own (suc n) room kept j h = by (eqb j n) refl (rows-own n (fewer-room n room) (λ k b. kept k (omega arith)) j)
+    where
+      by : (t : Bool) → eqb j n ≡ t → (j < n → decode fs (firstRowsStored fs row n s at) (at + j * size fs) ≡ row j)
+          → decode fs (firstRowsStored fs row (suc n) s at) (at + j * size fs) ≡ row j
+      by true e earlier =
+          let same : j ≡ n = eqb-true j n e in
+          ap (λ (k : ℕ). decode fs (firstRowsStored fs row (suc n) s at) (at + k * size fs)) same
+          ∙ decode-stored fs (row n) (firstRowsStored fs row n s at) (at + n * size fs) (next-room n room) (kept n (omega arith) .0) (kept n (omega arith) .1)
+          ∙ ap row (sym same)
+      by false e earlier =
+          let other : j ≡ n → ⊥ = eqb-false j n e in
+          let below : suc j ≤ n = omega arith in
+          let ordered : suc j * size fs ≤ n * size fs = mul-le-mul-right (size fs) below in
+          decode-before fs (row n) (firstRowsStored fs row n s at) (at + n * size fs) (next-room n room) fs (at + j * size fs) (omega (arith, suc-mul j (size fs)))
+          ∙ earlier below

@@ -1,0 +1,31 @@
+-- `states::feeding::recognise_in` meets its contract: the roster is that of the bytes.
+use mathlib.Core.Path.{ap₂, _∙_}
+use mathlib.Core.List.{List}
+use Prim.Native.Nat.{ℕ}
+use lib.ListN.{take}
+use Rattle.epochs.specs.Collator.{forPlace}
+use borrow.Author.Needs.{needs}
+use Rattle.states.proofs.feeding.recognise_in.Statement.{statement}
+use Rattle.states.proofs.feeding.recognise_in.Tie as tie
+
+seats-in-requires : tie.Need-seats-in-requires
+seats-in-requires c κs = search needs
+
+read-u8-requires : tie.Need-read-u8-requires
+read-u8-requires c κs = search needs
+
+cast-count : tie.Need-cast-count
+cast-count c = search needs
+
+recognise-requires : tie.Need-recognise-requires
+recognise-requires c κs = search needs
+
+returns : tie.Need-returns
+returns c =
+    let a = c .before .before .before .before .before .args in
+    c .recognise .ensures
+    ∙ ap₂ (λ (n : ℕ) (xs : List ℕ). forPlace (take n xs) (record { kind = a .kind; sender = a .sender; payload = a .payload .now })) (c .before .read-u8 .ensures) (c .before .before .seats-in .ensures)
+
+pub recognise-in-spec : {M : Type 1} → statement M
+recognise-in-spec =
+    tie.close (tie.spec seats-in-requires read-u8-requires cast-count recognise-requires returns)

@@ -1,0 +1,29 @@
+-- `states::growing::enlist_in` meets its contract.
+use mathlib.Core.Path.{sym, _∙_}
+use Rattle.states.proofs.Enlists.{enlists, enlists-none}
+use borrow.Author.Needs.{needs}
+use Rattle.states.proofs.growing.enlist_in.Statement.{statement}
+use Rattle.states.proofs.growing.enlist_in.Tie as tie
+
+is-obs-requires : tie.Need-is-obs-requires
+is-obs-requires c κs = search needs
+
+join-requires : tie.Need-join-requires
+join-requires c κs = search needs
+
+same-length : tie.Need-same-length
+same-length c = search needs
+
+returns : tie.Need-returns
+returns c =
+    let call = c .before .before .before .before .before in
+    let a = call .before .before .args in
+    enlists (a .s .now) (a .kind) (a .sender) (sym (call .is-obs .ensures) ∙ c .before .before .before .before .if1 .taken) (c .before .before .join .ensures)
+
+returns-2 : tie.Need-returns-2
+returns-2 c =
+    let a = c .before .before .before .args in
+    enlists-none (a .s .now) (a .kind) (a .sender) (sym (c .before .is-obs .ensures) ∙ c .if1 .left)
+
+pub enlist-in-spec : {M : Type 1} → statement M
+enlist-in-spec = tie.close (tie.spec is-obs-requires join-requires same-length returns returns-2)

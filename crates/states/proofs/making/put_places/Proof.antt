@@ -1,0 +1,60 @@
+-- `states::making::put_places` meets its contract. The loop's invariant: the first i places are stored.
+use mathlib.Core.Path.{_≡_, ap, _∙_}
+use Prim.Native.Nat.{ℕ, _-_, _≤_}
+use native.Mathlib.Omega.{arith}
+use borrow.Author.Needs.{needs}
+use lib.ListN.{length}
+use Rattle.states.specs.Lent.{firstRowsStored}
+use Rattle.states.specs.State.{slotFields, placesAt, placeRow}
+use Rattle.states.proofs.Tables.{rows-none, rows-more, length-stored}
+use Rattle.states.proofs.making.put_places.Statement.{statement}
+use Rattle.states.proofs.making.put_places.Tie as tie
+
+abbrev Inv-loop : tie.InvT-loop
+Inv-loop s₀ places i₀ s i = (i ≤ 8) × (s ≡ firstRowsStored slotFields (placeRow places) i s₀ placesAt)
+
+abbrev μ-loop : tie.MeasureT-loop
+μ-loop s₀ places i₀ s i = 8 - i
+
+loop-holds : tie.Need-loop-holds Inv-loop μ-loop
+loop-holds c = (omega arith, rows-none _ _ _ _)
+
+mul-place : tie.Need-mul-place Inv-loop μ-loop
+mul-place c = omega arith
+
+array-copy-out-place : tie.Need-array-copy-out-place Inv-loop μ-loop
+array-copy-out-place c = omega arith
+
+put-place-requires : tie.Need-put-place-requires Inv-loop μ-loop
+put-place-requires c κs = search needs
+
+add-i : tie.Need-add-i Inv-loop μ-loop
+add-i c = omega arith
+
+loop-less : tie.Need-loop-less Inv-loop μ-loop
+loop-less c = omega arith
+
+loop-again : tie.Need-loop-again Inv-loop μ-loop
+loop-again c = let k = c .before .before .before .before .before .before .loop in let a = c .before .before .before .before .before .before .before .before .args in (omega arith, rows-more slotFields (placeRow (a .t2)) (a .s .now) placesAt (k .i) (k .inv .1) (c .before .before .put-place .ensures))
+
+same-length : tie.Need-same-length Inv-loop μ-loop
+same-length c = let a = c .before .before .before .args in ap length (c .before .loop .inv .1) ∙ length-stored slotFields (placeRow (a .t2)) (a .s .now) placesAt (c .before .loop .i)
+
+returns : tie.Need-returns Inv-loop μ-loop
+returns c = let a = c .before .before .before .args in let end : c .before .loop .i ≡ 8 = omega arith in c .before .loop .inv .1 ∙ ap (λ (n : ℕ). firstRowsStored slotFields (placeRow (a .t2)) n (a .s .now) placesAt) end
+
+pub put-places-spec : {M : Type 1} → statement M
+put-places-spec =
+    tie.close
+    (tie.spec
+    Inv-loop
+    μ-loop
+    loop-holds
+    mul-place
+    array-copy-out-place
+    put-place-requires
+    add-i
+    loop-less
+    loop-again
+    same-length
+    returns)

@@ -1,0 +1,55 @@
+-- What `grow` and `enlist` answer and leave in the bytes of a collator, whose roster takes senders as they come. Assumes nothing.
+use Prim.Native.Nat.{ℕ, _+_}
+use mathlib.Core.Bool.{cond}
+use mathlib.Core.List.{List, []}
+use lib.Dec.{leb}
+use lib.ListN.{length}
+use Rattle.wire.specs.Refusals.{Answer, ordered, leaves, zeroOr, roomFor}
+use Rattle.wire.specs.Field.{rowStored}
+use Rattle.observation.specs.Edition.{isObs}
+use Rattle.epochs.specs.Search.{seatOf}
+use Rattle.epochs.specs.Collator.{rosterOf, made}
+use Rattle.epochs.specs.declared.seating.Seat.{Seat}
+use Rattle.epochs.specs.declared.seating.Seat.the-variants.{At, Nowhere}
+use Rattle.epochs.specs.declared.collating.Collator.{Collator}
+use Rattle.states.specs.State.{stateSize, seatFields, seatAt, sendersIn, stateIn, countStored, collatorStored}
+
+-- ---- a collator that lists nobody: 32
+
+unfoldable pub growingIn : ℕ → Answer Collator
+growingIn room = ordered (roomFor stateSize room) (made [] .collator)
+
+abbrev pub growingAnswer : ℕ → ℕ
+growingAnswer room = zeroOr (growingIn room)
+
+abbrev pub growingStored : List ℕ → List ℕ
+growingStored s = leaves collatorStored (growingIn (length s)) s
+
+-- ---- a sender is enlisted
+
+-- the seat after the last, and one sender more
+unfoldable pub seatTaken : List ℕ → ℕ → List ℕ
+seatTaken s sender = countStored (sendersIn s + 1) (rowStored seatFields (sender, tt) s (seatAt (sendersIn s)))
+
+-- a sender that has no seat yet gets the next one, while there is room
+abbrev pub seatedBy : Seat → List ℕ → ℕ → List ℕ
+seatedBy (At i) s sender = s
+seatedBy Nowhere s sender = cond (leb 8 (sendersIn s)) s (seatTaken s sender)
+
+abbrev pub joinedIn : List ℕ → ℕ → List ℕ
+joinedIn s sender = seatedBy (seatOf (rosterOf (stateIn s)) sender 0) s sender
+
+-- the sender of a frame of type OBS
+unfoldable pub enlistedIn : List ℕ → ℕ → ℕ → List ℕ
+unfolding isObs
+enlistedIn s kind sender = cond (isObs kind) (joinedIn s sender) s
+
+-- 32
+unfoldable pub enlistIn : List ℕ → ℕ → ℕ → Answer (List ℕ)
+enlistIn s kind sender = ordered (roomFor stateSize (length s)) (enlistedIn s kind sender)
+
+abbrev pub enlistAnswer : List ℕ → ℕ → ℕ → ℕ
+enlistAnswer s kind sender = zeroOr (enlistIn s kind sender)
+
+abbrev pub enlistStored : List ℕ → ℕ → ℕ → List ℕ
+enlistStored s kind sender = leaves (λ t was. t) (enlistIn s kind sender) s

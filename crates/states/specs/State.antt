@@ -1,0 +1,111 @@
+-- A collator in 105 bytes: how many senders are listed, the eight seats of the roster, the eight places. Assumes nothing.
+use Prim.Native.Nat.{ℕ, _+_, _*_}
+use mathlib.Core.Bool.{cond}
+use mathlib.Core.List.{List, [], _∷_}
+use lib.Dec.{eqb}
+use lib.ListN.{getD}
+use Rattle.wire.specs.Number.{numberAt}
+use Rattle.wire.specs.Field.{Field, any, u8, u16, u32, Row, size, decode, rowStored}
+use Rattle.crc.specs.Table.{tabulated}
+use Rattle.epochs.specs.Collator.{idle}
+use Rattle.runs.specs.declared.running.Run.{Run}
+use Rattle.runs.specs.declared.running.Run.the-variants.{Idle, Open}
+use Rattle.epochs.specs.declared.collating.Place.{Place}
+use Rattle.epochs.specs.declared.collating.Collator.{Collator}
+use Rattle.states.specs.Lent.{firstRowsStored}
+use Rattle.states.specs.declared.placing.Slot.{Slot}
+
+-- ---- where the parts stand
+
+abbrev pub countFields : List Field
+countFields = any u8 ∷ []
+
+abbrev pub seatFields : List Field
+seatFields = any u16 ∷ []
+
+-- opened, tow, wn, n, next, total
+abbrev pub slotFields : List Field
+slotFields = any u8 ∷ any u32 ∷ any u16 ∷ any u8 ∷ any u8 ∷ any u16 ∷ []
+
+abbrev pub seatsAt : ℕ
+seatsAt = size countFields
+
+abbrev pub placesAt : ℕ
+placesAt = seatsAt + 8 * size seatFields
+
+abbrev pub stateSize : ℕ
+stateSize = placesAt + 8 * size slotFields
+
+-- where seat i and place i begin
+abbrev pub seatAt : ℕ → ℕ
+seatAt i = seatsAt + i * size seatFields
+
+abbrev pub slotAt : ℕ → ℕ
+slotAt i = placesAt + i * size slotFields
+
+-- ---- one place
+
+abbrev pub slotRow : Slot → Row slotFields
+slotRow x = (x .opened, (x .tow, (x .wn, (x .n, (x .next, (x .total, tt))))))
+
+abbrev pub slotMake : Row slotFields → Slot
+slotMake v = record { opened = v .0; tow = v .1 .0; wn = v .1 .1 .0; n = v .1 .1 .1 .0; next = v .1 .1 .1 .1 .0; total = v .1 .1 .1 .1 .1 .0 }
+
+-- idle where opened is 0
+abbrev pub placeOf : Slot → Place
+placeOf x =
+    cond (eqb (x .opened) 0) idle
+    (record { run = Open (record { key = record { tow = x .tow; wn = x .wn; n = x .n }; next = x .next; total = x .total }) })
+
+abbrev pub slotFor : Run → Slot
+slotFor Idle = record { opened = 0; tow = 0; wn = 0; n = 0; next = 0; total = 0 }
+slotFor (Open part) = record { opened = 1; tow = part .key .tow; wn = part .key .wn; n = part .key .n; next = part .next; total = part .total }
+
+abbrev pub slotOf : Place → Slot
+slotOf place = slotFor (place .run)
+
+abbrev pub slotIn : List ℕ → ℕ → Slot
+slotIn s i = slotMake (decode slotFields s (slotAt i))
+
+abbrev pub slotStored : List ℕ → ℕ → Slot → List ℕ
+slotStored s i x = rowStored slotFields (slotRow x) s (slotAt i)
+
+abbrev pub placeIn : List ℕ → ℕ → Place
+placeIn s i = placeOf (slotIn s i)
+
+abbrev pub placeStored : List ℕ → ℕ → Place → List ℕ
+placeStored s i place = slotStored s i (slotOf place)
+
+-- ---- what the bytes stand for; `tabulated f 8` is f at 0, 1, .. 7
+
+abbrev pub sendersIn : List ℕ → ℕ
+sendersIn s = numberAt 1 s 0
+
+abbrev pub seatIn : List ℕ → ℕ → ℕ
+seatIn s i = numberAt 2 s (seatAt i)
+
+abbrev pub seatsIn : List ℕ → List ℕ
+seatsIn s = tabulated (seatIn s) 8
+
+abbrev pub stateIn : List ℕ → Collator
+stateIn s = record { places = tabulated (placeIn s) 8; roster = seatsIn s; count = sendersIn s }
+
+-- ---- a collator stored
+
+abbrev pub countStored : ℕ → List ℕ → List ℕ
+countStored n s = rowStored countFields (n, tt) s 0
+
+abbrev pub seatRow : List ℕ → ℕ → Row seatFields
+seatRow roster i = (getD roster i 0, tt)
+
+abbrev pub seatsStored : List ℕ → List ℕ → List ℕ
+seatsStored roster s = firstRowsStored seatFields (seatRow roster) 8 s seatsAt
+
+abbrev pub placeRow : List Place → ℕ → Row slotFields
+placeRow places i = slotRow (slotOf (getD places i idle))
+
+abbrev pub placesStored : List Place → List ℕ → List ℕ
+placesStored places s = firstRowsStored slotFields (placeRow places) 8 s placesAt
+
+abbrev pub collatorStored : Collator → List ℕ → List ℕ
+collatorStored c s = placesStored (c .places) (seatsStored (c .roster) (countStored (c .count) s))

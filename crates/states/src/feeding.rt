@@ -1,0 +1,121 @@
+// A frame fed to a collator in lent bytes. The roster is read, and then the frame's own place alone is read, stepped and stored.
+ghost use mathlib.Core.Path.{_≡_};
+ghost use Prim.Native.Nat.{_<_, _≤_};
+ghost use lib.ListN.{length};
+ghost use Rattle.wire.specs.Field.{rowStored};
+ghost use Rattle.epochs.specs.Collator.{recognisedAnswer, forPlace, rosterOf};
+ghost use Rattle.states.specs.State.{seatIn, seatsIn, stateIn, placeIn, placeStored};
+ghost use Rattle.states.specs.Feed.{reportFields, reportSize, reportRow, endedNumber, endedStored, stepIn, fedIn};
+use crate::placing::place_in;
+use crate::placing::put_place;
+use crate::sizes::REPORT_SIZE;
+use crate::sizes::SEAT_SIZE;
+use crate::sizes::SEATS_AT;
+use crate::sizes::STATE_SIZE;
+use epochs::Place;
+use epochs::Recognised;
+use epochs::Report;
+use packets::Packet;
+use runs::Ended;
+
+fn seat_in(s: &[u8], i: usize) -> u16
+    requires { ⌜ i < 8 ⌝ }
+    ensures { λ r. ⌜ r ≡ seatIn (now (s .entry)) i ⌝ }
+{
+    wire::read_u16(s, SEATS_AT + i * SEAT_SIZE)
+}
+
+pub(crate) fn seats_in(s: &[u8]) -> [u16; 8]
+    ensures { λ r. ⌜ r ≡ seatsIn (now (s .entry)) ⌝ }
+{
+    [
+        seat_in(s, 0),
+        seat_in(s, 1),
+        seat_in(s, 2),
+        seat_in(s, 3),
+        seat_in(s, 4),
+        seat_in(s, 5),
+        seat_in(s, 6),
+        seat_in(s, 7),
+    ]
+}
+
+// What the frame is to the collator.
+fn recognise_in(s: &[u8], kind: u16, sender: u16, payload: &[u8]) -> Recognised
+    ensures { λ r. ⌜ recognisedAnswer r ≡ forPlace (rosterOf (stateIn (now (s .entry)))) (record { kind = kind; sender = sender; payload = now (payload .entry) }) ⌝ }
+{
+    let roster = seats_in(s);
+    let count = wire::read_u8(s, 0) as usize;
+    epochs::recognise(roster, count, kind, sender, payload)
+}
+
+// Place i takes a packet.
+fn take(s: &mut [u8], i: usize, packet: Packet) -> Ended
+    requires { ⌜ i < 8 ⌝ }
+    ensures { λ r. ⌜ r ≡ stepIn (now (s .entry)) i packet .ended ⌝ }
+    ensures { λ _. ⌜ now (s .exit) ≡ placeStored (now (s .entry)) i (record { run = stepIn (now (s .entry)) i packet .run }) ⌝ }
+{
+    let place = place_in(s, i);
+    let before = place.run;
+    let next = runs::step(before, packet);
+    let run = next.run;
+    put_place(s, i, Place { run });
+    next.ended
+}
+
+fn put_report(buf: &mut [u8], e: Report)
+    ensures { λ _. ⌜ now (buf .exit) ≡ rowStored reportFields (reportRow e) (now (buf .entry)) 0 ⌝ }
+{
+    wire::store_u16(buf, 0, e.sender);
+    wire::store_u16(buf, 2, e.wn);
+    wire::store_u32(buf, 4, e.tow);
+    wire::store_u8(buf, 8, e.n);
+    wire::store_u16(buf, 9, e.observations);
+}
+
+// 0, or 1 with an epoch's report.
+fn put_ended(buf: &mut [u8], sender: u16, packet: Packet, ended: Ended) -> u8
+    requires { ⌜ reportSize ≤ length (now buf) ⌝ }
+    ensures { λ r. ⌜ r ≡ endedNumber ended ⌝ }
+    ensures { λ _. ⌜ now (buf .exit) ≡ endedStored sender packet ended (now (buf .entry)) ⌝ }
+{
+    match ended {
+        Ended::Not => 0,
+        Ended::Whole(total) => {
+            let key = packet.key;
+            put_report(
+                buf,
+                Report {
+                    sender,
+                    wn: key.wn,
+                    tow: key.tow,
+                    n: key.n,
+                    observations: total,
+                },
+            );
+            1
+        }
+    }
+}
+
+// 32 where state or report is too short, then 46, 22, 43, 44, 45; 0 taken; 1 an epoch, whose row is at the start of report.
+pub fn feed(state: &mut [u8], kind: u16, sender: u16, payload: &[u8], report: &mut [u8]) -> u8
+    ensures { λ r. ⌜ r ≡ fedIn (now (state .entry)) (record { kind = kind; sender = sender; payload = now (payload .entry) }) (now (report .entry)) .answer ⌝ }
+    ensures { λ _. ⌜ now (state .exit) ≡ fedIn (now (state .entry)) (record { kind = kind; sender = sender; payload = now (payload .entry) }) (now (report .entry)) .state ⌝ }
+    ensures { λ _. ⌜ now (report .exit) ≡ fedIn (now (state .entry)) (record { kind = kind; sender = sender; payload = now (payload .entry) }) (now (report .entry)) .report ⌝ }
+{
+    if state.len() < STATE_SIZE {
+        return 32;
+    }
+    if report.len() < REPORT_SIZE {
+        return 32;
+    }
+    let recognised = recognise_in(state, kind, sender, payload);
+    match recognised {
+        Recognised::Refused(number) => number,
+        Recognised::For(i, packet) => {
+            let ended = take(state, i, packet);
+            put_ended(report, sender, packet, ended)
+        }
+    }
+}

@@ -1,0 +1,72 @@
+// A collator in lent bytes whose roster takes senders as they come: the first eight different ones of observation frames.
+ghost use mathlib.Core.Path.{_≡_};
+ghost use Prim.Native.Nat.{_<_};
+ghost use lib.ListN.{length};
+ghost use Rattle.states.specs.State.{sendersIn};
+ghost use Rattle.states.specs.Enlist.{growingAnswer, growingStored, seatTaken, joinedIn, enlistedIn, enlistAnswer, enlistStored};
+use crate::feeding::seats_in;
+use crate::making::put_collator;
+use crate::sizes::SEAT_SIZE;
+use crate::sizes::SEATS_AT;
+use crate::sizes::STATE_SIZE;
+use epochs::Collator;
+use epochs::Seat;
+
+// A fresh collator that lists nobody; 32 where the state has no room.
+pub fn grow(state: &mut [u8]) -> u8
+    ensures { λ r. ⌜ r ≡ growingAnswer (length (now (state .entry))) ⌝ }
+    ensures { λ _. ⌜ now (state .exit) ≡ growingStored (now (state .entry)) ⌝ }
+{
+    if state.len() < STATE_SIZE {
+        return 32;
+    }
+    let nobody = Collator::made(&[]);
+    let c = nobody.collator;
+    put_collator(state, c);
+    0
+}
+
+// The seat after the last, and one sender more.
+fn take_seat(s: &mut [u8], count: usize, sender: u16)
+    requires { ⌜ count < 8 ⌝ }
+    requires { ⌜ count ≡ sendersIn (now s) ⌝ }
+    ensures { λ _. ⌜ now (s .exit) ≡ seatTaken (now (s .entry)) sender ⌝ }
+{
+    wire::store_u16(s, SEATS_AT + count * SEAT_SIZE, sender);
+    wire::store_u8(s, 0, (count + 1) as u8);
+}
+
+// A sender that has no seat yet gets the next one, while there is room.
+fn join(s: &mut [u8], sender: u16)
+    ensures { λ _. ⌜ now (s .exit) ≡ joinedIn (now (s .entry)) sender ⌝ }
+{
+    let roster = seats_in(s);
+    let count = wire::read_u8(s, 0) as usize;
+    let seat = epochs::seat_of(roster, count, sender);
+    if let Seat::Nowhere = seat {
+        if count < 8 {
+            take_seat(s, count, sender);
+        }
+    }
+}
+
+// The sender of an observation frame has its seat before the frame is fed.
+fn enlist_in(s: &mut [u8], kind: u16, sender: u16)
+    ensures { λ _. ⌜ now (s .exit) ≡ enlistedIn (now (s .entry)) kind sender ⌝ }
+{
+    if observation::is_obs(kind) {
+        join(s, sender);
+    }
+}
+
+// 32 where the state has no room.
+pub fn enlist(state: &mut [u8], kind: u16, sender: u16) -> u8
+    ensures { λ r. ⌜ r ≡ enlistAnswer (now (state .entry)) kind sender ⌝ }
+    ensures { λ _. ⌜ now (state .exit) ≡ enlistStored (now (state .entry)) kind sender ⌝ }
+{
+    if state.len() < STATE_SIZE {
+        return 32;
+    }
+    enlist_in(state, kind, sender);
+    0
+}

@@ -1,0 +1,126 @@
+// A sender's place among the bytes of a collator.
+ghost use mathlib.Core.Path.{_≡_};
+ghost use Prim.Native.Nat.{_<_};
+ghost use Rattle.states.specs.State.{slotAt, placeOf, slotOf, slotIn, slotStored, placeIn, placeStored};
+use crate::sizes::PLACES_AT;
+use crate::sizes::SLOT_SIZE;
+use epochs::Place;
+use packets::Key;
+use runs::Part;
+use runs::Run;
+
+// A place as numbers; opened is 0 for one that is idle.
+pub struct Slot {
+    pub opened: u8,
+    pub tow: u32,
+    pub wn: u16,
+    pub n: u8,
+    pub next: u8,
+    pub total: u16,
+}
+
+fn place_of(slot: Slot) -> Place
+    ensures { λ r. ⌜ r ≡ placeOf slot ⌝ }
+{
+    if slot.opened == 0 {
+        return Place { run: Run::Idle };
+    }
+    Place {
+        run: Run::Open(Part {
+            key: Key {
+                tow: slot.tow,
+                wn: slot.wn,
+                n: slot.n,
+            },
+            next: slot.next,
+            total: slot.total,
+        }),
+    }
+}
+
+fn slot_of(place: Place) -> Slot
+    ensures { λ r. ⌜ r ≡ slotOf place ⌝ }
+{
+    let run = place.run;
+    match run {
+        Run::Idle => Slot {
+            opened: 0,
+            tow: 0,
+            wn: 0,
+            n: 0,
+            next: 0,
+            total: 0,
+        },
+        Run::Open(part) => {
+            let key = part.key;
+            Slot {
+                opened: 1,
+                tow: key.tow,
+                wn: key.wn,
+                n: key.n,
+                next: part.next,
+                total: part.total,
+            }
+        }
+    }
+}
+
+// Where the bytes of place i begin. Its remainder by 8 is i, which tells the compiler that all of them lie within a state.
+fn slot_at(i: usize) -> usize
+    requires { ⌜ i < 8 ⌝ }
+    ensures { λ r. ⌜ r ≡ slotAt i ⌝ }
+{
+    PLACES_AT + i % 8 * SLOT_SIZE
+}
+
+fn slot_in(s: &[u8], i: usize) -> Slot
+    requires { ⌜ i < 8 ⌝ }
+    ensures { λ r. ⌜ r ≡ slotIn (now (s .entry)) i ⌝ }
+{
+    let opened = slot_at(i);
+    let tow = opened + 1;
+    let wn = tow + 4;
+    let n = wn + 2;
+    let next = n + 1;
+    let total = next + 1;
+    Slot {
+        opened: wire::read_u8(s, opened),
+        tow: wire::read_u32(s, tow),
+        wn: wire::read_u16(s, wn),
+        n: wire::read_u8(s, n),
+        next: wire::read_u8(s, next),
+        total: wire::read_u16(s, total),
+    }
+}
+
+fn put_slot(s: &mut [u8], i: usize, slot: Slot)
+    requires { ⌜ i < 8 ⌝ }
+    ensures { λ _. ⌜ now (s .exit) ≡ slotStored (now (s .entry)) i slot ⌝ }
+{
+    let opened = slot_at(i);
+    let tow = opened + 1;
+    let wn = tow + 4;
+    let n = wn + 2;
+    let next = n + 1;
+    let total = next + 1;
+    wire::store_u8(s, opened, slot.opened);
+    wire::store_u32(s, tow, slot.tow);
+    wire::store_u16(s, wn, slot.wn);
+    wire::store_u8(s, n, slot.n);
+    wire::store_u8(s, next, slot.next);
+    wire::store_u16(s, total, slot.total);
+}
+
+pub(crate) fn place_in(s: &[u8], i: usize) -> Place
+    requires { ⌜ i < 8 ⌝ }
+    ensures { λ r. ⌜ r ≡ placeIn (now (s .entry)) i ⌝ }
+{
+    place_of(slot_in(s, i))
+}
+
+pub(crate) fn put_place(s: &mut [u8], i: usize, place: Place)
+    requires { ⌜ i < 8 ⌝ }
+    ensures { λ _. ⌜ now (s .exit) ≡ placeStored (now (s .entry)) i place ⌝ }
+{
+    put_slot(s, i, slot_of(place));
+}
