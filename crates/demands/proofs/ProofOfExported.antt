@@ -1,29 +1,69 @@
 -- The demands hold of the functions that C and Rust link, all of it by citations. Assumes nothing.
-use mathlib.Core.Path.{refl, sym, ap, _∙_}
+use mathlib.Core.Path.{_≡_, refl, sym, ap, _∙_}
+use mathlib.Core.Bool.{false}
 use mathlib.Core.List.{List}
+use Prim.Native.Nat.{ℕ}
+use Rattle.row_reader.specs.ReadRow.{readRow, readOne}
+use Rattle.row_reader.proofs.EachRead.{all-read}
+use Rattle.row_writer.specs.WriteRow.{writeRow}
+use Rattle.row_writer.specs.WriteObsRow.{writeObsRow}
+use Rattle.row_writer.proofs.WrittenTyped.{as-typed}
 use Rattle.epochs.specs.Epoch.{reportsIn, reportsOf}
 use Rattle.epochs.specs.declared.collating.Happened.{Happened}
 use Rattle.epochs.proofs.Making.{seated}
 use Rattle.epochs.proofs.Collations.{same-state, same-reports}
 use Rattle.exports.specs.Found.{nextFrom}
 use Rattle.exports.specs.Totals.{totalsFor}
+use Rattle.exports.specs.Flagged.{tableFor, isTable, fixAnswer, availableAnswer, repairedAnswer}
 use Rattle.states.specs.Feed.{madeIn, forPlaceIn}
+use Rattle.states.specs.Enlist.{growingIn, enlistIn}
 use Rattle.exports.proofs.LentRows.{next-left}
 use Rattle.states.proofs.Lives.{told-made, stands, tells-epoch}
 use Rattle.states.proofs.Grows.{grows}
-use Rattle.exports.proofs.Shown.{found-shown, counts-shown}
-use Rattle.exports.proofs.Untouched.{next-keeps, totals-keeps, list-keeps, collator-keeps, feed-keeps}
-use Rattle.demands.specs.Exported.{ByNumber, Exported}
+use Rattle.exports.proofs.ReadBack.{found-shown, counts-shown}
+use Rattle.exports.proofs.KeptByAll.{kept}
+use Rattle.demands.specs.Exported.{ByNumber, FlagsByType, Exported}
 use Rattle.demands.proofs.ProofOf3.{reported}
+use Rattle.demands.proofs.BackAgain.{all-back}
 
 by-number : ByNumber
-unfolding nextFrom totalsFor madeIn forPlaceIn
-by-number = record { next = λ s at opened room. refl; totals = λ s room. refl; collator = λ roster room. refl; feed = λ state room x. refl }
+unfolding nextFrom totalsFor madeIn forPlaceIn growingIn enlistIn readRow readOne writeRow writeObsRow
+by-number =
+    record {
+      next = λ s at opened room. refl;
+      totals = λ s room. refl;
+      collator = λ roster room. refl;
+      growing = λ room. refl;
+      enlist = λ state kind sender. refl;
+      feed = λ state room x. refl;
+      read = λ kind s room. refl;
+      observation = λ kind s i room. refl;
+      write = λ kind ns room. refl;
+      write-obs = λ kind hs ns room. refl;
+      fix = λ kind flags. refl;
+    }
+
+-- a table's answers, one for all three functions
+no-table : (kind flags : ℕ) → isTable (tableFor kind) ≡ false → (fixAnswer kind flags ≡ 21) × (availableAnswer kind flags ≡ 21) × (repairedAnswer kind flags ≡ 21)
+no-table kind flags h = (rw h, rw h, rw h)
+
+flags-by-type : FlagsByType
+unfolding tableFor
+flags-by-type =
+    record {
+      pos-ecef = λ flags. record { mode = refl; raim = refl; repair = refl };
+      pos-llh = λ flags. record { mode = refl; raim = refl; repair = refl };
+      baseline-ecef = λ flags. record { mode = refl; raim = refl; repair = refl };
+      baseline-ned = λ flags. record { mode = refl; raim = refl; repair = refl };
+      baseline-heading = λ flags. record { mode = refl; raim = refl; repair = refl };
+      others = no-table;
+      above-sea = λ flags. refl;
+    }
 
 pub exported : Exported
 exported = record {
   by-number = by-number;
-  kept = record { next = next-keeps; totals = totals-keeps; list = list-keeps; collator = collator-keeps; feed = feed-keeps };
+  kept = kept;
   frames-left = next-left;
   frame-shown = found-shown;
   totals-shown = counts-shown;
@@ -36,4 +76,8 @@ exported = record {
   same-state = λ roster s t report other xs ys f g same.
       stands roster s report xs f ∙ same-state roster (seated roster (f .taken)) xs ys same ∙ sym (stands roster t other ys g);
   growing = grows;
+  rows-read = all-read;
+  rows-written = as-typed;
+  rows-back = all-back;
+  flags = flags-by-type;
 }

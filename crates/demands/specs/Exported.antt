@@ -1,36 +1,81 @@
 -- The demands of the functions that C and Rust link, which live on lent bytes: a refusal writes nothing and moves no state, the frames are those
 -- of the reading, an epoch is reported exactly where document 01 says, and senders don't mix. Assumes nothing.
 use mathlib.Core.Path.{_≡_}
-use mathlib.Core.Bool.{Bool, true}
+use mathlib.Core.Bool.{Bool, true, false}
 use mathlib.Core.List.{List, []}
 use mathlib.Core.Logic.{_↔_}
-use Prim.Native.Nat.{ℕ, _^_, _≤_, _<_}
+use Prim.Native.Nat.{ℕ, _+_, _^_, _≤_, _<_}
 use lib.ListN.{length}
 use Rattle.wire.specs.Number.{Bytes}
-use Rattle.wire.specs.Refusals.{ordered}
+use Rattle.wire.specs.Refusals.{ordered, asNumber, roomFor}
+use Rattle.wire.specs.Layout.{bodySize}
 use Rattle.frames.specs.Frame.{Content}
 use Rattle.frames.specs.Reading.{steps, closedSteps, framesOf, countsOf}
 use Rattle.frames.specs.Cursors.{nextOf, Says}
-use Rattle.epochs.specs.Collator.{ownPlace, rosterOf, fresh}
+use Rattle.navigation.specs.Flags.{ecefFix, llhFix, baselineFix, raimAvailable, raimRepaired, llhAboveSea, llhRaimAvailable, llhRaimRepaired}
+use Rattle.navigation.specs.Ecef.{baselineEcef}
+use Rattle.navigation.specs.Heading.{baselineHeading}
+use Rattle.navigation.specs.Ned.{baselineNed}
+use Rattle.navigation.specs.PosEcef.{posEcef}
+use Rattle.navigation.specs.PosLlh.{posLlh}
+use Rattle.navigation.specs.declared.flags.Fix.{Fix}
+use Rattle.observation.specs.Edition.{first, startOf}
+use Rattle.payloads.specs.Payloads.{layoutFor}
+use Rattle.row_reader.specs.ReadRow.{readingRow, numbersFor, readRow, readingOne, observationNumbers, readOne}
+use Rattle.row_reader.specs.AsRead.{AllRead}
+use Rattle.row_writer.specs.WriteRow.{bodyOf, writingRow, writeRow}
+use Rattle.row_writer.specs.WriteObsRow.{observationsIn, writingObsRow, writeObsRow}
+use Rattle.row_writer.specs.AsTyped.{Typed}
+use Rattle.epochs.specs.Collator.{ownPlace, rosterOf, fresh, made}
 use Rattle.epochs.specs.Search.{names}
 use Rattle.epochs.specs.Epoch.{reportsIn, reportsOf, SameFrames, EndsEpoch, Epochs}
 use Rattle.epochs.specs.declared.collating.Report.{Report}
 use Rattle.epochs.specs.declared.collating.Happened.the-variants as H
-use Rattle.exports.specs.Claims.{Kept, FoundShown, CountsShown}
+use Rattle.exports.specs.Shown.{FoundShown, CountsShown}
+use Rattle.exports.specs.Kept.{Kept}
 use Rattle.exports.specs.Found.{foundSize, startAt, foundIn, finding, nextFrom, nextStored}
 use Rattle.exports.specs.Totals.{totalsSize, totalling, totalsFor, totalsStored}
-use Rattle.states.specs.State.{stateIn}
+use Rattle.exports.specs.Flagged.{tableFor, isTable, fixBy, fixNumber, bitNumber, flagging, fixAnswer, availableAnswer, repairedAnswer, aboveSeaAnswer}
+use Rattle.states.specs.State.{stateSize, stateIn}
 use Rattle.states.specs.Feed.{making, madeIn, madeStored, reportSize, feedingIn, forPlaceIn, fedIn, afterIn}
 use Rattle.states.specs.Told.{AsSent, told, toldIn, Filled}
+use Rattle.states.specs.Enlist.{growingIn, enlistedIn, enlistIn}
 use Rattle.states.specs.Growing.{Grows}
+use Rattle.demands.specs.RowsBack.{AllBack}
 
 -- demand 1: "refused by number". The number handed back is read off an answer by the call's own list; what that comes to is `in-order` there.
--- `sbp_list` answers by demand 1's list for a capture, `sbp_answer` by that for a payload
+-- `sbp_list` answers by demand 1's list for a capture, `sbp_answer` by that for a payload, `sbp_write_log`, `sbp_write_frame` and `sbp_phase_parts` by
+-- those of the functions below them
 pub record ByNumber : Type 0 where
   pub next : (s : List ℕ) (at : ℕ) (opened : Bool) (room : ℕ) → nextFrom s at opened room ≡ ordered (finding room) (nextOf s (startAt at opened))
   pub totals : (s : List ℕ) (room : ℕ) → totalsFor s room ≡ ordered (totalling room) (countsOf (closedSteps s))
   pub collator : (roster : List ℕ) (room : ℕ) → madeIn roster room ≡ ordered (making roster room) (fresh roster)
+  pub growing : (room : ℕ) → growingIn room ≡ ordered (roomFor stateSize room) (made [] .collator)
+  pub enlist : (state : List ℕ) (kind sender : ℕ) → enlistIn state kind sender ≡ ordered (roomFor stateSize (length state)) (enlistedIn state kind sender)
   pub feed : (state : List ℕ) (room : ℕ) (x : Content) → forPlaceIn state room x ≡ ordered (feedingIn state room x) (ownPlace (rosterOf (stateIn state)) x)
+  pub read : (kind : ℕ) (s : List ℕ) (room : ℕ) → readRow kind s room ≡ ordered (readingRow kind s room) (numbersFor kind s)
+  pub observation : (kind : ℕ) (s : List ℕ) (i room : ℕ) → readOne kind s i room ≡ ordered (readingOne kind s i room) (observationNumbers s i)
+  pub write : (kind : ℕ) (ns : List ℕ) (room : ℕ) → writeRow kind ns room ≡ ordered (writingRow kind ns room) (bodySize (layoutFor kind) (bodyOf (layoutFor kind) ns) + 8)
+  pub write-obs : (kind : ℕ) (hs ns : List ℕ) (room : ℕ)
+      → writeObsRow kind hs ns room ≡ ordered (writingObsRow kind hs ns room) (startOf first (observationsIn (length ns)) + 8)
+  pub fix : (kind flags : ℕ) → fixAnswer kind flags ≡ asNumber fixNumber (ordered (flagging (isTable (tableFor kind))) (fixBy (tableFor kind) flags))
+
+-- what the three functions answer of a type's flags
+pub record Flags (kind flags : ℕ) (fix : Fix) (available repaired : Bool) : Type 0 where
+  pub mode : fixAnswer kind flags ≡ fixNumber fix
+  pub raim : availableAnswer kind flags ≡ bitNumber available
+  pub repair : repairedAnswer kind flags ≡ bitNumber repaired
+
+-- each message's flags by its own table, the two positions' apart; 21 for a message that has none
+pub record FlagsByType : Type 0 where
+  pub pos-ecef : (flags : ℕ) → Flags (posEcef .kind) flags (ecefFix flags) (raimAvailable flags) (raimRepaired flags)
+  pub pos-llh : (flags : ℕ) → Flags (posLlh .kind) flags (llhFix flags) (llhRaimAvailable flags) (llhRaimRepaired flags)
+  pub baseline-ecef : (flags : ℕ) → Flags (baselineEcef .kind) flags (baselineFix flags) (raimAvailable flags) (raimRepaired flags)
+  pub baseline-ned : (flags : ℕ) → Flags (baselineNed .kind) flags (baselineFix flags) (raimAvailable flags) (raimRepaired flags)
+  pub baseline-heading : (flags : ℕ) → Flags (baselineHeading .kind) flags (baselineFix flags) (raimAvailable flags) (raimRepaired flags)
+  pub others : (kind flags : ℕ) → isTable (tableFor kind) ≡ false
+      → (fixAnswer kind flags ≡ 21) × (availableAnswer kind flags ≡ 21) × (repairedAnswer kind flags ≡ 21)
+  pub above-sea : (flags : ℕ) → aboveSeaAnswer (posLlh .kind) flags ≡ bitNumber (llhAboveSea flags)
 
 pub record Exported : Type 0 where
   pub by-number : ByNumber
@@ -58,3 +103,8 @@ pub record Exported : Type 0 where
       → stateIn (afterIn (madeStored roster s) report xs) ≡ stateIn (afterIn (madeStored roster t) other ys)
   -- a roster that grows: frame by frame the bytes tell what a collator tells that was made of the first eight senders
   pub growing : Grows
+  -- messages as numbers: each is read as the fields of the typed record and written as the typed writer writes it, and what was written comes back
+  pub rows-read : AllRead
+  pub rows-written : Typed
+  pub rows-back : AllBack
+  pub flags : FlagsByType

@@ -1,5 +1,5 @@
 pub mod LentRows
 pub mod Tabled
-pub mod Shown
+pub mod ReadBack
 pub mod Untouched
-pub mod UntouchedRows
+pub mod KeptByAll

@@ -4,5 +4,5 @@ pub mod Write
 pub mod Text
 pub mod Flagged
 pub mod Phased
-pub mod Claims
-pub mod KeptRows
+pub mod Shown
+pub mod Kept

@@ -1,7 +1,7 @@
 // What C and Rust link: `extern "C"` functions over numbers, lent slices and lent numbers. None has a `requires`.
 // A refusal is document 01's number and writes nothing. A collator lives in lent bytes.
 // Read specs/Found.antt (the row of a frame), specs/Totals.antt, specs/Text.antt, specs/Flagged.antt and specs/Phased.antt (flags, carrier phase),
-// specs/Write.antt (who sends), specs/Claims.antt and specs/KeptRows.antt. What a collator's bytes are stands in `states`, what rows of fields are in
+// specs/Write.antt (who sends), specs/Shown.antt and specs/Kept.antt (what is claimed of all). What a collator's bytes are stands in `states`, what rows of fields are in
 // `row_reader` and `row_writer`.
 mod answering;
 mod beating;

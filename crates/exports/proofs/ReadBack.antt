@@ -25,7 +25,7 @@ use Rattle.frames.proofs.GoingOn.{here, Answered, pass, end, answered}
 use Rattle.states.specs.Lent.{atFront}
 use Rattle.exports.specs.Found.{foundFields, foundSize, foundValues, startAt, foundIn, nextFrom, nextStored}
 use Rattle.exports.specs.Totals.{totalsFields, totalsSize, totalsRow, totalsFor, totalsStored}
-use Rattle.exports.specs.Claims.{FoundShown, CountsShown}
+use Rattle.exports.specs.Shown.{FoundShown, CountsShown}
 use Rattle.states.proofs.Parts.{stored-front, decode-stored}
 
 -- ---- a row with room, stored by a call that tests nothing else

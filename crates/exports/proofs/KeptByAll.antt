@@ -8,13 +8,18 @@ use Rattle.row_writer.specs.WriteRow.{writeRow, rowWritten}
 use Rattle.system.specs.Log.{logWriteAnswer, logWritten}
 use Rattle.states.specs.State.{collatorStored}
 use Rattle.states.specs.Enlist.{growingIn, enlistIn}
-use Rattle.exports.specs.KeptRows.{KeptRows}
-use Rattle.exports.proofs.Untouched.{not-zero}
+use Rattle.exports.specs.Kept.{Kept}
+use Rattle.exports.proofs.Untouched.{not-zero, next-keeps, totals-keeps, list-keeps, collator-keeps, feed-keeps}
 
-pub rows-kept : KeptRows
+pub kept : Kept
 unfolding rowWritten obsRowWritten logWritten withFrame
-rows-kept =
+kept =
     record {
+      next = next-keeps;
+      totals = totals-keeps;
+      list = list-keeps;
+      collator = collator-keeps;
+      feed = feed-keeps;
       read = λ kind s row. not-zero beginning (readRow kind s (length row)) row;
       observation = λ kind s i row. not-zero beginning (readOne kind s i (length row)) row;
       phase-parts = λ phase cycles parts h. (not-zero _ (readPhase phase) cycles h, not-zero _ (readPhase phase) parts h);

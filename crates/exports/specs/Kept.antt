@@ -1,21 +1,34 @@
--- A refusal writes nothing and moves no state, by the number that is handed back: of rows that are read, of the phase's parts, of the roster that
--- grows, and of frames that are written. Assumes nothing.
-use Prim.Native.Nat.{ℕ}
+-- Demand 1, "and a refusal writes nothing and moves no state", of each exported function that is lent something to write, by the number that is
+-- handed back. Assumes nothing.
+use Prim.Native.Nat.{ℕ, _≤_}
 use mathlib.Core.Path.{_≡_}
+use mathlib.Core.Bool.{Bool}
 use mathlib.Core.List.{List}
 use lib.IntN.{ℤ}
 use lib.ListN.{length}
 use Rattle.wire.specs.Refusals.{zeroOr}
+use Rattle.frames.specs.Frame.{Content}
 use Rattle.frames.specs.Writer.{planned, withFrame}
 use Rattle.row_reader.specs.ReadRow.{readRow, rowAfter, readOne, rowAfterOne}
 use Rattle.row_writer.specs.WriteObsRow.{writeObsRow, obsRowWritten}
 use Rattle.row_writer.specs.WriteRow.{writeRow, rowWritten, sizeLeft}
 use Rattle.system.specs.Log.{Logged, logWriteAnswer, logWritten}
+use Rattle.exports.specs.Found.{nextAnswer, nextStored}
+use Rattle.exports.specs.Totals.{totalsAnswer, totalsStored}
+use Rattle.exports.specs.Text.{textAnswer, sizeAfter}
 use Rattle.exports.specs.Phased.{partsNumber, cyclesAfter, partsAfter}
+use Rattle.listing.specs.Listing.{withListing}
+use Rattle.states.specs.Feed.{madeAnswer, madeStored, fedIn}
 use Rattle.states.specs.Enlist.{growingAnswer, growingStored, enlistAnswer, enlistStored}
 use Rattle.exports.specs.Write.{sentBy}
 
-pub record KeptRows : Type 0 where
+pub record Kept : Type 0 where
+  pub next : (s : List ℕ) (at : ℕ) (opened : Bool) (buf : List ℕ) → nextAnswer s at opened (length buf) ≡ 32 → nextStored s at opened buf ≡ buf
+  pub totals : (s buf : List ℕ) → (totalsAnswer s (length buf) ≡ 0 → ⊥) → totalsStored s buf ≡ buf
+  pub list : (s buf : List ℕ) (before : ℕ) → (textAnswer s (length buf) ≡ 0 → ⊥) → (withListing s buf ≡ buf) × (sizeAfter s (length buf) before ≡ before)
+  pub collator : (roster s : List ℕ) → (madeAnswer roster (length s) ≡ 0 → ⊥) → madeStored roster s ≡ s
+  -- 0 and 1 are the answers of a frame that was taken
+  pub feed : (s : List ℕ) (x : Content) (report : List ℕ) → 2 ≤ fedIn s x report .answer → (fedIn s x report .state ≡ s) × (fedIn s x report .report ≡ report)
   pub read : (kind : ℕ) (s row : List ℕ) → (zeroOr (readRow kind s (length row)) ≡ 0 → ⊥) → rowAfter kind s row ≡ row
   pub observation : (kind : ℕ) (s : List ℕ) (i : ℕ) (row : List ℕ) → (zeroOr (readOne kind s i (length row)) ≡ 0 → ⊥) → rowAfterOne kind s i row ≡ row
   pub phase-parts : (phase cycles : ℤ) (parts : ℕ) → (partsNumber phase ≡ 0 → ⊥) → (cyclesAfter phase cycles ≡ cycles) × (partsAfter phase parts ≡ parts)
