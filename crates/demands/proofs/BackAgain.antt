@@ -1,31 +1,29 @@
 -- Numbers that were written come back, once for every message: its writer is the typed one, its frame is found, and the record read from it has
 -- those numbers. Assumes nothing.
 use mathlib.Core.Path.{_≡_, refl, sym, ap, _∙_, subst, subst⁻¹}
-use mathlib.Core.Bool.{Bool, true, _&&_, false≢true, and-eq-true-iff}
-use mathlib.Core.List.{List, _∷_}
+use mathlib.Core.Bool.{true, false≢true, and-eq-true-iff}
+use mathlib.Core.List.{List}
 use Prim.Native.Nat.{ℕ, _+_, _^_, _<_}
 use native.Mathlib.Omega.{arith}
-use lib.Dec.{eqb}
 use lib.ListN.{length, getD}
 use lib.Seq.{take-all}
 use borrow.Author.Tests.{eqb-true}
-use Rattle.wire.specs.Refusals.{given, Answer, Tests, ordered}
+use Rattle.wire.specs.Refusals.{given, mapped, ordered}
 use Rattle.wire.specs.Field.{SettledRow}
-use Rattle.wire.specs.Layout.{Layout, run, then, bytes, rows, Body, HeldBody, SettledBody, allowedBody, bodySize}
+use Rattle.wire.specs.Layout.{Layout, run, then, bytes, rows, HeldBody, SettledBody, allowedBody, bodySize}
 use Rattle.wire.proofs.Ordered.{exactly-all}
-use Rattle.frames.specs.Writer.{writingFrame}
-use Rattle.frames.specs.Faithful.{Faithful, writeAnswer, frameWritten}
+use Rattle.frames.specs.Faithful.{writeAnswer, frameWritten}
 use Rattle.frames.specs.Step.{stepAt, payloadIn}
 use Rattle.frames.specs.declared.step.Step.the-variants as Step
 use Rattle.frames.proofs.Promised.{faithful}
-use Rattle.formats.specs.Wide.{narrowRow, fitsRow, wideBody, numbersIn}
-use Rattle.formats.specs.Digits.{headOf}
+use Rattle.formats.specs.Wide.{narrowRow, fitsRow, wideBody, numberCount}
+use Rattle.formats.specs.Digits.{frontOf}
 use Rattle.formats.proofs.Narrow.{withinAll, held-narrow, settled-narrow, wide-narrow}
-use Rattle.payloads.specs.Payloads.{Described, messages, Entry, entryOf, entryFor, table, layoutFor}
+use Rattle.payloads.specs.Payloads.{Described, messages, Entry, entryOf}
 use Rattle.payloads.proofs.Entries.{Found, found, all-of}
 use Rattle.row_reader.specs.ReadRow.{readRow}
-use Rattle.row_reader.proofs.EachRead.{as-read}
-use Rattle.row_writer.specs.WriteRow.{alone, bodyOf, writeRow, rowWritten}
+use Rattle.row_reader.proofs.EachRead.{reads-typed}
+use Rattle.row_writer.specs.WriteRow.{alone, bodyOf, writingBy, writeRow, rowWritten}
 use Rattle.row_writer.proofs.Alone.{fields-alone, plain-for}
 use Rattle.row_writer.proofs.WrittenTyped.{typed}
 use Rattle.demands.specs.RowsBack.{RowsBack, AllBack}
@@ -33,13 +31,13 @@ use Rattle.demands.specs.RowsBack.{RowsBack, AllBack}
 -- ---- fields alone
 
 module _ (ns : List ℕ) (words : (i : ℕ) → getD ns i 0 < 2 ^ 64) where
-  settled-alone : (l : Layout) → alone l ≡ true → SettledRow (headOf l) (narrowRow (headOf l) ns 0) → SettledBody l (bodyOf l ns)
+  settled-alone : (l : Layout) → alone l ≡ true → SettledRow (frontOf l) (narrowRow (frontOf l) ns 0) → SettledBody l (bodyOf l ns)
   settled-alone (run fs) h v = v
   settled-alone (then fs l) h v = absurd (false≢true h)
   settled-alone (bytes most) h v = absurd (false≢true h)
   settled-alone (rows fs most) h v = absurd (false≢true h)
 
-  same-numbers : (l : Layout) → alone l ≡ true → length ns ≡ numbersIn l → wideBody l (bodyOf l ns) ≡ ns
+  same-numbers : (l : Layout) → alone l ≡ true → length ns ≡ numberCount l → wideBody l (bodyOf l ns) ≡ ns
   same-numbers (run fs) h counted = wide-narrow ns words fs 0 (omega (arith, counted)) ∙ take-all (length fs) ns (omega (arith, counted))
   same-numbers (then fs l) h counted = absurd (false≢true h)
   same-numbers (bytes most) h counted = absurd (false≢true h)
@@ -47,26 +45,17 @@ module _ (ns : List ℕ) (words : (i : ℕ) → getD ns i 0 < 2 ^ 64) where
 
 -- ---- a message
 
--- the tests by an entry of the table
-abbrev tests : Entry → List ℕ → ℕ → Tests
-tests e ns room =
-    let l = e .layout in
-    (e .known && alone l, 21) ∷
-    (eqb (length ns) (numbersIn l), 22) ∷
-    (fitsRow (headOf l) ns 0 && allowedBody l (bodyOf l ns), 23) ∷
-    writingFrame (bodySize l (bodyOf l ns)) room
-
 module _ (m : Described) (own : Found m) where
   -- what was written has as many numbers as fields, each of which its field holds
   fit : (ns : List ℕ) (room : ℕ) {n : ℕ} → writeRow (m .description .kind) ns room ≡ given n
-      → (length ns ≡ numbersIn (m .description .layout)) × (fitsRow (headOf (m .description .layout)) ns 0 ≡ true)
+      → (length ns ≡ numberCount (m .description .layout)) × (fitsRow (frontOf (m .description .layout)) ns 0 ≡ true)
   unfolding writeRow
   fit ns room {n} g =
       let l = m .description .layout in
-      let w : ordered (tests (entryOf m) ns room) (bodySize l (bodyOf l ns) + 8) ≡ given n
-      = ap (λ (e : Entry). ordered (tests e ns room) (bodySize (e .layout) (bodyOf (e .layout) ns) + 8)) (sym (own .0)) ∙ g in
-      let all = exactly-all (bodySize l (bodyOf l ns) + 8) (tests (entryOf m) ns room) n .0 w .0 in
-      (eqb-true (length ns) (numbersIn l) (all .1 .0), and-eq-true-iff (fitsRow (headOf l) ns 0) (allowedBody l (bodyOf l ns)) .0 (all .1 .1 .0) .0)
+      let w : ordered (writingBy (entryOf m) ns room) (bodySize l (bodyOf l ns) + 8) ≡ given n
+      = ap (λ (e : Entry). ordered (writingBy e ns room) (bodySize (e .layout) (bodyOf (e .layout) ns) + 8)) (sym (own .0)) ∙ g in
+      let all = exactly-all (bodySize l (bodyOf l ns) + 8) (writingBy (entryOf m) ns room) n .0 w .0 in
+      (eqb-true (length ns) (numberCount l) (all .1 .0), and-eq-true-iff (fitsRow (frontOf l) ns 0) (allowedBody l (bodyOf l ns)) .0 (all .1 .1 .0) .0)
 
   back : RowsBack m
   back sender ns buf n only small words g room enough =
@@ -77,19 +66,21 @@ module _ (m : Described) (own : Found m) where
       let own-writer = typed m own sender ns buf only (here .0) (here .1) in
       let kept = faithful d (own .1) (own .2) in
       let written : writeAnswer d r (length buf) ≡ given n = sym (own-writer .0) ∙ g in
-      let within : withinAll (headOf l) ≡ true = subst (λ (e : Entry). withinAll (headOf (e .layout)) ≡ true) (own .0) (plain-for (d .kind) .0) in
+      let within : withinAll (frontOf l) ≡ true = subst (λ (e : Entry). withinAll (frontOf (e .layout)) ≡ true) (own .0) (plain-for (d .kind) .0) in
       let held : HeldBody l (d .row r)
-      = subst⁻¹ (HeldBody l) (d .row-make (bodyOf l ns)) (fields-alone l ns only .held (held-narrow ns words (headOf l) 0 within (here .1))) in
+      = subst⁻¹ (HeldBody l) (d .row-make (bodyOf l ns)) (fields-alone l ns only .held (held-narrow ns words (frontOf l) 0 within (here .1))) in
       let settled : SettledBody l (d .row r)
-      = subst⁻¹ (SettledBody l) (d .row-make (bodyOf l ns)) (settled-alone ns words l only (settled-narrow ns words (headOf l) 0 within (here .1))) in
+      = subst⁻¹ (SettledBody l) (d .row-make (bodyOf l ns)) (settled-alone ns words l only (settled-narrow ns words (frontOf l) 0 within (here .1))) in
       let read = kept .same sender r buf small written held settled in
       let numbers : wideBody l (d .row r) ≡ ns = ap (wideBody l) (d .row-make (bodyOf l ns)) ∙ same-numbers ns words l only (here .0) in
       let f = frameWritten d sender r in
       let bytes = rowWritten (d .kind) sender ns buf in (
         f,
         ap (λ (t : List ℕ). stepAt t 0) (own-writer .1) ∙ kept .found sender r buf small written,
+        refl,
         ap (λ (t : List ℕ). readRow (d .kind) (payloadIn t f) room) (own-writer .1)
-            ∙ as-read m (own .0) _ room (omega (arith, here .0)) .0 r read
+            ∙ reads-typed m own _ room (omega (arith, here .0))
+            ∙ ap (mapped (λ (q : m .Of). wideBody l (d .row q))) read
             ∙ ap given numbers,
       )
 

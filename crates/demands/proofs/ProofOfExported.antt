@@ -3,6 +3,7 @@ use mathlib.Core.Path.{_≡_, refl, sym, ap, _∙_}
 use mathlib.Core.Bool.{false}
 use mathlib.Core.List.{List}
 use Prim.Native.Nat.{ℕ}
+use borrow.Author.Tests.{lt-ltb, le-ltb}
 use Rattle.row_reader.specs.ReadRow.{readRow, readOne}
 use Rattle.row_reader.proofs.EachRead.{all-read}
 use Rattle.row_writer.specs.WriteRow.{writeRow}
@@ -76,6 +77,8 @@ exported = record {
   same-state = λ roster s t report other xs ys f g same.
       stands roster s report xs f ∙ same-state roster (seated roster (f .taken)) xs ys same ∙ sym (stands roster t other ys g);
   growing = grows;
+  sender-given = λ n h. rw (lt-ltb n 65536 h);
+  sender-none = λ n h. rw (le-ltb n 65536 h);
   rows-read = all-read;
   rows-written = as-typed;
   rows-back = all-back;

@@ -22,10 +22,10 @@ use Rattle.navigation.specs.declared.flags.Fix.{Fix}
 use Rattle.observation.specs.Edition.{first, startOf}
 use Rattle.payloads.specs.Payloads.{layoutFor}
 use Rattle.row_reader.specs.ReadRow.{readingRow, numbersFor, readRow, readingOne, observationNumbers, readOne}
-use Rattle.row_reader.specs.AsRead.{AllRead}
+use Rattle.row_reader.specs.ReadsTyped.{AllRead}
 use Rattle.row_writer.specs.WriteRow.{bodyOf, writingRow, writeRow}
-use Rattle.row_writer.specs.WriteObsRow.{observationsIn, writingObsRow, writeObsRow}
-use Rattle.row_writer.specs.AsTyped.{Typed}
+use Rattle.row_writer.specs.WriteObsRow.{rowsIn, writingObsRow, writeObsRow}
+use Rattle.row_writer.specs.WritesTyped.{AllWritten}
 use Rattle.epochs.specs.Collator.{ownPlace, rosterOf, fresh, made}
 use Rattle.epochs.specs.Search.{names}
 use Rattle.epochs.specs.Epoch.{reportsIn, reportsOf, SameFrames, EndsEpoch, Epochs}
@@ -35,6 +35,7 @@ use Rattle.exports.specs.Shown.{FoundShown, CountsShown}
 use Rattle.exports.specs.Kept.{Kept}
 use Rattle.exports.specs.Found.{foundSize, startAt, foundIn, finding, nextFrom, nextStored}
 use Rattle.exports.specs.Totals.{totalsSize, totalling, totalsFor, totalsStored}
+use Rattle.exports.specs.Write.{sentBy}
 use Rattle.exports.specs.Flagged.{tableFor, isTable, fixBy, fixNumber, bitNumber, flagging, fixAnswer, availableAnswer, repairedAnswer, aboveSeaAnswer}
 use Rattle.states.specs.State.{stateSize, stateIn}
 use Rattle.states.specs.Feed.{making, madeIn, madeStored, reportSize, feedingIn, forPlaceIn, fedIn, afterIn}
@@ -45,7 +46,7 @@ use Rattle.demands.specs.RowsBack.{AllBack}
 
 -- demand 1: "refused by number". The number handed back is read off an answer by the call's own list; what that comes to is `in-order` there.
 -- `sbp_list` answers by demand 1's list for a capture, `sbp_answer` by that for a payload, `sbp_write_log`, `sbp_write_frame` and `sbp_phase_parts` by
--- those of the functions below them
+-- those for LOG, for any bytes and for a carrier phase
 pub record ByNumber : Type 0 where
   pub next : (s : List ℕ) (at : ℕ) (opened : Bool) (room : ℕ) → nextFrom s at opened room ≡ ordered (finding room) (nextOf s (startAt at opened))
   pub totals : (s : List ℕ) (room : ℕ) → totalsFor s room ≡ ordered (totalling room) (countsOf (closedSteps s))
@@ -57,7 +58,7 @@ pub record ByNumber : Type 0 where
   pub observation : (kind : ℕ) (s : List ℕ) (i room : ℕ) → readOne kind s i room ≡ ordered (readingOne kind s i room) (observationNumbers s i)
   pub write : (kind : ℕ) (ns : List ℕ) (room : ℕ) → writeRow kind ns room ≡ ordered (writingRow kind ns room) (bodySize (layoutFor kind) (bodyOf (layoutFor kind) ns) + 8)
   pub write-obs : (kind : ℕ) (hs ns : List ℕ) (room : ℕ)
-      → writeObsRow kind hs ns room ≡ ordered (writingObsRow kind hs ns room) (startOf first (observationsIn (length ns)) + 8)
+      → writeObsRow kind hs ns room ≡ ordered (writingObsRow kind hs ns room) (startOf first (rowsIn (length ns)) + 8)
   pub fix : (kind flags : ℕ) → fixAnswer kind flags ≡ asNumber fixNumber (ordered (flagging (isTable (tableFor kind))) (fixBy (tableFor kind) flags))
 
 -- what the three functions answer of a type's flags
@@ -103,8 +104,11 @@ pub record Exported : Type 0 where
       → stateIn (afterIn (madeStored roster s) report xs) ≡ stateIn (afterIn (madeStored roster t) other ys)
   -- a roster that grows: frame by frame the bytes tell what a collator tells that was made of the first eight senders
   pub growing : Grows
+  -- a sender of 16 bits is written as it is, 0 too, and any number above stands for none, which is 0x42
+  pub sender-given : (n : ℕ) → n < 65536 → sentBy n ≡ n
+  pub sender-none : (n : ℕ) → 65536 ≤ n → sentBy n ≡ 0x42
   -- messages as numbers: each is read as the fields of the typed record and written as the typed writer writes it, and what was written comes back
   pub rows-read : AllRead
-  pub rows-written : Typed
+  pub rows-written : AllWritten
   pub rows-back : AllBack
   pub flags : FlagsByType

@@ -18,7 +18,7 @@ RowsBack m =
     let d = m .description in
     (sender : ℕ) (ns buf : List ℕ) (n : ℕ) → alone (d .layout) ≡ true → sender < 65536 → ((i : ℕ) → getD ns i 0 < 2 ^ 64) → writeRow (d .kind) ns (length buf) ≡ given n
     → (room : ℕ) → length ns ≤ room
-    → (f : Frame) × (stepAt (rowWritten (d .kind) sender ns buf) 0 ≡ Found f) × (readRow (f .kind) (payloadIn (rowWritten (d .kind) sender ns buf) f) room ≡ given ns)
+    → (f : Frame) × (stepAt (rowWritten (d .kind) sender ns buf) 0 ≡ Found f) × (f .sender ≡ sender) × (readRow (f .kind) (payloadIn (rowWritten (d .kind) sender ns buf) f) room ≡ given ns)
 
 abbrev pub AllBack : Type 0
 AllBack = AllOf RowsBack messages

@@ -82,6 +82,7 @@ module _ {M : Type 1} (𝓤 : URA M) (H : Heap 𝓤) (A : Atoms 𝓤) (mem : Mem
     pub plan : Determined 𝓤 frames.plan.ended (frames.plan.clauses 𝓤 H A mem run)
     pub seal : Determined 𝓤 frames.seal.ended (frames.seal.clauses 𝓤 H A mem run)
     pub write-frame : Determined 𝓤 frames.write_frame.ended (frames.write_frame.clauses 𝓤 H A mem run)
+    pub hand-on : Determined 𝓤 frames.hand_on.ended (frames.hand_on.clauses 𝓤 H A mem run)
 
   pub record Navigation : Type 1 where
     pub take-dops : Determined 𝓤 navigation.take_dops.ended (navigation.take_dops.clauses 𝓤 H A mem run)
@@ -178,6 +179,7 @@ module _ {M : Type 1} (𝓤 : URA M) (H : Heap 𝓤) (A : Atoms 𝓤) (mem : Mem
   pub record RowWriter : Type 1 where
     pub write-row : Determined 𝓤 row_writer.write_row.ended (row_writer.write_row.clauses 𝓤 H A mem run)
     pub write-obs-row : Determined 𝓤 row_writer.write_obs_row.ended (row_writer.write_obs_row.clauses 𝓤 H A mem run)
+    pub send-frame : Determined 𝓤 row_writer.send_frame.ended (row_writer.send_frame.clauses 𝓤 H A mem run)
 
   pub record Packets : Type 1 where
     pub same-key : Determined 𝓤 packets.same_key.ended (packets.same_key.clauses 𝓤 H A mem run)

@@ -5,7 +5,7 @@ use mathlib.Core.List.{List}
 use Prim.Native.Nat.{ℕ, _^_, _≤_, _<_}
 use lib.ListN.{length}
 use borrow.Author.Tests.{le-leb, lt-leb}
-use Rattle.wire.specs.Refusals.{Answer, ordered, leaves, asNumber, roomFor}
+use Rattle.wire.specs.Refusals.{ordered, leaves, asNumber, roomFor}
 use Rattle.wire.specs.Field.{Field, Row, size, rowStored}
 use Rattle.frames.specs.Reading.{steps, framesOf}
 use Rattle.frames.specs.Cursors.{nextOf, Says}

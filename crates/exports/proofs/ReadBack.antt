@@ -1,6 +1,6 @@
 -- The rows that `sbp_next` and `sbp_totals` store are read back number by number: what is found is small enough for its row. Assumes nothing.
 use mathlib.Core.Path.{_≡_, refl, sym, ap, _∙_, subst}
-use mathlib.Core.Bool.{Bool, false}
+use mathlib.Core.Bool.{Bool}
 use mathlib.Core.List.{List}
 use Prim.Native.Nat.{ℕ, _+_, _^_, _≤_, _<_}
 use native.Mathlib.Nat.{mod-lt}
@@ -9,7 +9,7 @@ use lib.ListN.{length}
 use borrow.Author.Tests.{le-leb}
 use Rattle.wire.specs.Number.{Bytes}
 use Rattle.wire.specs.Field.{Field, Row, HeldRow, SettledRow, size, decode}
-use Rattle.wire.specs.Refusals.{Answer, ordered, leaves, roomFor}
+use Rattle.wire.specs.Refusals.{ordered, leaves, roomFor}
 use Rattle.frames.specs.Step.{stepAt}
 use Rattle.frames.specs.Decides.{Decides, headless, cut}
 use Rattle.frames.specs.Reading.{closedSteps, countsOf}

@@ -8,10 +8,10 @@ use lib.IntN.{ℤ}
 use lib.ListN.{length}
 use Rattle.wire.specs.Refusals.{zeroOr}
 use Rattle.frames.specs.Frame.{Content}
-use Rattle.frames.specs.Writer.{planned, withFrame}
+use Rattle.frames.specs.Writer.{planned, withFrame, sizeLeft}
 use Rattle.row_reader.specs.ReadRow.{readRow, rowAfter, readOne, rowAfterOne}
 use Rattle.row_writer.specs.WriteObsRow.{writeObsRow, obsRowWritten}
-use Rattle.row_writer.specs.WriteRow.{writeRow, rowWritten, sizeLeft}
+use Rattle.row_writer.specs.WriteRow.{writeRow, rowWritten}
 use Rattle.system.specs.Log.{Logged, logWriteAnswer, logWritten}
 use Rattle.exports.specs.Found.{nextAnswer, nextStored}
 use Rattle.exports.specs.Totals.{totalsAnswer, totalsStored}

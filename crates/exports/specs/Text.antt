@@ -1,10 +1,9 @@
 -- What `sbp_list` hands back, and what it leaves in the text and in the number that it is lent. Assumes nothing.
 use Prim.Native.Nat.{ℕ}
 use mathlib.Core.List.{List}
-use lib.ListN.{length}
 use Rattle.wire.specs.Refusals.{zeroOr}
+use Rattle.frames.specs.Writer.{sizeLeft}
 use Rattle.listing.specs.Listing.{listAnswer}
-use Rattle.row_writer.specs.WriteRow.{sizeLeft}
 
 abbrev pub textAnswer : List ℕ → ℕ → ℕ
 textAnswer s room = zeroOr (listAnswer s room)

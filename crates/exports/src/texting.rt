@@ -3,7 +3,6 @@ ghost use mathlib.Core.Path.{_≡_};
 ghost use lib.ListN.{length};
 ghost use Rattle.listing.specs.Listing.{withListing};
 ghost use Rattle.exports.specs.Text.{textAnswer, sizeAfter};
-use crate::writing::hand_on;
 
 // 0 with the text's length through size, or 11, then 32.
 #[no_mangle]
@@ -13,5 +12,5 @@ pub extern "C" fn sbp_list(capture: &[u8], text: &mut [u8], size: &mut u64) -> u
     ensures { λ _. ⌜ now (size .exit) ≡ sizeAfter (now (capture .entry)) (length (now (text .entry))) (now (size .entry)) ⌝ }
 {
     let written = listing::list(capture, text);
-    hand_on(written, size)
+    frames::hand_on(written, size)
 }

@@ -2,13 +2,12 @@
 ghost use mathlib.Core.Path.{_≡_};
 ghost use lib.ListN.{length};
 ghost use Rattle.wire.specs.Refusals.{zeroOr};
-ghost use Rattle.frames.specs.Writer.{writtenAnswer, planned, withFrame};
+ghost use Rattle.frames.specs.Writer.{planned, withFrame, sizeLeft};
 ghost use Rattle.row_writer.specs.WriteObsRow.{writeObsRow, obsRowWritten};
-ghost use Rattle.row_writer.specs.WriteRow.{writeRow, rowWritten, sizeLeft};
+ghost use Rattle.row_writer.specs.WriteRow.{writeRow, rowWritten};
 ghost use Rattle.system.specs.Log.{logWriteAnswer, logWritten};
 ghost use Rattle.exports.specs.Write.{senderFrom, sentBy};
 use frames::Sender;
-use frames::Written;
 
 // None above 65535: what C calls SBP_NO_SENDER, and any number beyond.
 fn sender_from(n: u32) -> Sender
@@ -18,20 +17,6 @@ fn sender_from(n: u32) -> Sender
         return Sender::Named(n as u16);
     }
     Sender::Unnamed
-}
-
-// 0 with the number of bytes through size, or the refusal's number.
-pub(crate) fn hand_on(written: Written, size: &mut u64) -> u8
-    ensures { λ r. ⌜ r ≡ zeroOr (writtenAnswer written) ⌝ }
-    ensures { λ _. ⌜ now (size .exit) ≡ sizeLeft (writtenAnswer written) (now (size .entry)) ⌝ }
-{
-    match written {
-        Written::Bytes(n) => {
-            *size = n as u64;
-            0
-        }
-        Written::Refused(n) => n,
-    }
 }
 
 // Every message without a tail, from one number for each field: 21 for a type that it does not write, 22 for another number of fields, 23 for a
@@ -82,7 +67,7 @@ pub extern "C" fn sbp_write_log(
     ensures { λ _. ⌜ now (size .exit) ≡ sizeLeft (logWriteAnswer (record { level = level; text = now (text .entry) }) (length (now (out .entry)))) (now (size .entry)) ⌝ }
 {
     let written = system::write_log(out, sender_from(sender), level, text);
-    hand_on(written, size)
+    frames::hand_on(written, size)
 }
 
 // A frame of any type with any payload: 31 over 255 bytes, then 32.
@@ -98,6 +83,5 @@ pub extern "C" fn sbp_write_frame(
     ensures { λ _. ⌜ now (out .exit) ≡ withFrame kind (sentBy sender) (now (payload .entry)) (now (out .entry)) ⌝ }
     ensures { λ _. ⌜ now (size .exit) ≡ sizeLeft (planned (length (now (payload .entry))) (length (now (out .entry)))) (now (size .entry)) ⌝ }
 {
-    let written = frames::write_frame(out, kind, sender_from(sender), payload);
-    hand_on(written, size)
+    row_writer::send_frame(out, kind, sender_from(sender), payload, size)
 }

@@ -3,6 +3,5 @@ pub mod Steps
 pub mod Rows
 pub mod Extended
 pub mod Cut
-pub mod Unpacked
 pub mod Widened
 pub mod Narrow

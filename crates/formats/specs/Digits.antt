@@ -1,9 +1,9 @@
 -- A run of fields as one number that code can carry: a hexadecimal digit for each field's format, that of the first field lowest. 1, 2 and 4 are
--- unsigned numbers of so many bytes, 10 and 12 signed ones of 2 and 4, and 8 is a double. And what such a run makes of bytes and of numbers,
--- for any number at all. Assumes nothing.
+-- unsigned numbers of so many bytes, 10 and 12 signed ones of 2 and 4, and 8 is a double, as every other digit is; a format that no message has
+-- gets 8 too. And what such a run makes of bytes and of numbers, for any digits at all. Assumes nothing.
 use Prim.Native.Nat.{ℕ, zero, suc, _+_, _*_, _/_, _%_}
 use mathlib.Core.Bool.{Bool, true, cond, _&&_}
-use mathlib.Core.List.{List, [], _∷_}
+use mathlib.Core.List.{List, [], _∷_, _++_}
 use lib.Dec.{eqb}
 use lib.ListN.{getD, take, drop}
 use mir.Syntax.{w8, w16, w32, w64, w128}
@@ -72,11 +72,15 @@ repeated (then fs l) = repeated l
 repeated (bytes most) = 1
 repeated (rows fs most) = digitsOf fs
 
-abbrev pub headOf : Layout → List Field
-headOf (run fs) = fs
-headOf (then fs l) = fs
-headOf (bytes most) = []
-headOf (rows fs most) = []
+abbrev pub frontOf : Layout → List Field
+frontOf (run fs) = fs
+frontOf (then fs l) = fs
+frontOf (bytes most) = []
+frontOf (rows fs most) = []
 
 abbrev pub shapeOf : Layout → Shape
-shapeOf l = record { head = digitsOf (take 16 (headOf l)); more = digitsOf (drop 16 (headOf l)); each = repeated l }
+shapeOf l = record { head = digitsOf (take 16 (frontOf l)); more = digitsOf (drop 16 (frontOf l)); each = repeated l }
+
+-- the formats that its digits say
+abbrev pub formatsIn : Shape → List Format
+formatsIn s = formatsBy (s .head) ++ formatsBy (s .more)

@@ -64,8 +64,8 @@ wideBody (bytes most) v = length v ∷ []
 wideBody (rows fs most) v = length v ∷ []
 
 -- how many numbers that are
-abbrev pub numbersIn : Layout → ℕ
-numbersIn (run fs) = length fs
-numbersIn (then fs l) = length fs + numbersIn l
-numbersIn (bytes most) = 1
-numbersIn (rows fs most) = 1
+abbrev pub numberCount : Layout → ℕ
+numberCount (run fs) = length fs
+numberCount (then fs l) = length fs + numberCount l
+numberCount (bytes most) = 1
+numberCount (rows fs most) = 1

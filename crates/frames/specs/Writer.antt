@@ -31,6 +31,10 @@ writingFrame n room = (leb n 255, 31) ∷ (leb (n + 8) room, 32) ∷ []
 unfoldable pub planned : ℕ → ℕ → Answer ℕ
 planned n room = ordered (writingFrame n room) (n + 8)
 
+-- the number that a caller lends for the size: how many bytes were written, or what stood there
+abbrev pub sizeLeft : Answer ℕ → ℕ → ℕ
+sizeLeft a before = leaves (λ n size. n) a before
+
 -- a buffer whose first n bytes are replaced
 abbrev pub startingWith : List ℕ → ℕ → List ℕ → List ℕ
 startingWith bs n buf = bs ++ drop n buf

@@ -17,6 +17,7 @@ pub use step::payload;
 pub use step::step_at;
 pub use write::Sender;
 pub use write::Written;
+pub use write::hand_on;
 pub use write::plan;
 pub use write::seal;
 pub use write::sender_number;

@@ -1,7 +1,8 @@
 // Frames written into a lent buffer.
 ghost use mathlib.Core.Path.{_≡_};
 ghost use lib.ListN.{length};
-ghost use Rattle.frames.specs.Writer.{writtenAnswer, senderOf, planned, headed, sealed, withFrame};
+ghost use Rattle.wire.specs.Refusals.{zeroOr};
+ghost use Rattle.frames.specs.Writer.{writtenAnswer, senderOf, planned, sizeLeft, headed, sealed, withFrame};
 
 // Who sends: a number, or nobody in particular, which is written as 0x42.
 pub enum Sender {
@@ -21,6 +22,20 @@ pub fn sender_number(sender: Sender) -> u16
     match sender {
         Sender::Named(n) => n,
         Sender::Unnamed => 0x42,
+    }
+}
+
+// What was written as C and Rust are told it: 0 with the number of bytes through size, or the refusal's number.
+pub fn hand_on(written: Written, size: &mut u64) -> u8
+    ensures { λ r. ⌜ r ≡ zeroOr (writtenAnswer written) ⌝ }
+    ensures { λ _. ⌜ now (size .exit) ≡ sizeLeft (writtenAnswer written) (now (size .entry)) ⌝ }
+{
+    match written {
+        Written::Bytes(n) => {
+            *size = n as u64;
+            0
+        }
+        Written::Refused(n) => n,
     }
 }
 

@@ -7,10 +7,8 @@ use native.Mathlib.Omega.{arith}
 use lib.Dec.{eqb, ltb}
 use lib.ListN.{length}
 use borrow.Author.Tests.{ne-eqb, ltb-true}
-use Rattle.wire.specs.Field.{valueAt, u8, s32}
 use Rattle.wire.specs.Refusals.{refused, given, Answer, Tests, ordered, zeroOr}
 use Rattle.observation.specs.Edition.{fitting, first}
-use Rattle.navigation.specs.Range.{inNs, fixUpTo}
 use Rattle.payloads.specs.Payloads.{Entry, table, entryFor, knownFor, testsOf, readingAny, readFor, answerFor}
 use Rattle.payloads.specs.Checks.{document, checkIn, checkFor, tests, testsBy, numberBy, Agrees, AsInDocument}
 use Rattle.payloads.specs.declared.Message.{Message}

@@ -20,7 +20,7 @@ use Rattle.observation.specs.declared.obs.Obs.{Obs}
 use Rattle.observation.proofs.ObsReading.{allowed, obs-shown}
 use Rattle.system.specs.Log as system
 use Rattle.system.specs.Log.{logLength, readingLog, logIn, readLog}
-use Rattle.payloads.specs.Payloads.{Described, messages, Entry, readIn, entryOf, noEntry, table, entryFor, testsOf, readFor, Typed, TypedIn, Promised, AllOf}
+use Rattle.payloads.specs.Payloads.{Described, messages, Entry, entryOf, noEntry, table, entryFor, testsOf, Typed, TypedIn, Promised, AllOf}
 use Rattle.payloads.specs.declared.Message.{Message}
 use Rattle.payloads.specs.declared.Message.the-variants as M
 

@@ -9,7 +9,7 @@ use lib.ListN.{length}
 use Rattle.wire.specs.Field.{formatOf}
 use Rattle.wire.specs.Layout.{Layout, run, then, bytes, rows, lengths}
 use Rattle.wire.specs.Refusals.{AllPass}
-use Rattle.formats.specs.Digits.{upTo, formatsBy, headOf, digitsOf, shapeOf}
+use Rattle.formats.specs.Digits.{upTo, formatsBy, frontOf, digitsOf, shapeOf}
 use Rattle.observation.specs.Edition.{first}
 use Rattle.payloads.specs.Payloads.{Described, messages, Entry, entryOf, noEntry, table, entryFor, layoutFor, shapeFor, testsOf, readingAny}
 
@@ -41,13 +41,13 @@ Ends (bytes most) = ⊥
 Ends (rows fs most) = ⊥
 
 abbrev pub Unpacks : Layout → Type 0
-Unpacks l = (formatsBy (shapeOf l .head) ++ formatsBy (shapeOf l .more) ≡ map formatOf (headOf l)) × Ends l
+Unpacks l = (formatsBy (shapeOf l .head) ++ formatsBy (shapeOf l .more) ≡ map formatOf (frontOf l)) × Ends l
 
 pub unpacks : (kind : ℕ) → Unpacks (layoutFor kind)
 unfolding upTo
 unpacks kind = of-any (λ e. Unpacks (e .layout)) table ((refl, tt), ((refl, tt), ((refl, tt), ((refl, tt), ((refl, tt), ((refl, tt), ((refl, tt), ((refl, tt), ((refl, tt), ((refl, tt), ((refl, tt), ((refl, tt), ((refl, tt), ((refl, tt), ((refl, tt), ((refl, tt), ((refl, (refl, refl)), ((refl, tt), tt)))))))))))))))))) kind (refl, tt)
 
-pub shaped : (kind : ℕ) → formatsBy (shapeFor kind .head) ++ formatsBy (shapeFor kind .more) ≡ map formatOf (headOf (layoutFor kind))
+pub shaped : (kind : ℕ) → formatsBy (shapeFor kind .head) ++ formatsBy (shapeFor kind .more) ≡ map formatOf (frontOf (layoutFor kind))
 shaped kind = unpacks kind .0
 
 pub shaped-each : formatsBy (shapeFor (first .kind) .each) ≡ map formatOf (first .row .fields)

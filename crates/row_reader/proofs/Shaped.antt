@@ -13,8 +13,8 @@ use Rattle.wire.specs.Field.{Format, Field, Row, size, decode}
 use Rattle.wire.specs.Layout.{Layout, run, then, bytes, rows, countIn, Body, LengthOf, decodeBody}
 use Rattle.wire.specs.Refusals.{AllPass}
 use Rattle.wire.proofs.Layouts.{lengths-of, length-rows}
-use Rattle.formats.specs.Wide.{wideRow, wideBody, numbersIn}
-use Rattle.formats.specs.Digits.{upTo, formatsBy, sizeOf, numbersAt, headOf, repeated, digitsOf, shapeOf}
+use Rattle.formats.specs.Wide.{wideRow, wideBody, numberCount}
+use Rattle.formats.specs.Digits.{upTo, formatsBy, sizeOf, numbersAt, frontOf, repeated, digitsOf, shapeOf, formatsIn}
 use Rattle.formats.specs.declared.Shape.{Shape}
 use Rattle.formats.proofs.Rows.{length-numbers}
 use Rattle.formats.proofs.Widened.{numbers-wide, numbers-joined, numbers-drop, size-formats, size-joined}
@@ -27,10 +27,7 @@ use Rattle.row_reader.proofs.Filling.{no-tail, one-tail}
 -- ---- a shape's two runs are one
 
 module _ (shape : Shape) where
-  abbrev formatsOf : List Format
-  formatsOf = formatsBy (shape .head) ++ formatsBy (shape .more)
-
-  joined : (s : List ℕ) → rowIn shape s ≡ numbersAt formatsOf s 0 ++ tailIn (shape .each) (drop (sizeOf formatsOf) s)
+  joined : (s : List ℕ) → rowIn shape s ≡ numbersAt (formatsIn shape) s 0 ++ tailIn (shape .each) (drop (sizeOf (formatsIn shape)) s)
   joined s =
       let h = sizeOf (formatsBy (shape .head)) in
       let m = sizeOf (formatsBy (shape .more)) in
@@ -38,8 +35,8 @@ module _ (shape : Shape) where
       ap₂ (λ (ns : List ℕ) (t : List ℕ). numbersAt (formatsBy (shape .head)) s 0 ++ (ns ++ tailIn (shape .each) t))
       (numbers-drop (formatsBy (shape .more)) s h 0 ∙ ap (numbersAt (formatsBy (shape .more)) s) offset)
       (drop-drop m h s ∙ ap (λ (k : ℕ). drop k s) (sym (size-joined (formatsBy (shape .more)) (formatsBy (shape .head)))))
-      ∙ sym (append-assoc (numbersAt (formatsBy (shape .head)) s 0) (numbersAt (formatsBy (shape .more)) s (0 + h)) (tailIn (shape .each) (drop (sizeOf formatsOf) s)))
-      ∙ ap (λ (ns : List ℕ). ns ++ tailIn (shape .each) (drop (sizeOf formatsOf) s)) (sym (numbers-joined (formatsBy (shape .more)) (formatsBy (shape .head)) s 0))
+      ∙ sym (append-assoc (numbersAt (formatsBy (shape .head)) s 0) (numbersAt (formatsBy (shape .more)) s (0 + h)) (tailIn (shape .each) (drop (sizeOf (formatsIn shape)) s)))
+      ∙ ap (λ (ns : List ℕ). ns ++ tailIn (shape .each) (drop (sizeOf (formatsIn shape)) s)) (sym (numbers-joined (formatsBy (shape .more)) (formatsBy (shape .head)) s 0))
 
 -- ---- over the layout
 
@@ -48,7 +45,7 @@ unfolding upTo sizeOf
 one-byte = refl
 
 -- what is repeated to the end
-tails : (l : Layout) → Ends l → (s : List ℕ) → wideRow (headOf l) (decode (headOf l) s 0) ++ tailIn (repeated l) (drop (size (headOf l)) s) ≡ wideBody l (decodeBody l s)
+tails : (l : Layout) → Ends l → (s : List ℕ) → wideRow (frontOf l) (decode (frontOf l) s 0) ++ tailIn (repeated l) (drop (size (frontOf l)) s) ≡ wideBody l (decodeBody l s)
 tails (run fs) e s = append-nil (wideRow fs (decode fs s 0))
 tails (then fs (bytes most)) e s =
     let t = drop (size fs) s in
@@ -60,13 +57,13 @@ tails (then fs (rows gs most)) e s =
     rw (e .1) (ap (λ (n : ℕ). wideRow fs (decode fs s 0) ++ (n ∷ [])) counted)
 
 module _ (l : Layout) (u : Unpacks l) where
-  head-size : sizeOf (formatsOf (shapeOf l)) ≡ size (headOf l)
-  head-size = ap sizeOf (u .0) ∙ size-formats (headOf l)
+  head-size : sizeOf (formatsIn (shapeOf l)) ≡ size (frontOf l)
+  head-size = ap sizeOf (u .0) ∙ size-formats (frontOf l)
 
   laid : (s : List ℕ) → rowIn (shapeOf l) s ≡ wideBody l (decodeBody l s)
   laid s =
       joined (shapeOf l) s
-      ∙ ap₂ (λ (ns : List ℕ) (k : ℕ). ns ++ tailIn (repeated l) (drop k s)) (ap (λ (ks : List Format). numbersAt ks s 0) (u .0) ∙ numbers-wide (headOf l) s 0) head-size
+      ∙ ap₂ (λ (ns : List ℕ) (k : ℕ). ns ++ tailIn (repeated l) (drop k s)) (ap (λ (ks : List Format). numbersAt ks s 0) (u .0) ∙ numbers-wide (frontOf l) s 0) head-size
       ∙ tails l (u .1) s
 
 -- how many numbers that are
@@ -74,14 +71,14 @@ wide-row : (fs : List Field) (v : Row fs) → length (wideRow fs v) ≡ length f
 wide-row [] v = refl
 wide-row (f ∷ fs) v = ap suc (wide-row fs (v .1))
 
-wide-body : (l : Layout) (v : Body l) → length (wideBody l v) ≡ numbersIn l
+wide-body : (l : Layout) (v : Body l) → length (wideBody l v) ≡ numberCount l
 wide-body (run fs) v = wide-row fs v
 wide-body (then fs l) v = length-append (wideRow fs (v .0)) (wideBody l (v .1)) ∙ ap₂ _+_ (wide-row fs (v .0)) (wide-body l (v .1))
 wide-body (bytes most) v = refl
 wide-body (rows fs most) v = refl
 
 -- the fields in front take no more than there is
-front : (l : Layout) (n : ℕ) → LengthOf l n → size (headOf l) ≤ n
+front : (l : Layout) (n : ℕ) → LengthOf l n → size (frontOf l) ≤ n
 front (run fs) n h = omega arith
 front (then fs l) n h = h .0
 front (bytes most) n h = omega arith
@@ -93,7 +90,7 @@ module _ (kind : ℕ) (s : List ℕ) where
   pub as-laid : rowIn (shapeFor kind) s ≡ numbersFor kind s
   as-laid = laid (layoutFor kind) (unpacks kind) s
 
-  pub as-many : length (rowIn (shapeFor kind) s) ≡ numbersIn (layoutFor kind)
+  pub as-many : length (rowIn (shapeFor kind) s) ≡ numberCount (layoutFor kind)
   as-many = ap length as-laid ∙ wide-body (layoutFor kind) (decodeBody (layoutFor kind) s)
 
   pub whole : AllPass (readingAny kind s) → sizeOf (formatsBy (shapeFor kind .head)) + sizeOf (formatsBy (shapeFor kind .more)) ≤ length s

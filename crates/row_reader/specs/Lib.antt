@@ -1,3 +1,3 @@
 pub mod ReadRow
-pub mod AsRead
+pub mod ReadsTyped
 pub mod ByDigits

@@ -5,7 +5,7 @@ use lib.ListN.{length}
 use Rattle.wire.specs.Refusals.{Answer, Tests, ordered, leaves, roomFor}
 use Rattle.wire.specs.Field.{decode}
 use Rattle.wire.specs.Layout.{decodeBody}
-use Rattle.formats.specs.Wide.{wideRow, wideBody, numbersIn}
+use Rattle.formats.specs.Wide.{wideRow, wideBody, numberCount}
 use Rattle.frames.specs.Writer.{startingWith}
 use Rattle.observation.specs.Edition.{first, startOf}
 use Rattle.observation.specs.Obs.{oneOfFrame}
@@ -18,7 +18,7 @@ beginning ns row = startingWith ns (length ns) row
 -- ---- a payload of any type: 21, 22, 23, then 32
 
 abbrev pub readingRow : ℕ → List ℕ → ℕ → Tests
-readingRow kind s room = readingAny kind s ++ roomFor (numbersIn (layoutFor kind)) room
+readingRow kind s room = readingAny kind s ++ roomFor (numberCount (layoutFor kind)) room
 
 -- one number for each field in order; of observations and of text, how many
 abbrev pub numbersFor : ℕ → List ℕ → List ℕ

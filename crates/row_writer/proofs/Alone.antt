@@ -8,24 +8,23 @@ use lib.ListN.{length, length-append, length-map}
 use borrow.Author.Tests.{leb-true}
 use Rattle.wire.specs.Field.{Format, formatOf, HeldRow, size, encode}
 use Rattle.wire.specs.Layout.{Layout, run, then, bytes, rows, HeldBody, allowedBody, fewEnough, bodySize, lengths, encodeBody, decodeBody, Sound}
-use Rattle.formats.specs.Wide.{narrowRow, fitsRow, numbersIn}
-use Rattle.formats.specs.Digits.{formatsBy, sizeOf, runFits, repeated, headOf}
+use Rattle.formats.specs.Wide.{narrowRow, fitsRow, numberCount}
+use Rattle.formats.specs.Digits.{formatsBy, sizeOf, runFits, repeated, frontOf, formatsIn}
 use Rattle.formats.specs.declared.Shape.{Shape}
 use Rattle.formats.proofs.Widened.{size-formats, size-joined}
 use Rattle.formats.proofs.Narrow.{withinAll, fits-row}
 use Rattle.payloads.specs.Payloads.{Described, messages, Entry, entryOf, table, entryFor, layoutFor, knownFor, shapeFor}
 use Rattle.payloads.proofs.Shapes.{OfEach, of-any, Ends, shaped}
 use Rattle.row_writer.specs.WriteRow.{alone, bodyOf}
-use Rattle.row_writer.specs.Parts.{formatsIn}
 
 -- ---- fields alone: all of it is said by the fields
 
 pub record FieldsAlone (l : Layout) (ns : List ℕ) : Type 0 where
   pub few : fewEnough l (bodyOf l ns) ≡ true
-  pub sized : bodySize l (bodyOf l ns) ≡ size (headOf l)
-  pub counted : numbersIn l ≡ length (headOf l)
-  pub encoded : encodeBody l (bodyOf l ns) ≡ encode (headOf l) (narrowRow (headOf l) ns 0)
-  pub held : HeldRow (headOf l) (narrowRow (headOf l) ns 0) → HeldBody l (bodyOf l ns)
+  pub sized : bodySize l (bodyOf l ns) ≡ size (frontOf l)
+  pub counted : numberCount l ≡ length (frontOf l)
+  pub encoded : encodeBody l (bodyOf l ns) ≡ encode (frontOf l) (narrowRow (frontOf l) ns 0)
+  pub held : HeldRow (frontOf l) (narrowRow (frontOf l) ns 0) → HeldBody l (bodyOf l ns)
   pub sound : Sound l
 
 pub fields-alone : (l : Layout) (ns : List ℕ) → alone l ≡ true → FieldsAlone l ns
@@ -51,7 +50,7 @@ alone-by-shape (rows fs most) e = absurd e
 
 -- numbers of 64 bits fill its fields, and these fit a payload
 abbrev plain : Layout → Bool
-plain l = withinAll (headOf l) && leb (size (headOf l)) 255
+plain l = withinAll (frontOf l) && leb (size (frontOf l)) 255
 
 abbrev allPlain : List Entry → Bool
 allPlain [] = true
@@ -61,9 +60,9 @@ each-plain : (es : List Entry) → allPlain es ≡ true → OfEach (λ e. plain 
 each-plain [] h = tt
 each-plain (e ∷ es) h = let p = and-eq-true-iff (plain (e .layout)) (allPlain es) .0 h in (p .0, each-plain es (p .1))
 
-pub plain-for : (kind : ℕ) → (withinAll (headOf (layoutFor kind)) ≡ true) × (size (headOf (layoutFor kind)) ≤ 255)
+pub plain-for : (kind : ℕ) → (withinAll (frontOf (layoutFor kind)) ≡ true) × (size (frontOf (layoutFor kind)) ≤ 255)
 plain-for kind =
-    let fs = headOf (layoutFor kind) in
+    let fs = frontOf (layoutFor kind) in
     let p = and-eq-true-iff (withinAll fs) (leb (size fs) 255) .0 (of-any (λ e. plain (e .layout) ≡ true) table (each-plain table refl) kind refl) in
     (p .0, leb-true (size fs) 255 (p .1))
 
@@ -81,18 +80,18 @@ reads-for kind = of-any Reads table (each-reads messages) kind (λ h. absurd (fa
 -- ---- and its shape, as code has it
 
 module _ (kind : ℕ) {s : Shape} (e : s ≡ shapeFor kind) where
-  pub formats-shaped : formatsIn s ≡ map formatOf (headOf (layoutFor kind))
+  pub formats-shaped : formatsIn s ≡ map formatOf (frontOf (layoutFor kind))
   formats-shaped = ap formatsIn e ∙ shaped kind
 
-  pub size-shaped : sizeOf (formatsBy (s .head)) + sizeOf (formatsBy (s .more)) ≡ size (headOf (layoutFor kind))
-  size-shaped = sym (size-joined (formatsBy (s .more)) (formatsBy (s .head))) ∙ ap sizeOf formats-shaped ∙ size-formats (headOf (layoutFor kind))
+  pub size-shaped : sizeOf (formatsBy (s .head)) + sizeOf (formatsBy (s .more)) ≡ size (frontOf (layoutFor kind))
+  size-shaped = sym (size-joined (formatsBy (s .more)) (formatsBy (s .head))) ∙ ap sizeOf formats-shaped ∙ size-formats (frontOf (layoutFor kind))
 
-  numbers-shaped : length (formatsBy (s .head)) + length (formatsBy (s .more)) ≡ length (headOf (layoutFor kind))
-  numbers-shaped = sym (length-append (formatsBy (s .head)) (formatsBy (s .more))) ∙ ap length formats-shaped ∙ length-map (headOf (layoutFor kind)) formatOf
+  numbers-shaped : length (formatsBy (s .head)) + length (formatsBy (s .more)) ≡ length (frontOf (layoutFor kind))
+  numbers-shaped = sym (length-append (formatsBy (s .head)) (formatsBy (s .more))) ∙ ap length formats-shaped ∙ length-map (frontOf (layoutFor kind)) formatOf
 
-  pub fits-shaped : (ns : List ℕ) → runFits (formatsIn s) ns 0 ≡ fitsRow (headOf (layoutFor kind)) ns 0
-  fits-shaped ns = ap (λ (ks : List Format). runFits ks ns 0) formats-shaped ∙ fits-row (headOf (layoutFor kind)) ns 0
+  pub fits-shaped : (ns : List ℕ) → runFits (formatsIn s) ns 0 ≡ fitsRow (frontOf (layoutFor kind)) ns 0
+  fits-shaped ns = ap (λ (ks : List Format). runFits ks ns 0) formats-shaped ∙ fits-row (frontOf (layoutFor kind)) ns 0
 
   -- how many numbers, as code counts them
-  pub counted-as : {x y : ℕ} → x ≡ length (formatsBy (s .head)) → y ≡ length (formatsBy (s .more)) → alone (layoutFor kind) ≡ true → x + y ≡ numbersIn (layoutFor kind)
+  pub counted-as : {x y : ℕ} → x ≡ length (formatsBy (s .head)) → y ≡ length (formatsBy (s .more)) → alone (layoutFor kind) ≡ true → x + y ≡ numberCount (layoutFor kind)
   counted-as p q only = ap₂ _+_ p q ∙ numbers-shaped ∙ sym (fields-alone (layoutFor kind) [] only .counted)

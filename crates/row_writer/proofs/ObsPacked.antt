@@ -18,7 +18,7 @@ use Rattle.formats.proofs.Narrow.{Words, stored-narrow}
 use Rattle.observation.specs.Edition.{obs, startOf, head, observation, first}
 use Rattle.observation.specs.declared.entry.Observation.{Observation}
 use Rattle.observation.proofs.EntriesStored.{Stored, stored-none, stored-all, stored-more}
-use Rattle.row_writer.specs.WriteObsRow.{observationsIn, observedOf}
+use Rattle.row_writer.specs.WriteObsRow.{rowsIn, observedOf}
 use Rattle.row_writer.proofs.Runs.{lentFrom, front-sets}
 use Rattle.row_writer.proofs.ObsRows.{length-made, length-narrow, row-made, row-fits, stored-lent}
 
@@ -82,7 +82,7 @@ module _ (hs ns : List ℕ) where
   l = obs first .layout
 
   abbrev k : ℕ
-  k = observationsIn (length ns)
+  k = rowsIn (length ns)
 
   abbrev v : Body l
   v = (narrowRow (head .fields) hs 0, narrowRows (observation .fields) k ns 0)

@@ -8,11 +8,10 @@ use lib.ListN.{length}
 use borrow.Author.Tests.{eq-eqb, ne-eqb, le-leb, lt-leb, leb-true}
 use Rattle.wire.specs.Refusals.{zeroOr}
 use Rattle.formats.specs.Wide.{fitsRow, fitsRows}
-use Rattle.frames.specs.Writer.{writingFrame, planned, withFrame}
+use Rattle.frames.specs.Writer.{writingFrame, planned, withFrame, sizeLeft}
 use Rattle.observation.specs.Edition.{startOf, head, observation, first, isObs}
 use Rattle.payloads.specs.Checks.{numberBy}
-use Rattle.row_writer.specs.WriteRow.{sizeLeft}
-use Rattle.row_writer.specs.WriteObsRow.{observationsIn, writeObsRow, obsRowWritten}
+use Rattle.row_writer.specs.WriteObsRow.{rowsIn, writeObsRow, obsRowWritten}
 use Rattle.row_writer.specs.Parts.{testingObsRow}
 use Rattle.row_writer.proofs.Tested.{stands, goes-on, all-pass}
 use Rattle.row_writer.proofs.Sends.{left-as, left-alone, left-of}
@@ -20,7 +19,7 @@ use Rattle.row_writer.proofs.ObsPacked.{payloadOf, payload-long}
 
 module _ (kind : ℕ) (hs ns : List ℕ) where
   abbrev k : ℕ
-  k = observationsIn (length ns)
+  k = rowsIn (length ns)
 
   abbrev fits : Bool
   fits = fitsRow (head .fields) hs 0 && fitsRows (observation .fields) k ns 0

@@ -11,15 +11,15 @@ use Rattle.wire.specs.Layout.{Layout, Body, HeldBody, allowedBody, bodySize, le
 use Rattle.wire.specs.Refusals.{refused, Answer, Tests, ordered, zeroOr}
 use Rattle.wire.proofs.Fields.{row-sets, length-encode}
 use Rattle.wire.proofs.Layouts.{allowed-again-body, lengths-true, size-fits, length-encode-body, decode-encode-body}
-use Rattle.formats.specs.Wide.{narrowRow, fitsRow, numbersIn}
-use Rattle.formats.specs.Digits.{runStored, headOf}
+use Rattle.formats.specs.Wide.{narrowRow, fitsRow, numberCount}
+use Rattle.formats.specs.Digits.{runStored, frontOf, formatsIn}
 use Rattle.formats.specs.declared.Shape.{Shape}
 use Rattle.formats.proofs.Narrow.{Words, held-narrow, stored-narrow}
-use Rattle.frames.specs.Writer.{writingFrame}
+use Rattle.frames.specs.Writer.{writingFrame, sizeLeft}
 use Rattle.payloads.specs.Checks.{numberBy}
 use Rattle.payloads.specs.Payloads.{table, entryFor, layoutFor, knownFor, shapeFor, answerFor}
-use Rattle.row_writer.specs.WriteRow.{alone, bodyOf, writeRow, rowWritten, sizeLeft}
-use Rattle.row_writer.specs.Parts.{formatsIn, testingRow, sent}
+use Rattle.row_writer.specs.WriteRow.{alone, bodyOf, writeRow, rowWritten}
+use Rattle.row_writer.specs.Parts.{testingRow, sent}
 use Rattle.row_writer.proofs.Tested.{stands, goes-on, all-pass}
 use Rattle.row_writer.proofs.Sends.{LeftBy, left-as, left-alone, left-of}
 use Rattle.row_writer.proofs.Runs.{front-sets}
@@ -40,8 +40,8 @@ unfolding writeRow
 in-parts kind ns room =
     let l = layoutFor kind in
     let v = bodyOf l ns in
-    ap (λ (a : Answer ℕ). cond (knownFor kind && alone l) (cond (eqb (length ns) (numbersIn l)) a (refused 22)) (refused 21))
-    (both-23 (fitsRow (headOf l) ns 0) (allowedBody l v) (ordered (writingFrame (bodySize l v) room) (bodySize l v + 8)))
+    ap (λ (a : Answer ℕ). cond (knownFor kind && alone l) (cond (eqb (length ns) (numberCount l)) a (refused 22)) (refused 21))
+    (both-23 (fitsRow (frontOf l) ns 0) (allowedBody l v) (ordered (writingFrame (bodySize l v) room) (bodySize l v + 8)))
 
 -- a payload is taken where its last test passes
 taken : {A : Type 0} (x : A) (t : Bool) → eqb (zeroOr (ordered ((t, 23) ∷ []) x)) 0 ≡ t
@@ -55,10 +55,10 @@ module _ (kind : ℕ) (ns : List ℕ) where
   Alone t = (knownFor kind && alone (layoutFor kind)) ≡ t
 
   abbrev Counted : Bool → Type 0
-  Counted t = eqb (length ns) (numbersIn (layoutFor kind)) ≡ t
+  Counted t = eqb (length ns) (numberCount (layoutFor kind)) ≡ t
 
   abbrev Fits : Bool → Type 0
-  Fits t = fitsRow (headOf (layoutFor kind)) ns 0 ≡ t
+  Fits t = fitsRow (frontOf (layoutFor kind)) ns 0 ≡ t
 
   pub number-21 : Alone false → 21 ≡ numberBy (testingRow kind ns)
   number-21 p = rw p
@@ -78,8 +78,8 @@ module _ (kind : ℕ) (ns : List ℕ) where
 pub record Fitting (kind : ℕ) (ns : List ℕ) : Type 0 where
   pub known : knownFor kind ≡ true
   pub only : alone (layoutFor kind) ≡ true
-  pub counted : eqb (length ns) (numbersIn (layoutFor kind)) ≡ true
-  pub fits : fitsRow (headOf (layoutFor kind)) ns 0 ≡ true
+  pub counted : eqb (length ns) (numberCount (layoutFor kind)) ≡ true
+  pub fits : fitsRow (frontOf (layoutFor kind)) ns 0 ≡ true
   pub on : (room : ℕ) → writeRow kind ns room ≡ ordered (after kind ns room) (bodySize (layoutFor kind) (bodyOf (layoutFor kind) ns) + 8)
 
 pub fitting : (kind : ℕ) (ns : List ℕ) {n : ℕ} → n ≡ numberBy (testingRow kind ns) → n ≡ 0 → Fitting kind ns
@@ -108,7 +108,7 @@ module _ (kind : ℕ) (ns : List ℕ) (words : Words ns) (f : Fitting kind ns) w
   is = fields-alone l ns (f .only)
 
   held : HeldBody l v
-  held = is .held (held-narrow ns words (headOf l) 0 (plain-for kind .0) (f .fits))
+  held = is .held (held-narrow ns words (frontOf l) 0 (plain-for kind .0) (f .fits))
 
   -- the fields' bytes are taken exactly when the numbers are within their ranges
   accepted : eqb (answerFor kind p) 0 ≡ allowedBody l v
@@ -125,10 +125,10 @@ module _ (kind : ℕ) (ns : List ℕ) (words : Words ns) (f : Fitting kind ns) w
   as-sent room = f .on room ∙ ap₂ (λ (t : Bool) (n : ℕ). ordered ((t, 23) ∷ writingFrame n room) (n + 8)) (sym accepted) (sym (length-encode-body l v))
 
   -- the fields stored from a buffer's start on, by the type's shape
-  pub payload-packed : {s : Shape} (buf : List ℕ) {t : List ℕ} {n : ℕ} → s ≡ shapeFor kind → n ≡ size (headOf l)
+  pub payload-packed : {s : Shape} (buf : List ℕ) {t : List ℕ} {n : ℕ} → s ≡ shapeFor kind → n ≡ size (frontOf l)
       → t ≡ runStored (formatsIn s) ns 0 buf 0 → 255 ≤ length buf → take n t ≡ p
   payload-packed buf {n = n} e sized q room =
-      let fs = headOf l in
+      let fs = frontOf l in
       let stored = q ∙ ap (λ (ks : List Format). runStored ks ns 0 buf 0) (formats-shaped kind e)
       ∙ stored-narrow ns words fs 0 buf 0 (plain-for kind .0) (f .fits) ∙ row-sets fs (narrowRow fs ns 0) buf 0 (omega (arith, plain-for kind .1)) in
       ap (take n) stored

@@ -7,9 +7,8 @@ use lib.ListN.{length}
 use borrow.Author.Tests.{eq-eqb, ne-eqb}
 use Rattle.wire.specs.Refusals.{refused, Answer, leaves, zeroOr}
 use Rattle.frames.specs.Frame.{frameBytes}
-use Rattle.frames.specs.Writer.{planned, startingWith, withFrame}
+use Rattle.frames.specs.Writer.{planned, startingWith, withFrame, sizeLeft}
 use Rattle.payloads.specs.Payloads.{answerFor}
-use Rattle.row_writer.specs.WriteRow.{sizeLeft}
 use Rattle.row_writer.specs.Parts.{sent}
 
 module _ (kind sender : ℕ) (out : List ℕ) (size : ℕ) where

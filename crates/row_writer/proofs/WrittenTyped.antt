@@ -4,7 +4,6 @@ use mathlib.Core.Bool.{Bool, true, _&&_}
 use mathlib.Core.List.{List, _∷_}
 use Prim.Native.Nat.{ℕ, _+_}
 use native.Mathlib.Omega.{arith}
-use lib.Dec.{eqb}
 use lib.ListN.{length, take}
 use lib.Seq.{take-all}
 use borrow.Author.Tests.{eq-eqb}
@@ -12,8 +11,7 @@ use Rattle.wire.specs.Layout.{Layout, Body, allowedBody, fewEnough, bodySize, e
 use Rattle.wire.specs.Description.{Description}
 use Rattle.wire.specs.Refusals.{given, Answer, Tests, ordered, leaves}
 use Rattle.wire.proofs.Ordered.{exactly-all}
-use Rattle.formats.specs.Wide.{fitsRow, narrowRows, numbersIn}
-use Rattle.formats.specs.Digits.{headOf}
+use Rattle.formats.specs.Wide.{narrowRows, numberCount}
 use Rattle.frames.specs.Frame.{frameBytes}
 use Rattle.frames.specs.Writer.{writingFrame, startingWith}
 use Rattle.frames.specs.Faithful.{writeAnswer, writtenAs}
@@ -23,9 +21,9 @@ use Rattle.observation.specs.declared.entry.Observation.{Observation}
 use Rattle.observation.proofs.ObsWritten.{same-answer}
 use Rattle.payloads.specs.Payloads.{Described, messages, Entry}
 use Rattle.payloads.proofs.Entries.{Found, found, all-of}
-use Rattle.row_writer.specs.WriteRow.{alone, bodyOf, writeRow, rowWritten}
-use Rattle.row_writer.specs.WriteObsRow.{observationsIn, observedOf, writingObsRow, writeObsRow, obsRowWritten}
-use Rattle.row_writer.specs.AsTyped.{AsTyped, Typed}
+use Rattle.row_writer.specs.WriteRow.{alone, bodyOf, writingBy, writeRow, rowWritten}
+use Rattle.row_writer.specs.WriteObsRow.{rowsIn, observedOf, writingObsRow, writeObsRow, obsRowWritten}
+use Rattle.row_writer.specs.WritesTyped.{WritesTyped, AllWritten}
 use Rattle.row_writer.proofs.Alone.{fields-alone}
 use Rattle.row_writer.proofs.ObsRows.{length-made, length-narrow}
 
@@ -33,14 +31,7 @@ use Rattle.row_writer.proofs.ObsRows.{length-made, length-narrow}
 
 -- what is answered, and left, by an entry of the table
 abbrev answerBy : Entry → List ℕ → ℕ → Answer ℕ
-answerBy e ns room =
-    let v = bodyOf (e .layout) ns in
-    ordered
-    ((e .known && alone (e .layout), 21) ∷
-    (eqb (length ns) (numbersIn (e .layout)), 22) ∷
-    (fitsRow (headOf (e .layout)) ns 0 && allowedBody (e .layout) v, 23) ∷
-    writingFrame (bodySize (e .layout) v) room)
-    (bodySize (e .layout) v + 8)
+answerBy e ns room = ordered (writingBy e ns room) (bodySize (e .layout) (bodyOf (e .layout) ns) + 8)
 
 module _ {R : Type 0} (d : Description R) (ns : List ℕ) (only : alone (d .layout) ≡ true) (room : ℕ) where
   abbrev l : Layout
@@ -61,7 +52,7 @@ opened : {a b f : Bool} (x : Bool) (rest : Tests) (y : ℕ) → a ≡ true → b
     → ordered ((a, 21) ∷ (b, 22) ∷ (f && x, 23) ∷ rest) y ≡ ordered ((x, 23) ∷ rest) y
 opened x rest y p q r = rw (p, q, r)
 
-pub typed : (m : Described) → Found m → AsTyped m
+pub typed : (m : Described) → Found m → WritesTyped m
 unfolding writeRow rowWritten writtenAs
 typed m h sender ns buf only counted fits =
     let d = m .description in
@@ -70,7 +61,7 @@ typed m h sender ns buf only counted fits =
     let room = length buf in
     let answer : writeRow (d .kind) ns room ≡ writeAnswer d (d .make v) room
     = ap (λ (e : Entry). answerBy e ns room) (h .0)
-    ∙ opened (allowedBody l v) (writingFrame (bodySize l v) room) (bodySize l v + 8) only (eq-eqb (length ns) (numbersIn l) counted) fits
+    ∙ opened (allowedBody l v) (writingFrame (bodySize l v) room) (bodySize l v + 8) only (eq-eqb (length ns) (numberCount l) counted) fits
     ∙ as-described d ns only room in (
       answer,
       ap (λ (e : Entry). leaves (startingWith (frameBytes (d .kind) sender (encodeBody (e .layout) (bodyOf (e .layout) ns)))) (writeRow (d .kind) ns room) buf) (h .0)
@@ -81,7 +72,7 @@ typed m h sender ns buf only counted fits =
 
 module _ (sender : ℕ) (hs ns buf : List ℕ) {n : ℕ} (g : writeObsRow (first .kind) hs ns (length buf) ≡ given n) where
   abbrev k : ℕ
-  k = observationsIn (length ns)
+  k = rowsIn (length ns)
 
   abbrev os : List Observation
   os = observedOf hs ns .observations
@@ -110,8 +101,8 @@ module _ (sender : ℕ) (hs ns buf : List ℕ) {n : ℕ} (g : writeObsRow (first
   obs-left =
       ap (λ (a : Answer ℕ). leaves (startingWith (frameBytes (first .kind) sender (encodeBody (obs first .layout) (obs first .row (observedOf hs ns))))) a buf) (g ∙ sym obs-answer)
 
-pub as-typed : Typed
+pub as-typed : AllWritten
 as-typed = record {
-  each = all-of {P = Found} {Q = AsTyped} typed messages found;
+  each = all-of {P = Found} {Q = WritesTyped} typed messages found;
   obs-written = λ sender hs ns buf g. (obs-answer sender hs ns buf g, obs-left sender hs ns buf g);
 }

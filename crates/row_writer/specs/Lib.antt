@@ -1,4 +1,4 @@
 pub mod WriteRow
 pub mod WriteObsRow
 pub mod Parts
-pub mod AsTyped
+pub mod WritesTyped

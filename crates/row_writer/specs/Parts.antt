@@ -1,35 +1,29 @@
 -- The parts of writing from numbers, each a private function's: what is tested of the numbers alone, and a payload's bytes sent.
 -- Assumes nothing.
 use mathlib.Core.Bool.{_&&_}
-use mathlib.Core.List.{List, [], _∷_, _++_}
+use mathlib.Core.List.{List, [], _∷_}
 use Prim.Native.Nat.{ℕ, _+_, _%_}
 use lib.Dec.{eqb, leb}
 use lib.ListN.{length}
-use Rattle.wire.specs.Field.{Format}
 use Rattle.wire.specs.Refusals.{Answer, Tests, ordered}
-use Rattle.formats.specs.Wide.{fitsRow, fitsRows, numbersIn}
-use Rattle.formats.specs.Digits.{formatsBy, headOf}
-use Rattle.formats.specs.declared.Shape.{Shape}
+use Rattle.formats.specs.Wide.{fitsRow, fitsRows, numberCount}
+use Rattle.formats.specs.Digits.{frontOf}
 use Rattle.frames.specs.Writer.{writingFrame}
 use Rattle.observation.specs.Edition.{head, observation, first, isObs}
 use Rattle.payloads.specs.Payloads.{layoutFor, knownFor, answerFor}
 use Rattle.row_writer.specs.WriteRow.{alone}
-use Rattle.row_writer.specs.WriteObsRow.{observationsIn}
-
--- the formats of a shape's fields
-abbrev pub formatsIn : Shape → List Format
-formatsIn s = formatsBy (s .head) ++ formatsBy (s .more)
+use Rattle.row_writer.specs.WriteObsRow.{rowsIn}
 
 -- 21, 22, and 23 for a number that its field cannot hold
 abbrev pub testingRow : ℕ → List ℕ → Tests
 testingRow kind ns =
     let l = layoutFor kind in
-    (knownFor kind && alone l, 21) ∷ (eqb (length ns) (numbersIn l), 22) ∷ (fitsRow (headOf l) ns 0, 23) ∷ []
+    (knownFor kind && alone l, 21) ∷ (eqb (length ns) (numberCount l), 22) ∷ (fitsRow (frontOf l) ns 0, 23) ∷ []
 
 -- the same of OBS, and 31 for too many observations
 abbrev pub testingObsRow : ℕ → List ℕ → List ℕ → Tests
 testingObsRow kind hs ns =
-    let k = observationsIn (length ns) in
+    let k = rowsIn (length ns) in
     (isObs kind, 21) ∷
     (eqb (length hs) (length (head .fields)) && eqb (length ns % length (observation .fields)) 0, 22) ∷
     (fitsRow (head .fields) hs 0 && fitsRows (observation .fields) k ns 0, 23) ∷

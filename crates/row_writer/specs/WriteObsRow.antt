@@ -1,6 +1,6 @@
 -- OBS written from rows of numbers: its header's, and eight for each observation. Assumes nothing.
 use Prim.Native.Nat.{ℕ, _+_, _/_, _%_}
-use mathlib.Core.Bool.{Bool, _&&_}
+use mathlib.Core.Bool.{_&&_}
 use mathlib.Core.List.{List, _∷_}
 use lib.Dec.{eqb}
 use lib.ListN.{length}
@@ -15,15 +15,15 @@ use Rattle.observation.specs.ObsWriter.{writingObs}
 use Rattle.observation.specs.declared.entry.Observation.{Observation}
 
 -- how many observations so many numbers are
-abbrev pub observationsIn : ℕ → ℕ
-observationsIn n = n / length (observation .fields)
+abbrev pub rowsIn : ℕ → ℕ
+rowsIn n = n / length (observation .fields)
 
 -- the message that the numbers stand for
 abbrev pub observedOf : List ℕ → List ℕ → Observed Head Observation
 observedOf hs ns =
     record {
       header = head .make (narrowRow (head .fields) hs 0);
-      observations = madeOf observation (narrowRows (observation .fields) (observationsIn (length ns)) ns 0);
+      observations = madeOf observation (narrowRows (observation .fields) (rowsIn (length ns)) ns 0);
     }
 
 -- 21 for another type, 22 for another number of fields or a part of an observation, 23 for a number that its field cannot hold, then as every OBS
@@ -31,11 +31,11 @@ abbrev pub writingObsRow : ℕ → List ℕ → List ℕ → ℕ → Tests
 writingObsRow kind hs ns room =
     (isObs kind, 21) ∷
     (eqb (length hs) (length (head .fields)) && eqb (length ns % length (observation .fields)) 0, 22) ∷
-    (fitsRow (head .fields) hs 0 && fitsRows (observation .fields) (observationsIn (length ns)) ns 0, 23) ∷
-    writingObs first (observationsIn (length ns)) room
+    (fitsRow (head .fields) hs 0 && fitsRows (observation .fields) (rowsIn (length ns)) ns 0, 23) ∷
+    writingObs first (rowsIn (length ns)) room
 
 unfoldable pub writeObsRow : ℕ → List ℕ → List ℕ → ℕ → Answer ℕ
-writeObsRow kind hs ns room = ordered (writingObsRow kind hs ns room) (startOf first (observationsIn (length ns)) + 8)
+writeObsRow kind hs ns room = ordered (writingObsRow kind hs ns room) (startOf first (rowsIn (length ns)) + 8)
 
 -- the buffer after it
 unfoldable pub obsRowWritten : ℕ → ℕ → List ℕ → List ℕ → List ℕ → List ℕ

@@ -6,11 +6,11 @@ use lib.Dec.{eqb}
 use lib.ListN.{length}
 use Rattle.wire.specs.Refusals.{Answer, Tests, ordered, leaves}
 use Rattle.wire.specs.Layout.{Layout, run, then, bytes, rows, Body, allowedBody, bodySize, encodeBody}
-use Rattle.formats.specs.Wide.{narrowRow, fitsRow, numbersIn}
-use Rattle.formats.specs.Digits.{headOf}
+use Rattle.formats.specs.Wide.{narrowRow, fitsRow, numberCount}
+use Rattle.formats.specs.Digits.{frontOf}
 use Rattle.frames.specs.Frame.{frameBytes}
 use Rattle.frames.specs.Writer.{writingFrame, startingWith}
-use Rattle.payloads.specs.Payloads.{layoutFor, knownFor}
+use Rattle.payloads.specs.Payloads.{Entry, table, entryFor, layoutFor}
 
 -- fields and nothing after them
 abbrev pub alone : Layout → Bool
@@ -28,13 +28,16 @@ bodyOf (rows fs most) ns = []
 
 -- 21 for a type that has no reading or has a tail, 22 for another number of fields, 23 for a number that its field cannot hold or that is outside
 -- its range, then 31 and 32 as every frame
-abbrev pub writingRow : ℕ → List ℕ → ℕ → Tests
-writingRow kind ns room =
-    let l = layoutFor kind in
-    (knownFor kind && alone l, 21) ∷
-    (eqb (length ns) (numbersIn l), 22) ∷
-    (fitsRow (headOf l) ns 0 && allowedBody l (bodyOf l ns), 23) ∷
+abbrev pub writingBy : Entry → List ℕ → ℕ → Tests
+writingBy e ns room =
+    let l = e .layout in
+    (e .known && alone l, 21) ∷
+    (eqb (length ns) (numberCount l), 22) ∷
+    (fitsRow (frontOf l) ns 0 && allowedBody l (bodyOf l ns), 23) ∷
     writingFrame (bodySize l (bodyOf l ns)) room
+
+abbrev pub writingRow : ℕ → List ℕ → ℕ → Tests
+writingRow kind = writingBy (entryFor table kind)
 
 unfoldable pub writeRow : ℕ → List ℕ → ℕ → Answer ℕ
 writeRow kind ns room = ordered (writingRow kind ns room) (bodySize (layoutFor kind) (bodyOf (layoutFor kind) ns) + 8)
@@ -43,7 +46,3 @@ writeRow kind ns room = ordered (writingRow kind ns room) (bodySize (layoutFor k
 unfoldable pub rowWritten : ℕ → ℕ → List ℕ → List ℕ → List ℕ
 rowWritten kind sender ns buf =
     leaves (startingWith (frameBytes kind sender (encodeBody (layoutFor kind) (bodyOf (layoutFor kind) ns)))) (writeRow kind ns (length buf)) buf
-
--- the number that the caller lends: how many bytes were written, or what stood there
-abbrev pub sizeLeft : Answer ℕ → ℕ → ℕ
-sizeLeft a before = leaves (λ n size. n) a before

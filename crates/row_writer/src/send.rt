@@ -3,11 +3,9 @@ ghost use mathlib.Core.Path.{_≡_};
 ghost use lib.ListN.{length};
 ghost use Rattle.wire.specs.Refusals.{leaves, zeroOr};
 ghost use Rattle.frames.specs.Frame.{frameBytes};
-ghost use Rattle.frames.specs.Writer.{senderOf, planned, startingWith, withFrame};
-ghost use Rattle.row_writer.specs.WriteRow.{sizeLeft};
+ghost use Rattle.frames.specs.Writer.{senderOf, planned, startingWith, withFrame, sizeLeft};
 ghost use Rattle.row_writer.specs.Parts.{sent};
 use frames::Sender;
-use frames::Written;
 
 // 31, 32, or 0 with the frame's size through size.
 pub fn send_frame(out: &mut [u8], kind: u16, sender: Sender, payload: &[u8], size: &mut u64) -> u8
@@ -16,17 +14,11 @@ pub fn send_frame(out: &mut [u8], kind: u16, sender: Sender, payload: &[u8], siz
     ensures { λ _. ⌜ now (size .exit) ≡ sizeLeft (planned (length (now (payload .entry))) (length (now (out .entry)))) (now (size .entry)) ⌝ }
 {
     let written = frames::write_frame(out, kind, sender, payload);
-    match written {
-        Written::Bytes(n) => {
-            *size = n as u64;
-            0
-        }
-        Written::Refused(n) => n,
-    }
+    frames::hand_on(written, size)
 }
 
 // The same of a payload that its type takes, else 23.
-pub fn send(out: &mut [u8], kind: u16, sender: Sender, payload: &[u8], size: &mut u64) -> u8
+pub(crate) fn send(out: &mut [u8], kind: u16, sender: Sender, payload: &[u8], size: &mut u64) -> u8
     ensures { λ r. ⌜ r ≡ zeroOr (sent kind (now (payload .entry)) (length (now (out .entry)))) ⌝ }
     ensures { λ _. ⌜ now (out .exit) ≡ leaves (startingWith (frameBytes kind (senderOf sender) (now (payload .entry)))) (sent kind (now (payload .entry)) (length (now (out .entry)))) (now (out .entry)) ⌝ }
     ensures { λ _. ⌜ now (size .exit) ≡ sizeLeft (sent kind (now (payload .entry)) (length (now (out .entry)))) (now (size .entry)) ⌝ }

@@ -20,7 +20,7 @@ use Rattle.epochs.specs.declared.collating.Collator.{Collator}
 use Rattle.epochs.specs.declared.collating.Made.{Made}
 use Rattle.epochs.proofs.Making.{nobody, made-seated}
 use Rattle.enlisting.specs.Enlisting.{seatedIn, enlistedTo}
-use Rattle.states.specs.State.{countFields, seatFields, slotFields, stateSize, seatAt, slotAt, slotMake, placeOf, placeIn, sendersIn, seatIn, stateIn, countStored, collatorStored}
+use Rattle.states.specs.State.{countFields, seatFields, slotFields, stateSize, seatAt, slotAt, slotMake, placeOf, placeIn, sendersIn, seatIn, stateIn, collatorStored}
 use Rattle.states.specs.Enlist.{growingIn, growingAnswer, growingStored, seatTaken, seatedBy, joinedIn, enlistedIn, enlistIn, enlistAnswer, enlistStored}
 use Rattle.states.proofs.Parts.{decode-stored, decode-before, decode-after}
 use Rattle.states.proofs.Tables.{tabulated-set, tabulated-same}

@@ -1,15 +1,13 @@
 -- A roster that grows in the bytes of a collator grows as that of `enlisting`, and tells the same of each frame. Assumes nothing.
-use mathlib.Core.Path.{_≡_, refl, sym, ap, ap₂, _∙_}
+use mathlib.Core.Path.{_≡_, refl, ap, ap₂, _∙_}
 use mathlib.Core.List.{List, [], _∷_}
 use Prim.Native.Nat.{ℕ, _≤_}
 use native.Mathlib.Omega.{arith}
 use lib.ListN.{length}
 use Rattle.frames.specs.Frame.{Content}
-use Rattle.epochs.specs.Collator.{fedFrame, made}
-use Rattle.epochs.specs.Epoch.{after, outcomes}
+use Rattle.epochs.specs.Collator.{fedFrame}
 use Rattle.epochs.specs.declared.collating.Collator.{Collator}
 use Rattle.epochs.specs.declared.collating.Happened.{Happened}
-use Rattle.enlisting.specs.FirstEight.{firstEight}
 use Rattle.enlisting.specs.Enlisting.{enlistedTo, newOutcomes, newAfter}
 use Rattle.enlisting.proofs.Growing.{as-of-the-first}
 use Rattle.states.specs.State.{stateSize, stateIn}

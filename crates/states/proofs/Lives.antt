@@ -1,6 +1,6 @@
 -- A collator in bytes from its making on: after any frames the bytes stand for the collator that the same frames lead to, and what the calls of
 -- `feed` tell is what each frame comes to there. Assumes nothing.
-use mathlib.Core.Path.{_≡_, refl, sym, ap, ap₂, _∙_, subst}
+use mathlib.Core.Path.{_≡_, refl, sym, ap, ap₂, _∙_}
 use mathlib.Core.List.{List, [], _∷_}
 use mathlib.Core.Logic.{_↔_}
 use Prim.Native.Nat.{ℕ, _≤_}

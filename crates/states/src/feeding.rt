@@ -4,7 +4,7 @@ ghost use Prim.Native.Nat.{_<_, _≤_};
 ghost use lib.ListN.{length};
 ghost use Rattle.wire.specs.Field.{rowStored};
 ghost use Rattle.epochs.specs.Collator.{recognisedAnswer, forPlace, rosterOf};
-ghost use Rattle.states.specs.State.{seatIn, seatsIn, stateIn, placeIn, placeStored};
+ghost use Rattle.states.specs.State.{seatIn, seatsIn, stateIn, placeStored};
 ghost use Rattle.states.specs.Feed.{reportFields, reportSize, reportRow, endedNumber, endedStored, stepIn, fedIn};
 use crate::placing::place_in;
 use crate::placing::put_place;

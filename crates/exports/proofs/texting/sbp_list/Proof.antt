@@ -2,7 +2,7 @@
 use mathlib.Core.Path.{ap, _∙_}
 use Prim.Native.Nat.{ℕ}
 use Rattle.wire.specs.Refusals.{Answer, zeroOr}
-use Rattle.row_writer.specs.WriteRow.{sizeLeft}
+use Rattle.frames.specs.Writer.{sizeLeft}
 use borrow.Author.Needs.{needs}
 use Rattle.exports.proofs.texting.sbp_list.Statement.{statement}
 use Rattle.exports.proofs.texting.sbp_list.Tie as tie

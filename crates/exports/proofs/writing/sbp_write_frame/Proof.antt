@@ -1,10 +1,7 @@
--- `exports::writing::sbp_write_frame` meets its contract: it hands on what the writer answers.
+-- `exports::writing::sbp_write_frame` meets its contract: it hands on what the writer answers and leaves.
 use mathlib.Core.Path.{ap, _∙_}
-use Prim.Native.Nat.{ℕ}
-use Rattle.wire.specs.Refusals.{Answer, zeroOr}
 use Rattle.frames.specs.Writer.{senderOf, withFrame}
 use Rattle.frames.specs.declared.write.Sender.{Sender}
-use Rattle.row_writer.specs.WriteRow.{sizeLeft}
 use borrow.Author.Needs.{needs}
 use Rattle.exports.proofs.writing.sbp_write_frame.Statement.{statement}
 use Rattle.exports.proofs.writing.sbp_write_frame.Tie as tie
@@ -12,28 +9,18 @@ use Rattle.exports.proofs.writing.sbp_write_frame.Tie as tie
 sender-from-requires : tie.Need-sender-from-requires
 sender-from-requires c κs = search needs
 
-write-frame-requires : tie.Need-write-frame-requires
-write-frame-requires c κs = search needs
-
-hand-on-requires : tie.Need-hand-on-requires
-hand-on-requires c κs = search needs
+send-frame-requires : tie.Need-send-frame-requires
+send-frame-requires c κs = search needs
 
 same-length : tie.Need-same-length
 same-length c = search needs
 
 returns : tie.Need-returns
 returns c =
-    let wrote = c .before .before .before .before in
-    let a = wrote .before .before .before .before .before .args in
-    let e = wrote .write-frame .ensures .0 in (
-      c .hand-on .ensures .0 ∙ ap zeroOr e,
-      (
-        wrote .write-frame .ensures .1 ∙ ap (λ (x : Sender). withFrame (a .kind) (senderOf x) (a .payload .now) (a .out .now)) (wrote .before .sender-from .ensures),
-        c .hand-on .ensures .1 ∙ ap (λ (x : Answer ℕ). sizeLeft x (a .size .now)) e,
-      ),
-    )
+    let wrote = c .before .before in
+    let a = wrote .before .before .before .before .before .before .args in
+    let e = wrote .send-frame .ensures in
+    (e .0, (e .1 .0 ∙ ap (λ (x : Sender). withFrame (a .kind) (senderOf x) (a .payload .now) (a .out .now)) (wrote .before .before .sender-from .ensures), e .1 .1))
 
 pub sbp-write-frame-spec : {M : Type 1} → statement M
-sbp-write-frame-spec =
-    tie.close
-    (tie.spec sender-from-requires write-frame-requires hand-on-requires same-length returns)
+sbp-write-frame-spec = tie.close (tie.spec sender-from-requires send-frame-requires same-length returns)

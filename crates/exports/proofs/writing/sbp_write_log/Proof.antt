@@ -2,10 +2,9 @@
 use mathlib.Core.Path.{ap, _∙_}
 use Prim.Native.Nat.{ℕ}
 use Rattle.wire.specs.Refusals.{Answer, zeroOr}
-use Rattle.frames.specs.Writer.{senderOf}
+use Rattle.frames.specs.Writer.{senderOf, sizeLeft}
 use Rattle.frames.specs.declared.write.Sender.{Sender}
 use Rattle.system.specs.Log.{logWritten}
-use Rattle.row_writer.specs.WriteRow.{sizeLeft}
 use borrow.Author.Needs.{needs}
 use Rattle.exports.proofs.writing.sbp_write_log.Statement.{statement}
 use Rattle.exports.proofs.writing.sbp_write_log.Tie as tie

@@ -7,8 +7,8 @@ use lib.Seq.{length-take-le}
 use borrow.Author.Needs.{needs}
 use borrow.Author.Tests.{eqb-true}
 use Rattle.wire.specs.Field.{size}
-use Rattle.formats.specs.Wide.{numbersIn}
-use Rattle.formats.specs.Digits.{headOf}
+use Rattle.formats.specs.Wide.{numberCount}
+use Rattle.formats.specs.Digits.{frontOf}
 use Rattle.formats.proofs.Narrow.{Words}
 use Rattle.frames.specs.Writer.{senderOf}
 use Rattle.payloads.specs.Payloads.{layoutFor}
@@ -30,7 +30,7 @@ fit : (c : tie.After-shape-of) → Fitting (c .before .before .before .before .b
 fit c = let a = c .before .before .before .before .before .args in fitting (a .kind) (a .row .now) (c .before .before .refusal .ensures) (c .before .if1 .left)
 
 -- and the sizes are the payload's
-sized : (c : tie.After-size2) → c .before .size .result + c .size2 .result ≡ size (headOf (layoutFor (c .before .before .before .before .before .before .before .args .kind)))
+sized : (c : tie.After-size2) → c .before .size .result + c .size2 .result ≡ size (frontOf (layoutFor (c .before .before .before .before .before .before .before .args .kind)))
 sized c = ap₂ _+_ (c .before .size .ensures) (c .size2 .ensures) ∙ size-shaped (c .before .before .before .before .before .before .before .args .kind) (c .before .before .shape-of .ensures)
 
 short : (c : tie.After-size2) → c .before .size .result + c .size2 .result ≤ 255
@@ -57,7 +57,7 @@ pack-requires c κs =
     let a = shape .before .before .before .before .before .args in
     let f = fit shape in
     let counted = counted-as (a .kind) (shape .shape-of .ensures) refl refl (f .only) in
-    (omega (arith, eqb-true (length (a .row .now)) (numbersIn (layoutFor (a .kind))) (f .counted), counted), omega (arith, short (c .before), c .before .before .size .ensures, c .before .size2 .ensures))
+    (omega (arith, eqb-true (length (a .row .now)) (numberCount (layoutFor (a .kind))) (f .counted), counted), omega (arith, short (c .before), c .before .before .size .ensures, c .before .size2 .ensures))
 
 array-share-prefix-bytes : tie.Need-array-share-prefix-bytes
 array-share-prefix-bytes c = omega (arith, short (c .before .before .before .before))

@@ -5,8 +5,8 @@ use mathlib.Core.List.{List}
 use Prim.Native.Nat.{ℕ}
 use lib.ListN.{length}
 use Rattle.wire.specs.Refusals.{given}
-use Rattle.formats.specs.Wide.{fitsRow, numbersIn}
-use Rattle.formats.specs.Digits.{headOf}
+use Rattle.formats.specs.Wide.{fitsRow, numberCount}
+use Rattle.formats.specs.Digits.{frontOf}
 use Rattle.frames.specs.Faithful.{writeAnswer, writtenAs}
 use Rattle.observation.specs.Edition.{obs, first}
 use Rattle.payloads.specs.Payloads.{Described, messages, AllOf}
@@ -14,15 +14,15 @@ use Rattle.row_writer.specs.WriteRow.{alone, bodyOf, writeRow, rowWritte
 use Rattle.row_writer.specs.WriteObsRow.{observedOf, writeObsRow, obsRowWritten}
 
 -- of a message without a tail: as many numbers as it has fields, each of which its field holds, are written as its own writer writes the record
-abbrev pub AsTyped : Described → Type 0
-AsTyped m =
+abbrev pub WritesTyped : Described → Type 0
+WritesTyped m =
     let d = m .description in
-    (sender : ℕ) (ns buf : List ℕ) → alone (d .layout) ≡ true → length ns ≡ numbersIn (d .layout) → fitsRow (headOf (d .layout)) ns 0 ≡ true
+    (sender : ℕ) (ns buf : List ℕ) → alone (d .layout) ≡ true → length ns ≡ numberCount (d .layout) → fitsRow (frontOf (d .layout)) ns 0 ≡ true
     → (writeRow (d .kind) ns (length buf) ≡ writeAnswer d (d .make (bodyOf (d .layout) ns)) (length buf))
     × (rowWritten (d .kind) sender ns buf ≡ writtenAs d sender (d .make (bodyOf (d .layout) ns)) buf)
 
-pub record Typed : Type 0 where
-  pub each : AllOf AsTyped messages
+pub record AllWritten : Type 0 where
+  pub each : AllOf WritesTyped messages
   -- of OBS: where the numbers are written at all
   pub obs-written : (sender : ℕ) (hs ns buf : List ℕ) {n : ℕ} → writeObsRow (first .kind) hs ns (length buf) ≡ given n
       → (writeAnswer (obs first) (observedOf hs ns) (length buf) ≡ given n)
