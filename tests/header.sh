@@ -109,6 +109,7 @@ inline() {
     sed -n '/^static/d; s/^[a-z].*[ *]\(sbp_[a-z_]*\)(.*/\1/p' "$header" | sort >"$work/declared"
     nm -g --defined-only "$lib" 2>/dev/null | sed -n 's/.* T \(sbp_.*\)/\1/p' | sort | comm -12 - "$work/declared" >"$work/there"
     same "a function that the library lacks" "$work/declared" "$work/there"
+    held "differs: a function that the Rust wrapper declares otherwise" python3 -B tests/signatures.py
 }
 
 # ---- the examples

@@ -33,10 +33,25 @@ impl fmt::Display for Version {
 /// assert_eq!(yaqtumeer::version().to_string(), env!("CARGO_PKG_VERSION"));
 /// ```
 pub fn version() -> Version {
-    let told = unsafe { raw::sbp_version() };
+    parts(unsafe { raw::sbp_version() })
+}
+
+fn parts(told: u32) -> Version {
     Version {
         major: told / 10000,
         minor: told / 100 % 100,
         patch: told % 100,
+    }
+}
+
+#[cfg(test)]
+mod tests {
+    use super::*;
+
+    /// A version whose parts all have two digits, which the library's has not yet.
+    #[test]
+    fn parts_of_two_digits() {
+        let told = parts(123456).to_string();
+        assert!(told == "12.34.56", "differs: version: {told}");
     }
 }
