@@ -52,7 +52,7 @@ int main(int argc, char **argv) {
     struct stat about;
     char *end = NULL;
     const double seconds = argc == 3 ? strtod(argv[2], &end) : HUGE_VAL;
-    if (argc < 2 || argc > 3 || (end != NULL && (end == argv[2] || *end != '\0'))) {
+    if (argc < 2 || argc > 3 || (end != NULL && (end == argv[2] || *end != '\0')) || !(seconds >= 0)) {
         fprintf(stderr, "usage: grows FILE [SECONDS]\n");
         return 2;
     }

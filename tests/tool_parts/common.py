@@ -9,6 +9,7 @@ ROOT = os.path.dirname(os.path.dirname(os.path.dirname(os.path.abspath(__file__)
 CRATE = os.path.join(ROOT, "link", "sbp")
 BUILT = os.path.join(ROOT, "target", "sbp")
 SBP = os.path.join(BUILT, "release", "sbp")
+REWRITE = os.path.join(ROOT, "tests", "rewrite.c")
 SBPLIST = [os.path.join(ROOT, "tools", "run"), "sbplist"]
 sys.path[:0] = [os.path.join(ROOT, "twins", "python"), os.path.join(ROOT, "tests", "sample"), os.path.join(ROOT, "tests")]
 import twins
@@ -21,13 +22,26 @@ def cargo(*words, **how):
     return subprocess.run(["cargo", *words, "--offline", "--release", "--target-dir", BUILT], cwd=CRATE, **how)
 
 
+def library():
+    return os.path.join(os.environ.get("YAQTUMEER_LIB", os.path.join(ROOT, "target", "lib")), "libyaqtumeer.a")
+
+
+def rewriter():
+    """The program that writes frames again, built once."""
+    program = os.path.join(BUILT, "rewrite")
+    if not os.path.exists(program) or os.path.getmtime(program) < max(map(os.path.getmtime, (library(), REWRITE))):
+        header = "-I" + os.path.join(ROOT, "link", "include")
+        subprocess.run(["gcc", "-std=c99", "-Wall", "-Wextra", "-Werror", "-O2", header, "-o", program, REWRITE, library()], check=True)
+    return program
+
+
 def lacking(parts):
     """What is not there, or None once the tool is built."""
-    library = os.path.join(os.environ.get("YAQTUMEER_LIB", os.path.join(ROOT, "target", "lib")), "libyaqtumeer.a")
-    if shutil.which("cargo") is None:
-        return "cargo"
-    if not os.path.exists(library):
-        return "%s, which link/library makes" % library
+    for compiler in ("cargo", "gcc"):
+        if shutil.which(compiler) is None:
+            return compiler
+    if not os.path.exists(library()):
+        return "%s, which link/library makes" % library()
     if "list" in parts and not os.path.exists(os.path.join(ROOT, "target", "bin", "sbplist")):
         return "sbplist, which rt check sbplist builds"
     if {"list", "epochs"} & set(parts) and not twins.cargo("build"):

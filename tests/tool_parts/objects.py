@@ -1,5 +1,5 @@
 """`sbp json`: each line's frame put together again is that part of the capture, and its fields, packed by 003's formats with Python's struct, are
-the payload, to the bit."""
+the payload, to the bit. Read back and written by the library's own writers (tests/rewrite.c), the lines give the same frames."""
 import base64
 import decimal
 import json
@@ -61,6 +61,34 @@ def fields_packed(told):
     return packed(twin.MESSAGES[twin.NAMES[kind]][1], [told[name] for name in messages.FIELDS[kind][1].split()])
 
 
+def row(form, values):
+    """Fields as the numbers that the library's writers take."""
+    return ["%d" % (int.from_bytes(double(v), "little") if one == "d" else v % 2**64) for one, v in zip(form, values)]
+
+
+def line_of(letter, told, *lists):
+    return " ".join([letter, "%d" % told["msg_type"], "%d" % told["sender"]] + [word for ns in lists for word in ["%d" % len(ns)] + ns])
+
+
+def writers_line(line):
+    """What tests/rewrite.c is asked to write: the fields, or of a refused payload its bytes."""
+    told = json.loads(line, parse_float=Number)
+    kind = told["msg_type"]
+    if told["answer"] != 0:
+        return line_of("F", told, ["%d" % byte for byte in base64.b64decode(told["payload"])])
+    if kind == twin.OBS:
+        header, seen = told["header"], [(o["P"], *o["L"].values(), o["cn0"], o["lock"], *o["sid"].values()) for o in told["obs"]]
+        return line_of("O", told, row("IHB", [*header["t"].values(), header["n_obs"]]), [n for one in seen for n in row("IiBBHHBB", one)])
+    if kind == 0x0401:
+        return line_of("L", told, ["%d" % byte for byte in (told["level"], *told["text"].encode("utf-8", "surrogateescape"))])
+    return line_of("W", told, row(twin.MESSAGES[twin.NAMES[kind]][1], [told[name] for name in messages.FIELDS[kind][1].split()]))
+
+
+def written_again(lines):
+    asked = "".join(writers_line(line) + "\n" for line in lines).encode()
+    return common.run(data=asked, program=common.rewriter())
+
+
 def told_of(line):
     """What a line says: its keys, offset, answer, name, the frame that it makes, and the payload that its fields make; or what is wrong with it."""
     try:
@@ -87,6 +115,8 @@ def compared(name, data):
     yield name + ": lines", (len(lines) - 1, lines[-1], said, status), (len(found), b"", b"", 0)
     for line, (at, kind, _, payload) in zip(lines, found):
         yield "%s: the frame at %d" % (name, at), told_of(line), wanted_of(data, at, kind, payload)
+    frames = b"".join(data[at:at + len(payload) + 8] for at, _, _, payload in found)
+    yield name + ": written again by the library", written_again(lines[:-1]), (frames, b"", 0)
 
 
 def reached(data):

@@ -74,7 +74,7 @@ def read_errors():
 
 
 def wrong_use():
-    for words in ([], ["lists"], ["list", "--all"], ["json", "-x", "file"], ["--list"], [""]):
+    for words in ([], ["lists"], ["list", "--all"], ["json", "-x", "file"], ["--list"], [""], ["--version", "more"], ["--help", "more"]):
         out, said, status = common.run(*words)
         yield "wrong use: %s" % words, (out, said.startswith(b"sbp: ") and said.endswith(b"; see sbp --help\n"), status), (b"", True, 2)
 

@@ -30,8 +30,8 @@ pub fn parse(words: impl IntoIterator<Item = OsString>) -> Result<Asked, String>
         return Err("no command is given".into());
     };
     match first.to_str() {
-        Some("--help" | "-h") => Ok(Asked::Help(None)),
-        Some("--version" | "-V") => Ok(Asked::Version),
+        Some("--help" | "-h") => alone(Asked::Help(None), words),
+        Some("--version" | "-V") => alone(Asked::Version, words),
         Some("list") => files(Command::List, words),
         Some("json") => files(Command::Json, words),
         Some("epochs") => files(Command::Epochs, words),
@@ -39,6 +39,14 @@ pub fn parse(words: impl IntoIterator<Item = OsString>) -> Result<Asked, String>
             "no command is called '{}'",
             first.to_string_lossy()
         )),
+    }
+}
+
+/// Nothing may follow.
+fn alone(asked: Asked, mut words: impl Iterator<Item = OsString>) -> Result<Asked, String> {
+    match words.next() {
+        None => Ok(asked),
+        Some(word) => Err(format!("'{}' is too much", word.to_string_lossy())),
     }
 }
 

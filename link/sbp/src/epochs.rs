@@ -72,14 +72,14 @@ impl Row {
 /// is all the same with whom one shares a collator.
 #[derive(Default)]
 pub struct Epochs {
-    title: Option<String>,
+    title: Option<Vec<u8>>,
     rows: Vec<Row>,
     places: HashMap<u16, usize>,
     collators: Vec<Collator>,
 }
 
 impl Epochs {
-    pub fn titled(title: Option<String>) -> Epochs {
+    pub fn titled(title: Option<Vec<u8>>) -> Epochs {
         Epochs {
             title,
             ..Epochs::default()
@@ -116,7 +116,7 @@ impl Reader for Epochs {
             return;
         }
         if let Some(title) = &self.title {
-            text.extend_from_slice(format!("==> {title} <==\n").as_bytes());
+            text.extend_from_slice(&[b"==> ", &title[..], b" <==\n"].concat());
         }
         let mut lines = vec![HEADINGS.map(String::from)];
         lines.extend(self.rows.iter().map(Row::cells));

@@ -34,7 +34,7 @@ fn main() -> ExitCode {
 
 fn run(command: Command, sources: &[Source]) -> u8 {
     // the line above a table where there are several
-    let title = |source: &Source| (sources.len() > 1).then(|| name(source));
+    let title = |source: &Source| (sources.len() > 1).then(|| name_bytes(source));
     match command {
         Command::List => read(sources, |_| list::List::new()),
         Command::Json => read(sources, |_| json::Json),
@@ -75,9 +75,14 @@ fn unwritten(failed: &io::Error) -> u8 {
 }
 
 fn name(source: &Source) -> String {
+    String::from_utf8_lossy(&name_bytes(source)).into_owned()
+}
+
+/// A file's name as it is, which need not be UTF-8.
+fn name_bytes(source: &Source) -> Vec<u8> {
     match source {
-        Source::Standard => "standard input".into(),
-        Source::File(path) => path.display().to_string(),
+        Source::Standard => b"standard input".to_vec(),
+        Source::File(path) => path.as_os_str().as_encoded_bytes().to_vec(),
     }
 }
 
