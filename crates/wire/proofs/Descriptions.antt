@@ -82,7 +82,7 @@ module _ {R : Type 0} (d : Description R) where
     reads-again : readAs d (encodeBody (d .layout) (d .row r)) ≡ given (d .make again)
     reads-again =
         let b = encodeBody (d .layout) (d .row r) in
-        let back : decodeBody (d .layout) b ≡ again = decode-encode-body (d .layout) (d .row r) sound held in
+        let back : decodeBody (d .layout) b ≡ again = decode-encode-body (d .layout) (d .row r) sound held a in
         read-given b (subst⁻¹ (LengthOf (d .layout)) (length-encode-body (d .layout) (d .row r)) (size-fits (d .layout) (d .row r) sound few)) (ap (allowedBody (d .layout)) back ∙ allowed-again-body (d .layout) (d .row r) held ∙ a)
         ∙ ap (λ (v : Body (d .layout)). given (d .make v)) back
 

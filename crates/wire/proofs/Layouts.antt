@@ -11,10 +11,12 @@ use lib.ListN.{length, getD, take, drop, length-append, length-drop, take-append
 use lib.Seq.{sets, drop-drop, drop-at, length-take-le, length-sets}
 use borrow.Author.Tests.{le-leb, lt-leb, leb-true, eq-eqb, eqb-true}
 use Rattle.wire.specs.Number.{Bytes, bytesStored}
+use Rattle.wire.specs.Padded.{noZero, allZero}
 use Rattle.wire.specs.Field.{Field, Row, HeldRow, SettledRow, allowedRow, rowBits, size, encode, decode, rowStored}
 use Rattle.wire.specs.Layout as lay
 use Rattle.wire.specs.Layout.{Layout, HeldRows, SettledRows, allowedRows, rowsBits, encodeRows, decodeRows, rowsStored, countIn, Body, HeldBody, SettledBody, allowedBody, fewEnough, bodyBits, bodySize, lengths, LengthOf, encodeBody, decodeBody, bodyStored, Sound}
 use Rattle.wire.proofs.Numbers.{bytes-take, bytes-drop, sets-append}
+use Rattle.wire.proofs.Texts.{before-from, length-split, split-joined}
 use Rattle.wire.proofs.Fields.{again, again-bits, again-settled, allowed-again-row, length-encode, decode-encode, encode-decode, decode-settled, decode-drop, decode-take, decode-append, row-sets, length-row}
 
 -- ---- rows one after the other
@@ -134,24 +136,28 @@ abbrev pub againBody : (l : Layout) → Body l → Body l
 againBody (lay.run fs) v = again fs v
 againBody (lay.then fs l) v = (again fs (v .0), againBody l (v .1))
 againBody (lay.bytes most) v = v
+againBody (lay.text most) v = v
 againBody (lay.rows fs most) v = againRows fs v
 
 pub again-body-bits : (l : Layout) (v : Body l) → HeldBody l v → bodyBits l (againBody l v) ≡ bodyBits l v
 again-body-bits (lay.run fs) v h = again-bits fs v h
 again-body-bits (lay.then fs l) v h = ap₂ _++_ (again-bits fs (v .0) (h .0)) (again-body-bits l (v .1) (h .1))
 again-body-bits (lay.bytes most) v h = refl
+again-body-bits (lay.text most) v h = refl
 again-body-bits (lay.rows fs most) v h = again-rows-bits fs v h
 
 pub again-body-settled : (l : Layout) (v : Body l) → SettledBody l v → againBody l v ≡ v
 again-body-settled (lay.run fs) v h = again-settled fs v h
 again-body-settled (lay.then fs l) v h = λ i. (again-settled fs (v .0) (h .0) i, again-body-settled l (v .1) (h .1) i)
 again-body-settled (lay.bytes most) v h = refl
+again-body-settled (lay.text most) v h = refl
 again-body-settled (lay.rows fs most) v h = again-rows-settled fs v h
 
 pub allowed-again-body : (l : Layout) (v : Body l) → HeldBody l v → allowedBody l (againBody l v) ≡ allowedBody l v
 allowed-again-body (lay.run fs) v h = allowed-again-row fs v h
 allowed-again-body (lay.then fs l) v h = ap₂ _&&_ (allowed-again-row fs (v .0) (h .0)) (allowed-again-body l (v .1) (h .1))
 allowed-again-body (lay.bytes most) v h = refl
+allowed-again-body (lay.text most) v h = refl
 allowed-again-body (lay.rows fs most) v h = allowed-again-rows fs v h
 
 -- ---- lengths
@@ -161,12 +167,14 @@ pub lengths-true : (l : Layout) (n : ℕ) → LengthOf l n → lengths l n ≡ t
 lengths-true (lay.run fs) n h = eq-eqb n (size fs) h
 lengths-true (lay.then fs l) n h = rw (le-leb (size fs) n (h .0)) (lengths-true l (n - size fs) (h .1))
 lengths-true (lay.bytes most) n h = le-leb n most h
+lengths-true (lay.text most) n h = le-leb n most h
 lengths-true (lay.rows fs most) n h = rw (eq-eqb (n % size fs) 0 (h .0)) (le-leb (countIn fs n) most (h .1))
 
 pub lengths-of : (l : Layout) (n : ℕ) → lengths l n ≡ true → LengthOf l n
 lengths-of (lay.run fs) n e = eqb-true n (size fs) e
 lengths-of (lay.then fs l) n e = let both = and-eq-true-iff _ _ .0 e in (leb-true (size fs) n (both .0), lengths-of l (n - size fs) (both .1))
 lengths-of (lay.bytes most) n e = leb-true n most e
+lengths-of (lay.text most) n e = leb-true n most e
 lengths-of (lay.rows fs most) n e = let both = and-eq-true-iff _ _ .0 e in (eqb-true (n % size fs) 0 (both .0), leb-true (countIn fs n) most (both .1))
 
 pub lengths-false : (l : Layout) (n : ℕ) → (LengthOf l n → ⊥) → lengths l n ≡ false
@@ -186,6 +194,7 @@ size-fits (lay.then fs l) v some few =
     let rest : size fs + bodySize l (v .1) - size fs ≡ bodySize l (v .1) = omega arith in
     (omega arith, rw rest (size-fits l (v .1) some few))
 size-fits (lay.bytes most) v some few = leb-true (length v) most few
+size-fits (lay.text most) v some few = leb-true (length (v .0) + length (v .1)) most few
 size-fits (lay.rows fs most) v some few = (mul-mod-left (length v) (size fs), rw (mul-div-cancel (length v) some) (leb-true (length v) most few))
 
 -- whole rows
@@ -198,18 +207,23 @@ pub length-encode-body : (l : Layout) (v : Body l) → length (encodeBody l v) �
 length-encode-body (lay.run fs) v = length-encode fs v
 length-encode-body (lay.then fs l) v = length-append (encode fs (v .0)) (encodeBody l (v .1)) ∙ ap₂ _+_ (length-encode fs (v .0)) (length-encode-body l (v .1))
 length-encode-body (lay.bytes most) v = refl
+length-encode-body (lay.text most) v = length-append (v .0) (v .1)
 length-encode-body (lay.rows fs most) v = length-encode-rows fs v
 
--- what is encoded decodes to the same bits
-pub decode-encode-body : (l : Layout) (v : Body l) → Sound l → HeldBody l v → decodeBody l (encodeBody l v) ≡ againBody l v
-decode-encode-body (lay.run fs) v some h = decode-encode fs v h
-decode-encode-body (lay.then fs l) v some h =
+-- what is allowed and encoded decodes to the same bits
+pub decode-encode-body : (l : Layout) (v : Body l) → Sound l → HeldBody l v → allowedBody l v ≡ true → decodeBody l (encodeBody l v) ≡ againBody l v
+decode-encode-body (lay.run fs) v some h ok = decode-encode fs v h
+decode-encode-body (lay.then fs l) v some h ok =
     let rest = encodeBody l (v .1) in
     let first = decode-append fs (encode fs (v .0)) rest (length-encode fs (v .0)) ∙ decode-encode fs (v .0) (h .0) in
-    let then = ap (decodeBody l) (drop-at (encode fs (v .0)) rest (size fs) (length-encode fs (v .0))) ∙ decode-encode-body l (v .1) some (h .1) in
+    let then = ap (decodeBody l) (drop-at (encode fs (v .0)) rest (size fs) (length-encode fs (v .0))) ∙ decode-encode-body l (v .1) some (h .1) (and-eq-true-iff (allowedRow fs (v .0)) (allowedBody l (v .1)) .0 ok .1) in
     λ i. (first i, then i)
-decode-encode-body (lay.bytes most) v some h = refl
-decode-encode-body (lay.rows fs most) v some h =
+decode-encode-body (lay.bytes most) v some h ok = refl
+decode-encode-body (lay.text most) v some h ok =
+    let both = and-eq-true-iff (noZero (v .0)) (allZero (v .1)) .0 ok in
+    let split = split-joined (v .0) (v .1) (both .0) (both .1) in
+    λ i. (split .0 i, split .1 i)
+decode-encode-body (lay.rows fs most) v some h ok =
     ap (λ (n : ℕ). decodeRows fs n (encodeRows fs v)) (ap (countIn fs) (length-encode-rows fs v) ∙ mul-div-cancel (length v) some) ∙ decode-encode-rows fs v h
 
 -- bytes of a length of the layout decode and encode to the same bytes
@@ -219,6 +233,7 @@ encode-decode-body (lay.then fs l) s b e =
     ap₂ _++_ (front-again fs s b (e .0)) (encode-decode-body l (drop (size fs) s) (bytes-drop (size fs) s b) (rw length-drop (e .1)))
     ∙ take-append-drop (size fs) s
 encode-decode-body (lay.bytes most) s b e = refl
+encode-decode-body (lay.text most) s b e = before-from s
 encode-decode-body (lay.rows fs most) s b e = encode-decode-rows fs (countIn fs (length s)) s b (whole fs (length s) (e .0))
 
 -- what is decoded is settled, and not too long
@@ -226,12 +241,14 @@ pub decode-body-settled : (l : Layout) (s : List ℕ) → Bytes s → SettledBod
 decode-body-settled (lay.run fs) s b = decode-settled fs s 0 b
 decode-body-settled (lay.then fs l) s b = (decode-settled fs s 0 b, decode-body-settled l (drop (size fs) s) (bytes-drop (size fs) s b))
 decode-body-settled (lay.bytes most) s b = tt
+decode-body-settled (lay.text most) s b = tt
 decode-body-settled (lay.rows fs most) s b = decode-rows-settled fs (countIn fs (length s)) s b
 
 pub decode-few : (l : Layout) (s : List ℕ) → LengthOf l (length s) → fewEnough l (decodeBody l s) ≡ true
 decode-few (lay.run fs) s e = refl
 decode-few (lay.then fs l) s e = decode-few l (drop (size fs) s) (rw length-drop (e .1))
 decode-few (lay.bytes most) s e = le-leb (length s) most e
+decode-few (lay.text most) s e = le-leb _ most (rw length-split e)
 decode-few (lay.rows fs most) s e = le-leb _ most (rw length-rows (e .1))
 
 -- ---- stored
@@ -240,6 +257,7 @@ pub length-body-stored : (l : Layout) (v : Body l) (s : List ℕ) (at : ℕ) →
 length-body-stored (lay.run fs) v s at = length-row fs v s at
 length-body-stored (lay.then fs l) v s at = length-body-stored l (v .1) (rowStored fs (v .0) s at) (at + size fs) ∙ length-row fs (v .0) s at
 length-body-stored (lay.bytes most) v s at = length-bytes-stored v s at
+length-body-stored (lay.text most) v s at = length-bytes-stored (v .1) (bytesStored (v .0) s at) (at + length (v .0)) ∙ length-bytes-stored (v .0) s at
 length-body-stored (lay.rows fs most) v s at = length-rows-stored fs v s at
 
 -- a value that has room, stored part after part, is its bytes stored
@@ -251,4 +269,9 @@ body-sets (lay.then fs l) v s at h =
     ∙ ap₂ (λ (t : List ℕ) (i : ℕ). sets t i (encodeBody l (v .1))) (row-sets fs (v .0) s at (omega arith)) (ap (λ (k : ℕ). at + k) (sym (length-encode fs (v .0))))
     ∙ sym (sets-append s at (encode fs (v .0)) (encodeBody l (v .1)))
 body-sets (lay.bytes most) v s at h = bytes-sets v s at h
+body-sets (lay.text most) v s at h =
+    let room : at + length (v .0) + length (v .1) ≤ length (bytesStored (v .0) s at) = rw length-bytes-stored (omega arith) in
+    bytes-sets (v .1) (bytesStored (v .0) s at) (at + length (v .0)) room
+    ∙ ap (λ (t : List ℕ). sets t (at + length (v .0)) (v .1)) (bytes-sets (v .0) s at (omega arith))
+    ∙ sym (sets-append s at (v .0) (v .1))
 body-sets (lay.rows fs most) v s at h = rows-sets fs v s at h

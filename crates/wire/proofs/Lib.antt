@@ -2,6 +2,7 @@ pub mod Numbers
 pub mod Signed
 pub mod Doubles
 pub mod Fields
+pub mod Texts
 pub mod Layouts
 pub mod Copies
 pub mod Distinct

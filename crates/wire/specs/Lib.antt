@@ -1,4 +1,5 @@
 pub mod Number
+pub mod Padded
 pub mod Double
 pub mod Field
 pub mod Layout

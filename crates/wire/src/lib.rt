@@ -1,14 +1,18 @@
 // Numbers and doubles in bytes, little-endian, and the description of fields that every message is made of.
-// Read specs/Number.antt and specs/Double.antt first, then specs/Field.antt, specs/Layout.antt and
+// Read specs/Number.antt, specs/Double.antt and specs/Padded.antt first, then specs/Field.antt, specs/Layout.antt and
 // specs/Description.antt.
 // Nothing here has a requires, and all are inner parts: a byte past the end reads 0, a store that runs past the end changes nothing.
 mod bits;
 mod double;
+mod padded;
 mod read;
 mod store;
 
 pub use bits::flag;
 pub use double::Double;
+pub use padded::all_zero;
+pub use padded::store_zeros;
+pub use padded::text_length;
 pub use read::read_double;
 pub use read::read_s16;
 pub use read::read_s32;
