@@ -9,7 +9,7 @@ use lib.ListN.{getD, take, drop}
 use mir.Syntax.{w8, w16, w32, w64, w128}
 use Rattle.wire.specs.Number.{storedAt}
 use Rattle.wire.specs.Field.{Format, unsigned, signed, double, u8, u16, u32, s16, s32, width, valueAt, Field, formatOf}
-use Rattle.wire.specs.Layout.{Layout, run, then, bytes, rows}
+use Rattle.wire.specs.Layout.{Layout, run, then, bytes, text, rows}
 use Rattle.formats.specs.Wide.{wideOf, fitsIn}
 use Rattle.formats.specs.declared.Shape.{Shape}
 
@@ -66,16 +66,22 @@ runStored (k ∷ ks) ns i buf at = runStored ks ns (suc i) (storedAt (width k) (
 
 -- ---- a layout's shape: the digits of its first sixteen fields, of those after, and of what is repeated to the end, which for bytes is one byte
 
+-- a text with its zeros, in place of what is repeated: no format has this digit
+abbrev pub textDigit : ℕ
+textDigit = 15
+
 abbrev pub repeated : Layout → ℕ
 repeated (run fs) = 0
 repeated (then fs l) = repeated l
 repeated (bytes most) = 1
+repeated (text most) = textDigit
 repeated (rows fs most) = digitsOf fs
 
 abbrev pub frontOf : Layout → List Field
 frontOf (run fs) = fs
 frontOf (then fs l) = fs
 frontOf (bytes most) = []
+frontOf (text most) = []
 frontOf (rows fs most) = []
 
 abbrev pub shapeOf : Layout → Shape

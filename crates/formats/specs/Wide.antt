@@ -9,7 +9,7 @@ use mir.Syntax.{w64}
 use mir.Val.{bits, toZ, ofZ}
 use Rattle.wire.specs.Double.{doubleOf, doubleBits}
 use Rattle.wire.specs.Field.{Format, unsigned, signed, double, Value, Field, formatOf, Row}
-use Rattle.wire.specs.Layout.{Layout, run, then, bytes, rows, Body}
+use Rattle.wire.specs.Layout.{Layout, run, then, bytes, text, rows, Body}
 
 -- ---- one value
 
@@ -55,12 +55,13 @@ abbrev pub fitsRows : List Field → ℕ → List ℕ → ℕ → Bool
 fitsRows fs zero ns i = true
 fitsRows fs (suc k) ns i = fitsRow fs ns i && fitsRows fs k ns (i + length fs)
 
--- ---- a layout's value: of the bytes or rows at its end, how many
+-- ---- a layout's value: of the bytes or rows at its end, how many; of a text its length and that of the zeros after it
 
 abbrev pub wideBody : (l : Layout) → Body l → List ℕ
 wideBody (run fs) v = wideRow fs v
 wideBody (then fs l) v = wideRow fs (v .0) ++ wideBody l (v .1)
 wideBody (bytes most) v = length v ∷ []
+wideBody (text most) v = length (v .0) ∷ length (v .1) ∷ []
 wideBody (rows fs most) v = length v ∷ []
 
 -- how many numbers that are
@@ -68,4 +69,5 @@ abbrev pub numberCount : Layout → ℕ
 numberCount (run fs) = length fs
 numberCount (then fs l) = length fs + numberCount l
 numberCount (bytes most) = 1
+numberCount (text most) = 2
 numberCount (rows fs most) = 1

@@ -12,19 +12,13 @@ use Rattle.wire.specs.Field.{Row, size, encode, rowStored}
 use Rattle.wire.specs.Layout.{rowsStored}
 use Rattle.wire.specs.Description.{Part, rowsOf}
 use Rattle.wire.proofs.Numbers.{sets-lent}
+use Rattle.wire.proofs.Lent.{lentFrom, backFrom, lent-length}
 use Rattle.wire.proofs.Fields.{row-sets}
 use Rattle.wire.proofs.Layouts.{length-rows-stored}
 
 -- where row i goes, the first at some offset
 abbrev rowStart : {R : Type 0} → Part R → ℕ → ℕ → ℕ
 rowStart p at i = at + i * size (p .fields)
-
--- what is lent of a buffer from n on, and the buffer once that has come back as t
-abbrev lentFrom : ℕ → List ℕ → List ℕ
-lentFrom n buf = take (length buf - n) (drop n buf)
-
-abbrev backFrom : ℕ → List ℕ → List ℕ → List ℕ
-backFrom n buf t = take n buf ++ (t ++ drop (length buf - n) (drop n buf))
 
 -- buf is what start has become once i of the first k rows are stored from at on: those left, stored from there on, make what all k make of start
 pub record Stored {R : Type 0} (p : Part R) (at : ℕ) (start : List ℕ) (rs : List R) (k : ℕ) (buf : List ℕ) (i : ℕ) : Type 0 where
@@ -69,7 +63,7 @@ module _ {R : Type 0} {p : Part R} {at : ℕ} {start : List ℕ} {rs : List R} {
           → backFrom (rowStart p at i) buf t ≡ rowStored (p .fields) v buf (rowStart p at i)
       lent-row v e =
           let n = rowStart p at i in
-          let long : length (lentFrom n buf) ≡ length buf - n = length-take-le (length buf - n) (drop n buf) (rw length-drop (omega arith)) in
+          let long = lent-length n buf in
           sets-lent n buf 0 (encode (p .fields) v) (omega (arith, has-room)) (e ∙ row-sets (p .fields) v (lentFrom n buf) 0 (omega (arith, has-room)))
           ∙ ap (λ (j : ℕ). sets buf j (encode (p .fields) v)) (add-zero n)
           ∙ sym (row-sets (p .fields) v buf n has-room)

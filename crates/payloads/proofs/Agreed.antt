@@ -9,6 +9,8 @@ use lib.ListN.{length}
 use borrow.Author.Tests.{ne-eqb, ltb-true}
 use Rattle.wire.specs.Refusals.{refused, given, Answer, Tests, ordered, zeroOr}
 use Rattle.observation.specs.Edition.{fitting, first}
+use Rattle.system.specs.Log.{logLength}
+use Rattle.system.proofs.Logs.{as-padded}
 use Rattle.payloads.specs.Payloads.{Entry, table, entryFor, knownFor, testsOf, readingAny, readFor, answerFor}
 use Rattle.payloads.specs.Checks.{document, checkIn, checkFor, tests, testsBy, numberBy, Agrees, AsInDocument}
 use Rattle.payloads.specs.declared.Message.{Message}
@@ -22,7 +24,7 @@ last fits inside = rw (and-true inside)
 
 pub agreed : AsInDocument
 agreed =
-    (refl, λ s. last _ _, (refl, λ s. refl, (refl, λ s. last _ _, (refl, λ s. last _ _, (refl, λ s. last _ _, (refl, λ s. refl, (refl, λ s. last _ _, (refl, λ s. refl, (refl, λ s. last _ _, (refl, λ s. refl, (refl, λ s. refl, (refl, λ s. refl, (refl, λ s. refl, (refl, λ s. refl, (refl, λ s. refl, (refl, λ s. refl, (refl, λ s. ap (tests (fitting first (length s))) (obs-allowed s), (refl, λ s. refl, tt))))))))))))))))))
+    (refl, λ s. last _ _, (refl, λ s. refl, (refl, λ s. last _ _, (refl, λ s. last _ _, (refl, λ s. last _ _, (refl, λ s. refl, (refl, λ s. last _ _, (refl, λ s. refl, (refl, λ s. last _ _, (refl, λ s. refl, (refl, λ s. refl, (refl, λ s. refl, (refl, λ s. refl, (refl, λ s. refl, (refl, λ s. refl, (refl, λ s. refl, (refl, λ s. ap (tests (fitting first (length s))) (obs-allowed s), (refl, λ s. ap (tests (logLength (length s))) (as-padded s), tt))))))))))))))))))
 
 -- ---- of any type
 

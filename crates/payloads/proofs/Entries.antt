@@ -5,11 +5,10 @@ use mathlib.Core.Bool.{Bool, true, false, _&&_, not, cond, false≢true}
 use mathlib.Core.List.{List, [], _∷_, _++_, map, append-assoc}
 use Prim.Native.Nat.{ℕ, _<_}
 use lib.Dec.{eqb, leb, ltb}
-use lib.ListN.{length, length-drop}
+use lib.ListN.{length}
 use borrow.Author.Tests.{eq-eqb, ne-eqb, leb-true, ltb-true}
-use Rattle.wire.specs.Number.{numberAt}
 use Rattle.wire.specs.Field.{size}
-use Rattle.wire.specs.Layout.{Layout, run, then, bytes, rows, Sound, allowedBody, decodeBody}
+use Rattle.wire.specs.Layout.{Layout, run, then, bytes, text, rows, Sound, allowedBody, decodeBody}
 use Rattle.wire.specs.Description.{readAs, reading, inside}
 use Rattle.wire.specs.Refusals.{Answer, ordered, mapped}
 use Rattle.wire.proofs.Joined.{ordered-mapped}
@@ -19,7 +18,7 @@ use Rattle.observation.specs.Obs.{readingObs, obsIn, readObs}
 use Rattle.observation.specs.declared.obs.Obs.{Obs}
 use Rattle.observation.proofs.ObsReading.{allowed, obs-shown}
 use Rattle.system.specs.Log as system
-use Rattle.system.specs.Log.{logLength, readingLog, logIn, readLog}
+use Rattle.system.specs.Log.{readLog}
 use Rattle.payloads.specs.Payloads.{Described, messages, Entry, entryOf, noEntry, table, entryFor, testsOf, Typed, TypedIn, Promised, AllOf}
 use Rattle.payloads.specs.declared.Message.{Message}
 use Rattle.payloads.specs.declared.Message.the-variants as M
@@ -65,12 +64,14 @@ abbrev sound : Layout → Bool
 sound (run fs) = true
 sound (then fs l) = sound l
 sound (bytes most) = true
+sound (text most) = true
 sound (rows fs most) = leb 1 (size fs)
 
 sound-layout : (l : Layout) → sound l ≡ true → Sound l
 sound-layout (run fs) h = tt
 sound-layout (then fs l) h = sound-layout l h
 sound-layout (bytes most) h = tt
+sound-layout (text most) h = tt
 sound-layout (rows fs most) h = leb-true 1 (size fs) h
 
 -- its type is a u16, and no message before it has it
@@ -131,6 +132,4 @@ obs-read s =
 
 pub log-read : Typed (system.log .kind) (λ r. M.Log r) readLog
 unfolding entryFor readLog
-log-read s =
-    ap (λ (k : ℕ). ordered ((logLength (length s), 22) ∷ []) (M.Log (record { level = numberAt 1 s 0; length = k }))) (length-drop 1 s)
-    ∙ ordered-mapped (λ r. M.Log r) (logIn s) (readingLog s)
+log-read s = ordered-mapped (λ r. M.Log r) (system.shown (inside system.log s)) (reading system.log s)

@@ -7,9 +7,9 @@ use Prim.Native.Nat.{ℕ}
 use lib.Dec.{eqb}
 use lib.ListN.{length}
 use Rattle.wire.specs.Field.{formatOf}
-use Rattle.wire.specs.Layout.{Layout, run, then, bytes, rows, lengths}
+use Rattle.wire.specs.Layout.{Layout, run, then, bytes, text, rows, lengths}
 use Rattle.wire.specs.Refusals.{AllPass}
-use Rattle.formats.specs.Digits.{upTo, formatsBy, frontOf, digitsOf, shapeOf}
+use Rattle.formats.specs.Digits.{upTo, formatsBy, textDigit, frontOf, digitsOf, shapeOf}
 use Rattle.observation.specs.Edition.{first}
 use Rattle.payloads.specs.Payloads.{Described, messages, Entry, entryOf, noEntry, table, entryFor, layoutFor, shapeFor, testsOf, readingAny}
 
@@ -30,14 +30,16 @@ of-any P (e ∷ es) h kind none = by (eqb kind (e .kind)) (of-any P es (h .1) ki
 
 -- ---- a layout's digits
 
--- one run of fields, after which bytes may come, or rows of some field whose digits unpack too
+-- one run of fields, after which bytes or a text may come, or rows of some field whose digits unpack too and are no text's
 abbrev pub Ends : Layout → Type 0
 Ends (run fs) = Unit {0}
 Ends (then fs (run gs)) = ⊥
 Ends (then fs (then gs l)) = ⊥
 Ends (then fs (bytes most)) = Unit {0}
-Ends (then fs (rows gs most)) = (formatsBy (digitsOf gs) ≡ map formatOf gs) × (eqb (digitsOf gs) 0 ≡ false)
+Ends (then fs (text most)) = Unit {0}
+Ends (then fs (rows gs most)) = (formatsBy (digitsOf gs) ≡ map formatOf gs) × (eqb (digitsOf gs) 0 ≡ false) × (eqb (digitsOf gs) textDigit ≡ false)
 Ends (bytes most) = ⊥
+Ends (text most) = ⊥
 Ends (rows fs most) = ⊥
 
 abbrev pub Unpacks : Layout → Type 0
@@ -45,7 +47,7 @@ Unpacks l = (formatsBy (shapeOf l .head) ++ formatsBy (shapeOf l .more) ≡ map 
 
 pub unpacks : (kind : ℕ) → Unpacks (layoutFor kind)
 unfolding upTo
-unpacks kind = of-any (λ e. Unpacks (e .layout)) table ((refl, tt), ((refl, tt), ((refl, tt), ((refl, tt), ((refl, tt), ((refl, tt), ((refl, tt), ((refl, tt), ((refl, tt), ((refl, tt), ((refl, tt), ((refl, tt), ((refl, tt), ((refl, tt), ((refl, tt), ((refl, tt), ((refl, (refl, refl)), ((refl, tt), tt)))))))))))))))))) kind (refl, tt)
+unpacks kind = of-any (λ e. Unpacks (e .layout)) table ((refl, tt), ((refl, tt), ((refl, tt), ((refl, tt), ((refl, tt), ((refl, tt), ((refl, tt), ((refl, tt), ((refl, tt), ((refl, tt), ((refl, tt), ((refl, tt), ((refl, tt), ((refl, tt), ((refl, tt), ((refl, tt), ((refl, (refl, refl, refl)), ((refl, tt), tt)))))))))))))))))) kind (refl, tt)
 
 pub shaped : (kind : ℕ) → formatsBy (shapeFor kind .head) ++ formatsBy (shapeFor kind .more) ≡ map formatOf (frontOf (layoutFor kind))
 shaped kind = unpacks kind .0

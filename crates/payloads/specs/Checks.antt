@@ -11,12 +11,12 @@ use Rattle.wire.specs.Field.{valueAt, u8, s32}
 use Rattle.wire.specs.Refusals.{Tests, ordered, zeroOr}
 use Rattle.navigation.specs.Range.{inNs, fixUpTo}
 use Rattle.observation.specs.Edition.{fitting, first}
-use Rattle.system.specs.Log.{logLength}
+use Rattle.system.specs.Log.{logLength, logPadded}
 use Rattle.payloads.specs.Payloads.{Entry, table, testsOf}
 use Rattle.payloads.specs.declared.check.Check.{Check}
 use Rattle.payloads.specs.declared.check.Check.the-variants.{Unknown, Length, Ns, Fix, Obs, Log}
 
--- each type with its length; ns or flags stand at an offset, and the fix mode goes up to the last
+-- each type with its length; ns or flags stand at an offset, and the fix mode goes up to the last; of LOG nothing but zeros stands after the text
 abbrev pub document : List (ℕ × Check)
 document =
     (0x0100, Ns 11 6) ∷
@@ -56,7 +56,7 @@ testsBy (Length n) s = tests (eqb (length s) n) true
 testsBy (Ns n at) s = tests (eqb (length s) n) (inNs (valueAt s32 s at))
 testsBy (Fix n at last) s = tests (eqb (length s) n) (fixUpTo last (valueAt u8 s at))
 testsBy Obs s = tests (fitting first (length s)) true
-testsBy Log s = tests (logLength (length s)) true
+testsBy Log s = tests (logLength (length s)) (logPadded s)
 
 -- the number of the first that fails, or 0
 abbrev pub numberBy : Tests → ℕ

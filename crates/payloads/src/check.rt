@@ -1,6 +1,5 @@
 // What a payload is tested for before it is read, by its type: document 01's lengths and ranges.
 ghost use mathlib.Core.Path.{_≡_};
-ghost use Rattle.system.specs.Log.{logLength};
 ghost use Rattle.payloads.specs.Checks.{checkFor, tests, testsBy, numberBy};
 
 pub enum Check {
@@ -53,16 +52,7 @@ fn refusal(fits: bool, inside: bool) -> u8
     22
 }
 
-fn log_fits(n: usize) -> bool
-    ensures { λ r. ⌜ r ≡ logLength n ⌝ }
-{
-    if 1 <= n {
-        return n <= 255;
-    }
-    false
-}
-
-// No record is built: a range is tested on the bytes of its field.
+// No record is built: a range is tested on the bytes of its field, LOG's padding on the payload.
 pub fn tested(check: Check, s: &[u8]) -> u8
     ensures { λ r. ⌜ r ≡ numberBy (testsBy check (now (s .entry))) ⌝ }
 {
@@ -75,6 +65,6 @@ pub fn tested(check: Check, s: &[u8]) -> u8
             navigation::fix_allowed(wire::read_u8(s, at), last),
         ),
         Check::Obs => refusal(observation::is_obs_length(s.len()), true),
-        Check::Log => refusal(log_fits(s.len()), true),
+        Check::Log => refusal(system::is_log_length(s.len()), system::log_padded(s)),
     }
 }

@@ -3,7 +3,6 @@
 // document 01's types, lengths and ranges as numbers, which are proved to agree with the descriptions.
 ghost use mathlib.Core.Path.{_≡_};
 ghost use Rattle.observation.specs.Obs.{readObs};
-ghost use Rattle.system.specs.Log.{readLog};
 ghost use Rattle.payloads.specs.Payloads.{readFor, answerFor, readingAnswer};
 ghost use Rattle.wire.specs.Refusals.{mapped};
 
@@ -13,7 +12,6 @@ mod shape;
 use observation::ObsRead;
 pub use shape::is_known;
 pub use shape::shape_of;
-use system::LogRead;
 
 // Every message that has a reading. The observations of an Obs and the text of a Log stay in the payload: read_observation and
 // log_text give them.
@@ -52,15 +50,6 @@ fn obs(s: &[u8]) -> Reading
     }
 }
 
-fn log(s: &[u8]) -> Reading
-    ensures { λ r. ⌜ readingAnswer r ≡ mapped (λ x. Message.Log x) (readLog (now (s .entry))) ⌝ }
-{
-    match system::read_log(s) {
-        LogRead::Record(r) => Reading::Record(Message::Log(r)),
-        LogRead::Refused(n) => Reading::Refused(n),
-    }
-}
-
 // 0, or the number of the refusal.
 pub fn answer(kind: u16, payload: &[u8]) -> u8
     ensures { λ r. ⌜ r ≡ answerFor kind (now (payload .entry)) ⌝ }
@@ -95,7 +84,7 @@ pub fn read(kind: u16, payload: &[u8]) -> Reading
         0xff00 => Reading::Record(Message::Startup(system::take_startup(payload))),
         0xffff => Reading::Record(Message::Heartbeat(system::take_heartbeat(payload))),
         0x0049 => obs(payload),
-        0x0401 => log(payload),
+        0x0401 => Reading::Record(Message::Log(system::take_log(payload))),
         _ => Reading::Refused(21),
     }
 }

@@ -48,7 +48,7 @@ pub fn shape_of(kind: u16) -> Shape
         0xff00 => digits(0x4, 0),
         0xffff => digits(0x4, 0),
         0x0049 => digits(0x124, 0x112211c4),
-        0x0401 => digits(0x1, 0x1),
+        0x0401 => digits(0x1, 0xf),
         _ => digits(0, 0),
     }
 }

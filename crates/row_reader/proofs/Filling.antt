@@ -5,27 +5,17 @@ use Prim.Native.Nat.{ℕ, _+_, _-_, _/_, _≤_, _<_}
 use native.Mathlib.Nat.{zero-add, not-suc-le-zero}
 use native.Mathlib.Omega.{arith}
 use lib.ListN.{length, take, drop, set, length-append, length-drop, drop-of-length-le}
-use lib.Seq.{sets-eq, take-all, take-at, drop-at, drop-drop}
+use lib.Seq.{sets-eq, take-at, drop-at, drop-drop}
 use borrow.Author.Tests.{eq-eqb, ne-eqb}
 use Rattle.wire.specs.Number.{bytesStored}
 use Rattle.wire.proofs.Layouts.{bytes-sets}
-use Rattle.formats.specs.Digits.{formatsBy, sizeOf, numbersAt}
+use Rattle.wire.proofs.Lent.{lentFrom, backFrom, lent-all, lent-length}
+use Rattle.wire.specs.Padded.{beforeZero, fromZero}
+use Rattle.wire.proofs.Texts.{length-split}
+use Rattle.formats.specs.Digits.{formatsBy, sizeOf, numbersAt, textDigit}
 use Rattle.formats.proofs.Rows.{length-numbers}
 use Rattle.row_reader.specs.ReadRow.{beginning}
-use Rattle.row_reader.specs.ByDigits.{runThen, tailIn}
-
--- what is lent of a list from n on, and the list once that has come back as t
-abbrev pub lentFrom : ℕ → List ℕ → List ℕ
-lentFrom n l = take (length l - n) (drop n l)
-
-abbrev pub backFrom : ℕ → List ℕ → List ℕ → List ℕ
-backFrom n l t = take n l ++ (t ++ drop (length l - n) (drop n l))
-
-pub lent-all : (n : ℕ) (l : List ℕ) → lentFrom n l ≡ drop n l
-lent-all n l = take-all (length l - n) (drop n l) (rw length-drop (omega arith))
-
-pub lent-length : (n : ℕ) (l : List ℕ) → length (lentFrom n l) ≡ length l - n
-lent-length n l = ap length (lent-all n l) ∙ length-drop n l
+use Rattle.row_reader.specs.ByDigits.{runThen, textNumbers, tailIn}
 
 -- numbers that have room, stored in a row's front
 pub stored-front : (ns row : List ℕ) → length ns ≤ length row → bytesStored ns row 0 ≡ beginning ns row
@@ -83,18 +73,37 @@ module _ (digits : ℕ) (rest : List ℕ → List ℕ) (s row : List ℕ) (room 
 pub no-tail : (each : ℕ) (s : List ℕ) → each ≡ 0 → tailIn each s ≡ []
 no-tail each s none = rw (eq-eqb each 0 none)
 
-pub one-tail : (each : ℕ) (s : List ℕ) → (each ≡ 0 → ⊥) → tailIn each s ≡ length s / sizeOf (formatsBy each) ∷ []
-one-tail each s some = rw (ne-eqb each 0 some)
+pub text-tail : (each : ℕ) (s : List ℕ) → each ≡ textDigit → tailIn each s ≡ textNumbers s
+text-tail each s text = rw text
+
+pub one-tail : (each : ℕ) (s : List ℕ) → (each ≡ 0 → ⊥) → (each ≡ textDigit → ⊥) → tailIn each s ≡ length s / sizeOf (formatsBy each) ∷ []
+one-tail each s some other = rw (ne-eqb each 0 some, ne-eqb each textDigit other)
 
 pub tail-unset : (each : ℕ) (s row : List ℕ) → each ≡ 0 → row ≡ beginning (tailIn each s) row
 tail-unset each s row none = sym (ap (λ (ns : List ℕ). beginning ns row) (no-tail each s none))
 
-module _ (each : ℕ) (s row : List ℕ) (some : each ≡ 0 → ⊥) (room : length (tailIn each s) ≤ length row) where
+-- a text's two numbers, one after the other
+module _ (s row : List ℕ) where
+  pub text-set : {n : ℕ} → 2 ≤ length row → n ≡ length (beforeZero s) → set (set row 0 n) 1 (length s - n) ≡ beginning (textNumbers s) row
+  text-set {n} room e =
+      let rest : length s - n ≡ length (fromZero s) = omega (arith, length-split s) in
+      ap₂ (λ (n m : ℕ). set (set row 0 n) 1 m) e rest ∙ front row room
+    where
+      front : {n m : ℕ} (row : List ℕ) → 2 ≤ length row → set (set row 0 n) 1 m ≡ n ∷ m ∷ drop 2 row
+      front [] h = absurd (omega arith)
+      front (x ∷ []) h = absurd (omega arith)
+      front (x ∷ y ∷ row) h = refl
+
+module _ (each : ℕ) (s row : List ℕ) (room : length (tailIn each s) ≤ length row) where
+  pub text-room : each ≡ textDigit → 2 ≤ length row
+  text-room text = omega (arith, room, ap length (text-tail each s text))
+
+module _ (each : ℕ) (s row : List ℕ) (some : each ≡ 0 → ⊥) (other : each ≡ textDigit → ⊥) (room : length (tailIn each s) ≤ length row) where
   pub tail-room : 0 < length row
-  tail-room = omega (arith, room, ap length (one-tail each s some))
+  tail-room = omega (arith, room, ap length (one-tail each s some other))
 
   pub tail-set : {n : ℕ} → n ≡ sizeOf (formatsBy each) → set row 0 (length s / n) ≡ beginning (tailIn each s) row
-  tail-set e = ap (λ (k : ℕ). set row 0 (length s / k)) e ∙ front row tail-room ∙ sym (ap (λ (ns : List ℕ). beginning ns row) (one-tail each s some))
+  tail-set e = ap (λ (k : ℕ). set row 0 (length s / k)) e ∙ front row tail-room ∙ sym (ap (λ (ns : List ℕ). beginning ns row) (one-tail each s some other))
     where
       front : {v : ℕ} (row : List ℕ) → 0 < length row → set row 0 v ≡ v ∷ drop 1 row
       front [] h = absurd (not-suc-le-zero h)

@@ -21,7 +21,8 @@ use Rattle.observation.proofs.Editions.{obs-kind, whole}
 use Rattle.payloads.specs.Payloads.{entryFor, shapeFor}
 use Rattle.payloads.proofs.Shapes.{shaped-each}
 use Rattle.row_reader.specs.ReadRow.{beginning, observationNumbers, readOne, rowAfterOne}
-use Rattle.row_reader.proofs.Filling.{lentFrom, lent-all, stored-front}
+use Rattle.wire.proofs.Lent.{lentFrom, lent-all}
+use Rattle.row_reader.proofs.Filling.{stored-front}
 use Rattle.row_reader.proofs.Roomy.{stands, too-short, roomy}
 
 -- a run read from the bytes that are lent from its start on

@@ -10,19 +10,19 @@ use lib.Dec.{eqb}
 use lib.ListN.{length, drop, length-append}
 use lib.Seq.{drop-drop}
 use Rattle.wire.specs.Field.{Format, Field, Row, size, decode}
-use Rattle.wire.specs.Layout.{Layout, run, then, bytes, rows, countIn, Body, LengthOf, decodeBody}
+use Rattle.wire.specs.Layout.{Layout, run, then, bytes, text, rows, countIn, Body, LengthOf, decodeBody}
 use Rattle.wire.specs.Refusals.{AllPass}
 use Rattle.wire.proofs.Layouts.{lengths-of, length-rows}
 use Rattle.formats.specs.Wide.{wideRow, wideBody, numberCount}
-use Rattle.formats.specs.Digits.{upTo, formatsBy, sizeOf, numbersAt, frontOf, repeated, digitsOf, shapeOf, formatsIn}
+use Rattle.formats.specs.Digits.{upTo, formatsBy, sizeOf, numbersAt, textDigit, frontOf, repeated, digitsOf, shapeOf, formatsIn}
 use Rattle.formats.specs.declared.Shape.{Shape}
 use Rattle.formats.proofs.Rows.{length-numbers}
 use Rattle.formats.proofs.Widened.{numbers-wide, numbers-joined, numbers-drop, size-formats, size-joined}
 use Rattle.payloads.proofs.Shapes.{Ends, Unpacks, unpacks, measured}
 use Rattle.payloads.specs.Payloads.{layoutFor, shapeFor, readingAny}
 use Rattle.row_reader.specs.ReadRow.{numbersFor}
-use Rattle.row_reader.specs.ByDigits.{tailIn, rowIn}
-use Rattle.row_reader.proofs.Filling.{no-tail, one-tail}
+use Rattle.row_reader.specs.ByDigits.{textNumbers, tailIn, rowIn}
+use Rattle.row_reader.proofs.Filling.{no-tail, text-tail, one-tail}
 
 -- ---- a shape's two runs are one
 
@@ -50,11 +50,12 @@ tails (run fs) e s = append-nil (wideRow fs (decode fs s 0))
 tails (then fs (bytes most)) e s =
     let t = drop (size fs) s in
     ap (λ (n : ℕ). wideRow fs (decode fs s 0) ++ (n ∷ [])) (ap (λ (k : ℕ). length t / k) one-byte ∙ div-one (length t))
+tails (then fs (text most)) e s = refl
 tails (then fs (rows gs most)) e s =
     let t = drop (size fs) s in
     let counted : length t / sizeOf (formatsBy (digitsOf gs)) ≡ length (decodeBody (rows gs most) t)
     = ap (λ (n : ℕ). length t / n) (ap sizeOf (e .0) ∙ size-formats gs) ∙ sym (length-rows gs (countIn gs (length t)) t) in
-    rw (e .1) (ap (λ (n : ℕ). wideRow fs (decode fs s 0) ++ (n ∷ [])) counted)
+    rw (e .1, e .2) (ap (λ (n : ℕ). wideRow fs (decode fs s 0) ++ (n ∷ [])) counted)
 
 module _ (l : Layout) (u : Unpacks l) where
   head-size : sizeOf (formatsIn (shapeOf l)) ≡ size (frontOf l)
@@ -75,6 +76,7 @@ wide-body : (l : Layout) (v : Body l) → length (wideBody l v) ≡ numberCount 
 wide-body (run fs) v = wide-row fs v
 wide-body (then fs l) v = length-append (wideRow fs (v .0)) (wideBody l (v .1)) ∙ ap₂ _+_ (wide-row fs (v .0)) (wide-body l (v .1))
 wide-body (bytes most) v = refl
+wide-body (text most) v = refl
 wide-body (rows fs most) v = refl
 
 -- the fields in front take no more than there is
@@ -82,6 +84,7 @@ front : (l : Layout) (n : ℕ) → LengthOf l n → size (frontOf l) ≤ n
 front (run fs) n h = omega arith
 front (then fs l) n h = h .0
 front (bytes most) n h = omega arith
+front (text most) n h = omega arith
 front (rows fs most) n h = omega arith
 
 -- ---- of every type
@@ -102,11 +105,13 @@ module _ (kind : ℕ) (s : List ℕ) where
 -- ---- how many numbers a shape gives, of any payload
 
 tail-many : (each : ℕ) (s t : List ℕ) → length (tailIn each s) ≡ length (tailIn each t)
-tail-many each s t = by (eqb each 0)
+tail-many each s t = by (eqb each 0) (eqb each textDigit)
   where
-    by : (b : Bool) → length (cond b [] (length s / sizeOf (formatsBy each) ∷ [])) ≡ length (cond b [] (length t / sizeOf (formatsBy each) ∷ []))
-    by true = refl
-    by false = refl
+    by : (none words : Bool) → length (cond none [] (cond words (textNumbers s) (length s / sizeOf (formatsBy each) ∷ [])))
+        ≡ length (cond none [] (cond words (textNumbers t) (length t / sizeOf (formatsBy each) ∷ [])))
+    by true words = refl
+    by false true = refl
+    by false false = refl
 
 module _ (shape : Shape) (s : List ℕ) {h m : ℕ} (p : h ≡ length (formatsBy (shape .head))) (q : m ≡ length (formatsBy (shape .more))) where
   counted : h + m + length (tailIn (shape .each) []) ≡ length (rowIn shape s)
@@ -120,5 +125,8 @@ module _ (shape : Shape) (s : List ℕ) {h m : ℕ} (p : h ≡ length (formatsBy
   pub no-tail-counted : shape .each ≡ 0 → h + m ≡ length (rowIn shape s)
   no-tail-counted none = omega (arith, counted, ap length (no-tail (shape .each) [] none))
 
-  pub tail-counted : (shape .each ≡ 0 → ⊥) → h + m + 1 ≡ length (rowIn shape s)
-  tail-counted some = omega (arith, counted, ap length (one-tail (shape .each) [] some))
+  pub text-counted : shape .each ≡ textDigit → h + m + 2 ≡ length (rowIn shape s)
+  text-counted words = omega (arith, counted, ap length (text-tail (shape .each) [] words))
+
+  pub tail-counted : (shape .each ≡ 0 → ⊥) → (shape .each ≡ textDigit → ⊥) → h + m + 1 ≡ length (rowIn shape s)
+  tail-counted some other = omega (arith, counted, ap length (one-tail (shape .each) [] some other))

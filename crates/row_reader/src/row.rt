@@ -5,6 +5,7 @@ ghost use mathlib.Core.List.{[]};
 ghost use Rattle.wire.specs.Refusals.{zeroOr};
 ghost use Rattle.row_reader.specs.ReadRow.{readRow, rowAfter};
 ghost use Rattle.row_reader.specs.ByDigits.{rowIn};
+use crate::fill::TEXT;
 use crate::fill::fill;
 use formats::Shape;
 use formats::count;
@@ -16,6 +17,9 @@ fn numbers(shape: Shape) -> usize
     let fields = count(shape.head) + count(shape.more);
     if shape.each == 0 {
         return fields;
+    }
+    if shape.each == TEXT {
+        return fields + 2;
     }
     fields + 1
 }

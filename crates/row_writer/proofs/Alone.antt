@@ -6,8 +6,9 @@ use Prim.Native.Nat.{ℕ, _+_, _≤_}
 use lib.Dec.{leb, eqb}
 use lib.ListN.{length, length-append, length-map}
 use borrow.Author.Tests.{leb-true}
-use Rattle.wire.specs.Field.{Format, formatOf, HeldRow, size, encode}
-use Rattle.wire.specs.Layout.{Layout, run, then, bytes, rows, HeldBody, allowedBody, fewEnough, bodySize, lengths, encodeBody, decodeBody, Sound}
+use Rattle.wire.specs.Field.{Format, formatOf, HeldRow, allowedRow, size, encode}
+use Rattle.wire.specs.Layout.{Layout, run, then, bytes, text, rows, HeldBody, allowedBody, fewEnough, bodySize, lengths, encodeBody, decodeBody, Sound}
+use Rattle.wire.proofs.Fields.{allowed-again-row, decode-encode}
 use Rattle.formats.specs.Wide.{narrowRow, fitsRow, numberCount}
 use Rattle.formats.specs.Digits.{formatsBy, sizeOf, runFits, repeated, frontOf, formatsIn}
 use Rattle.formats.specs.declared.Shape.{Shape}
@@ -24,13 +25,17 @@ pub record FieldsAlone (l : Layout) (ns : List ℕ) : Type 0 where
   pub sized : bodySize l (bodyOf l ns) ≡ size (frontOf l)
   pub counted : numberCount l ≡ length (frontOf l)
   pub encoded : encodeBody l (bodyOf l ns) ≡ encode (frontOf l) (narrowRow (frontOf l) ns 0)
+  pub ranged : HeldBody l (bodyOf l ns) → allowedBody l (decodeBody l (encodeBody l (bodyOf l ns))) ≡ allowedBody l (bodyOf l ns)
   pub held : HeldRow (frontOf l) (narrowRow (frontOf l) ns 0) → HeldBody l (bodyOf l ns)
   pub sound : Sound l
 
 pub fields-alone : (l : Layout) (ns : List ℕ) → alone l ≡ true → FieldsAlone l ns
-fields-alone (run fs) ns h = record { few = refl; sized = refl; counted = refl; encoded = refl; held = λ v. v; sound = tt }
+fields-alone (run fs) ns h =
+    let v = narrowRow fs ns 0 in
+    record { few = refl; sized = refl; counted = refl; encoded = refl; ranged = λ held. ap (allowedRow fs) (decode-encode fs v held) ∙ allowed-again-row fs v held; held = λ v. v; sound = tt }
 fields-alone (then fs l) ns h = absurd (false≢true h)
 fields-alone (bytes most) ns h = absurd (false≢true h)
+fields-alone (text most) ns h = absurd (false≢true h)
 fields-alone (rows fs most) ns h = absurd (false≢true h)
 
 pub only-fields : (kind : ℕ) → (knownFor kind && alone (layoutFor kind)) ≡ true → alone (layoutFor kind) ≡ true
@@ -42,8 +47,10 @@ alone-by-shape (run fs) e = refl
 alone-by-shape (then fs (run gs)) e = absurd e
 alone-by-shape (then fs (then gs l)) e = absurd e
 alone-by-shape (then fs (bytes most)) e = refl
+alone-by-shape (then fs (text most)) e = refl
 alone-by-shape (then fs (rows gs most)) e = e .1
 alone-by-shape (bytes most) e = absurd e
+alone-by-shape (text most) e = absurd e
 alone-by-shape (rows fs most) e = absurd e
 
 -- ---- every type's layout

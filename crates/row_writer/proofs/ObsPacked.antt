@@ -19,7 +19,8 @@ use Rattle.observation.specs.Edition.{obs, startOf, head, observation, first}
 use Rattle.observation.specs.declared.entry.Observation.{Observation}
 use Rattle.observation.proofs.EntriesStored.{Stored, stored-none, stored-all, stored-more}
 use Rattle.row_writer.specs.WriteObsRow.{rowsIn, observedOf}
-use Rattle.row_writer.proofs.Runs.{lentFrom, front-sets}
+use Rattle.wire.proofs.Lent.{lentFrom}
+use Rattle.row_writer.proofs.Runs.{front-sets}
 use Rattle.row_writer.proofs.ObsRows.{length-made, length-narrow, row-made, row-fits, stored-lent}
 
 -- the digits that the code has

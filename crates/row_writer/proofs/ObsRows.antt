@@ -11,7 +11,7 @@ use Rattle.wire.specs.Description.{Part, madeOf}
 use Rattle.formats.specs.Wide.{narrowRow, fitsRow, narrowRows, fitsRows}
 use Rattle.formats.specs.Digits.{runFits, runStored}
 use Rattle.formats.proofs.Narrow.{Words, withinAll, fits-row, stored-narrow, fits-drop, stored-drop}
-use Rattle.row_writer.proofs.Runs.{lentFrom, lent-all}
+use Rattle.wire.proofs.Lent.{lentFrom, lent-all}
 
 pub length-made : {R : Type 0} (p : Part R) (vs : List (Row (p .fields))) → length (madeOf p vs) ≡ length vs
 length-made p [] = refl

@@ -10,7 +10,7 @@ use Rattle.wire.specs.Field.{Format, size, encode}
 use Rattle.wire.specs.Layout.{Layout, Body, HeldBody, allowedBody, bodySize, lengths, LengthOf, encodeBody, decodeBody}
 use Rattle.wire.specs.Refusals.{refused, Answer, Tests, ordered, zeroOr}
 use Rattle.wire.proofs.Fields.{row-sets, length-encode}
-use Rattle.wire.proofs.Layouts.{allowed-again-body, lengths-true, size-fits, length-encode-body, decode-encode-body}
+use Rattle.wire.proofs.Layouts.{lengths-true, size-fits, length-encode-body}
 use Rattle.formats.specs.Wide.{narrowRow, fitsRow, numberCount}
 use Rattle.formats.specs.Digits.{runStored, frontOf, formatsIn}
 use Rattle.formats.specs.declared.Shape.{Shape}
@@ -115,9 +115,8 @@ module _ (kind : ℕ) (ns : List ℕ) (words : Words ns) (f : Fitting kind ns) w
   accepted =
       let e = entryFor table kind in
       let long : lengths l (length p) ≡ true = lengths-true l (length p) (subst⁻¹ (LengthOf l) (length-encode-body l v) (size-fits l v (is .sound) (is .few))) in
-      let again : allowedBody l (decodeBody l p) ≡ allowedBody l v = ap (allowedBody l) (decode-encode-body l v (is .sound) held) ∙ allowed-again-body l v held in
       ap₂ (λ (t : Bool) (ts : Tests). eqb (zeroOr (ordered ((t, 21) ∷ ts) (e .holds p))) 0) (f .known) (reads-for kind (f .known) p)
-      ∙ ap₂ (λ (t u : Bool). eqb (zeroOr (ordered ((t, 22) ∷ (u, 23) ∷ []) (e .holds p))) 0) long again
+      ∙ ap₂ (λ (t u : Bool). eqb (zeroOr (ordered ((t, 22) ∷ (u, 23) ∷ []) (e .holds p))) 0) long (is .ranged held)
       ∙ taken (e .holds p) (allowedBody l v)
 
   pub as-sent : (room : ℕ) → writeRow kind ns room ≡ sent kind p room

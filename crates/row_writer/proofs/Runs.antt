@@ -7,17 +7,11 @@ use Prim.Native.Nat.{ℕ, _+_, _-_, _≤_}
 use native.Mathlib.Nat.{zero-add, add-zero}
 use native.Mathlib.Omega.{arith}
 use lib.ListN.{length, take, drop, length-drop}
-use lib.Seq.{take-all, sets, sets-eq, take-at}
+use lib.Seq.{sets, sets-eq, take-at}
 use Rattle.wire.specs.Field.{Format}
+use Rattle.wire.proofs.Lent.{lentFrom, lent-all}
 use Rattle.formats.specs.Digits.{sizeOf, runFits, runStored}
 use Rattle.formats.proofs.Narrow.{fits-joined, stored-joined, fits-drop, stored-drop, length-run, run-lent}
-
--- what is lent of a list from n on
-abbrev pub lentFrom : ℕ → List ℕ → List ℕ
-lentFrom n s = take (length s - n) (drop n s)
-
-pub lent-all : (n : ℕ) (s : List ℕ) → lentFrom n s ≡ drop n s
-lent-all n s = take-all (length s - n) (drop n s) (rw length-drop (omega arith))
 
 -- the front of a buffer in which so many bytes were stored
 pub front-sets : (bs buf : List ℕ) (n : ℕ) → length bs ≡ n → n ≤ length buf → take n (sets buf 0 bs) ≡ bs

@@ -5,7 +5,7 @@ use mathlib.Core.List.{List, [], _∷_}
 use lib.Dec.{eqb}
 use lib.ListN.{length}
 use Rattle.wire.specs.Refusals.{Answer, Tests, ordered, leaves}
-use Rattle.wire.specs.Layout.{Layout, run, then, bytes, rows, Body, allowedBody, bodySize, encodeBody}
+use Rattle.wire.specs.Layout.{Layout, run, then, bytes, text, rows, Body, allowedBody, bodySize, encodeBody}
 use Rattle.formats.specs.Wide.{narrowRow, fitsRow, numberCount}
 use Rattle.formats.specs.Digits.{frontOf}
 use Rattle.frames.specs.Frame.{frameBytes}
@@ -17,6 +17,7 @@ abbrev pub alone : Layout → Bool
 alone (run fs) = true
 alone (then fs l) = false
 alone (bytes most) = false
+alone (text most) = false
 alone (rows fs most) = false
 
 -- the value of these numbers, with nothing after the fields
@@ -24,6 +25,7 @@ abbrev pub bodyOf : (l : Layout) → List ℕ → Body l
 bodyOf (run fs) ns = narrowRow fs ns 0
 bodyOf (then fs l) ns = (narrowRow fs ns 0, bodyOf l [])
 bodyOf (bytes most) ns = []
+bodyOf (text most) ns = ([], [])
 bodyOf (rows fs most) ns = []
 
 -- 21 for a type that has no reading or has a tail, 22 for another number of fields, 23 for a number that its field cannot hold or that is outside

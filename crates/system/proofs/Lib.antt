@@ -1,1 +1,2 @@
+pub mod AfterZeros
 pub mod Logs

@@ -1,72 +1,61 @@
--- LOG, 0x0401: level u8, then text: all bytes after it. 1 to 255 bytes. Assumes nothing.
-use Prim.Native.Nat.{ℕ, _+_, _-_}
+-- LOG, 0x0401: level u8, then a text, which ends before the first zero after the level; from there on every byte is zero. 1 to 255 bytes.
+-- Document 02, P1. Assumes nothing.
+use Prim.Native.Nat.{ℕ}
 use mathlib.Core.Path.{refl}
 use mathlib.Core.Bool.{Bool}
 use mathlib.Core.List.{List, [], _∷_}
 use lib.ListN.{length, drop}
-use Rattle.wire.specs.Number.{numberAt}
+use Rattle.wire.specs.Padded.{beforeZero, fromZero, allZero, zeros}
 use Rattle.wire.specs.Field.{any, u8}
-use Rattle.wire.specs.Layout.{then, bytes, fewEnough, bodySize, lengths, encodeBody}
-use Rattle.wire.specs.Description.{Description}
-use Rattle.wire.specs.Refusals.{refused, given, Answer, Tests, ordered, leaves}
-use Rattle.frames.specs.Frame.{frameBytes}
-use Rattle.frames.specs.Writer.{writingFrame, startingWith}
+use Rattle.wire.specs.Layout.{then, text, lengths}
+use Rattle.wire.specs.Description.{Description, inside, reading}
+use Rattle.wire.specs.Refusals.{refused, given, Answer, ordered}
 use Rattle.system.specs.declared.log.Log.{Log}
 use Rattle.system.specs.declared.log.LogRead.{LogRead}
 use Rattle.system.specs.declared.log.LogRead.the-variants.{Record, Refused}
 
--- what a LOG payload holds
+-- what a LOG payload holds; the padding are the bytes after the text, which have to be zero
 pub record Logged : Type 0 where
   pub level : ℕ
   pub text : List ℕ
+  pub padding : List ℕ
 
 abbrev pub log : Description Logged
 log = record {
   kind = 0x0401;
-  layout = then (any u8 ∷ []) (bytes 254);
-  row = λ r. ((r .level, tt), r .text);
-  make = λ v. record { level = v .0 .0; text = v .1 };
+  layout = then (any u8 ∷ []) (text 254);
+  row = λ r. ((r .level, tt), (r .text, r .padding));
+  make = λ v. record { level = v .0 .0; text = v .1 .0; padding = v .1 .1 };
   row-make = λ v. refl;
   make-row = λ r. refl;
 }
 
--- ---- read
+-- ---- read: 22, then 23, as every message
 
 -- the text as that part of the payload
 abbrev pub textIn : List ℕ → List ℕ
-textIn s = drop 1 s
+textIn s = beforeZero (drop 1 s)
 
--- of a whole LOG the code shows the level, and how long the text is
+-- of a whole LOG the code shows the level, and how long the text and the padding are
 abbrev pub shown : Logged → Log
-shown r = record { level = r .level; length = length (r .text) }
-
-abbrev pub logIn : List ℕ → Log
-logIn s = record { level = numberAt 1 s 0; length = length s - 1 }
-
--- n is the length of a payload
-abbrev pub logLength : ℕ → Bool
-logLength = lengths (log .layout)
-
--- 22 for the payload's length
-abbrev pub readingLog : List ℕ → Tests
-readingLog s = (logLength (length s), 22) ∷ []
+shown r = record { level = r .level; length = length (r .text); padding = length (r .padding) }
 
 unfoldable pub readLog : List ℕ → Answer Log
-readLog s = ordered (readingLog s) (logIn s)
+readLog s = ordered (reading log s) (shown (inside log s))
 
 abbrev pub logAnswer : LogRead → Answer Log
 logAnswer (Record r) = given r
 logAnswer (Refused n) = refused n
 
--- ---- written
+-- the two tests, as document 01's table has them: n is the length of a payload; nothing but zeros stands after the text
+abbrev pub logLength : ℕ → Bool
+logLength = lengths (log .layout)
 
--- 31 for a text over 254 bytes, then 31 and 32 as every frame
-abbrev pub writingLog : Logged → ℕ → Tests
-writingLog r room = (fewEnough (log .layout) (log .row r), 31) ∷ writingFrame (bodySize (log .layout) (log .row r)) room
+abbrev pub logPadded : List ℕ → Bool
+logPadded s = allZero (fromZero (drop 1 s))
 
-unfoldable pub logWriteAnswer : Logged → ℕ → Answer ℕ
-logWriteAnswer r room = ordered (writingLog r room) (bodySize (log .layout) (log .row r) + 8)
+-- ---- written: 23, 31, 32, as every message
 
--- the buffer after it: the frame and the bytes after it as they were, or all as it was
-unfoldable pub logWritten : ℕ → Logged → List ℕ → List ℕ
-logWritten sender r buf = leaves (startingWith (frameBytes (log .kind) sender (encodeBody (log .layout) (log .row r)))) (logWriteAnswer r (length buf)) buf
+-- what is handed in: a level, a text and how many zeros
+abbrev pub logged : ℕ → List ℕ → ℕ → Logged
+logged level words n = record { level = level; text = words; padding = zeros n }

@@ -1,4 +1,5 @@
 pub mod Numbers
+pub mod Lent
 pub mod Signed
 pub mod Doubles
 pub mod Fields

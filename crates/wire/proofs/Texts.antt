@@ -7,10 +7,11 @@ use Prim.Native.Nat.{ℕ, zero, suc, _+_, _≤_, _<_, zero-le}
 use native.Mathlib.Nat.{zero-add}
 use native.Mathlib.Numerals.{add-one}
 use native.Mathlib.Omega.{arith}
-use lib.Dec.{eqb}
+use lib.Dec.{eqb, lit<}
 use lib.ListN.{length, getD, take, drop, length-append, drop-of-length-le}
 use lib.Seq.{take-all, take-at, drop-at, drop-cons}
 use borrow.Author.Tests.{eq-eqb, ne-eqb, eqb-true}
+use Rattle.wire.specs.Number.{Bytes}
 use Rattle.wire.specs.Padded.{beforeZero, fromZero, noZero, allZero, zeros}
 
 -- ---- split, and joined again
@@ -26,6 +27,9 @@ before-from (b ∷ s) = by (eqb b 0) (before-from s)
 
 pub length-split : (s : List ℕ) → length (beforeZero s) + length (fromZero s) ≡ length s
 length-split s = sym (length-append (beforeZero s) (fromZero s)) ∙ ap length (before-from s)
+
+pub no-longer : (s : List ℕ) {n : ℕ} → n ≡ length (beforeZero s) → n ≤ length s
+no-longer s e = omega (arith, length-split s)
 
 -- as parts of the bytes
 pub before-take : (s : List ℕ) → take (length (beforeZero s)) s ≡ beforeZero s
@@ -96,17 +100,20 @@ unfolding allZero
 only-zeros [] h = refl
 only-zeros (b ∷ p) h = let q = and-eq-true-iff (eqb b 0) (allZero p) .0 h in ap₂ _∷_ (eqb-true b 0 (q .0)) (only-zeros p (q .1))
 
--- a text has no zero exactly where all of it stands before the first
-module _ (t : List ℕ) where
-  pub has-none : length t ≤ length (beforeZero t) → noZero t ≡ true
-  has-none h = ap noZero (sym (take-all (length (beforeZero t)) t h) ∙ before-take t) ∙ no-zero-before t
+pub bytes-zeros : (n : ℕ) → Bytes (zeros n)
+bytes-zeros zero i = lit< tt
+bytes-zeros (suc n) zero = lit< tt
+bytes-zeros (suc n) (suc i) = bytes-zeros n i
 
-  pub has-one : length (beforeZero t) < length t → noZero t ≡ false
-  has-one h = by (noZero t) refl
-    where
-      by : (b : Bool) → noZero t ≡ b → noZero t ≡ false
-      by true e = let all = ap beforeZero (sym (append-nil t)) ∙ split-joined t [] e (all-zeros 0) .0 in absurd (omega (arith, ap length all))
-      by false e = e
+-- a text has no zero exactly where all of it stands before the first
+pub no-zero-whole : (t : List ℕ) → eqb (length (beforeZero t)) (length t) ≡ noZero t
+no-zero-whole t = by (noZero t) refl
+  where
+    by : (b : Bool) → noZero t ≡ b → eqb (length (beforeZero t)) (length t) ≡ b
+    by true e = eq-eqb _ _ (ap length (ap beforeZero (sym (append-nil t)) ∙ split-joined t [] e (all-zeros 0) .0))
+    by false e = ne-eqb _ _ (λ (all : length (beforeZero t) ≡ length t).
+        let whole : t ≡ beforeZero t = sym (take-all (length (beforeZero t)) t (omega arith)) ∙ before-take t in
+        false≢true (sym e ∙ ap noZero whole ∙ no-zero-before t))
 
 -- ---- byte after byte
 

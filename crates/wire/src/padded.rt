@@ -1,8 +1,8 @@
-// A text with zeros after it: how long it is, whether all that follows is zero, and zeros stored.
+// A text with zeros after it: how long it is, whether it has a zero, whether all that follows is zero, and zeros stored.
 ghost use mathlib.Core.Path.{_≡_};
 ghost use lib.ListN.{length};
 ghost use Rattle.wire.specs.Number.{bytesStored};
-ghost use Rattle.wire.specs.Padded.{beforeZero, allZero, zeros};
+ghost use Rattle.wire.specs.Padded.{beforeZero, noZero, allZero, zeros};
 use crate::store::room;
 
 // How many bytes stand before the first zero.
@@ -17,6 +17,12 @@ pub fn text_length(s: &[u8]) -> usize
         i += 1;
     }
     i
+}
+
+pub fn no_zero(s: &[u8]) -> bool
+    ensures { λ r. ⌜ r ≡ noZero (now (s .entry)) ⌝ }
+{
+    text_length(s) == s.len()
 }
 
 pub fn all_zero(s: &[u8]) -> bool

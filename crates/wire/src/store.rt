@@ -9,7 +9,7 @@ ghost use Rattle.wire.specs.Field.{valueStored, u8, u16, u32, u64, s16, 
 use crate::double::Double;
 
 // Whether w bytes from an offset on lie within the length.
-pub(crate) fn room(length: usize, at: usize, w: usize) -> bool
+pub fn room(length: usize, at: usize, w: usize) -> bool
     ensures { λ r. ⌜ r ≡ leb (at + w) length ⌝ }
 {
     if length < at {

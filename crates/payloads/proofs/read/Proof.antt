@@ -56,8 +56,8 @@ take-heartbeat-requires c κs = search needs
 obs-requires : tie.Need-obs-requires
 obs-requires c κs = search needs
 
-log-requires : tie.Need-log-requires
-log-requires c κs = search needs
+take-log-requires : tie.Need-take-log-requires
+take-log-requires c κs = search needs
 
 returns : tie.Need-returns
 returns c = let a = c .before .before .before .args in refuses (a .kind) (a .payload .now) (c .before .answer .ensures) (c .if1 .taken)
@@ -130,10 +130,11 @@ returns-18 : tie.Need-returns-18
 returns-18 c = let a = c .before .before .before .before .before .args in at-kind (a .kind) (a .payload .now) (typed.obs-read (a .payload .now)) (c .obs .ensures) (c .before .match .keys17)
 
 returns-19 : tie.Need-returns-19
-returns-19 c = let a = c .before .before .before .before .before .args in at-kind (a .kind) (a .payload .now) (typed.log-read (a .payload .now)) (c .log .ensures) (c .before .match .keys18)
+unfolding entryFor
+returns-19 c = let w = c .before .before in let a = w .before .before .before .args in gives (a .kind) (a .payload .now) (w .before .answer .ensures) (w .if1 .left) (c .before .match .keys18) (ap (λ r. M.Log r) (c .take-log .ensures))
 
 returns-20 : tie.Need-returns-20
 returns-20 c = let a = c .before .before .before .before .args in at-none (a .kind) (a .payload .now) (c .match .rest)
 
 pub read-spec : {M : Type 1} → statement M
-read-spec = tie.close (tie.spec answer-requires returns take-gps-time-requires take-dops-requires take-pos-ecef-requires take-pos-llh-requires take-ecef-requires take-ecef-requires-2 take-ned-requires take-ned-requires-2 take-baseline-heading-requires take-base-pos-llh-requires take-base-pos-ecef-requires take-read-by-index-req-requires take-startup-requires take-heartbeat-requires obs-requires log-requires returns-2 returns-3 returns-4 returns-5 returns-6 returns-7 returns-8 returns-9 returns-10 returns-11 returns-12 returns-13 returns-14 returns-15 returns-16 returns-17 returns-18 returns-19 returns-20)
+read-spec = tie.close (tie.spec answer-requires returns take-gps-time-requires take-dops-requires take-pos-ecef-requires take-pos-llh-requires take-ecef-requires take-ecef-requires-2 take-ned-requires take-ned-requires-2 take-baseline-heading-requires take-base-pos-llh-requires take-base-pos-ecef-requires take-read-by-index-req-requires take-startup-requires take-heartbeat-requires obs-requires take-log-requires returns-2 returns-3 returns-4 returns-5 returns-6 returns-7 returns-8 returns-9 returns-10 returns-11 returns-12 returns-13 returns-14 returns-15 returns-16 returns-17 returns-18 returns-19 returns-20)

@@ -8,6 +8,7 @@ use lib.Dec.{eqb}
 use lib.ListN.{length}
 use Rattle.wire.proofs.Signed.{came-back}
 use Rattle.navigation.specs.Range.{inNs, fixUpTo}
+use Rattle.system.specs.Log.{logLength}
 use Rattle.payloads.specs.Checks.{tests, testsBy, numberBy}
 use Rattle.payloads.specs.declared.check.Check.{Check}
 use borrow.Author.Needs.{needs}
@@ -59,8 +60,11 @@ refusal-requires-4 c κs = search needs
 enum-told-3 : tie.Need-enum-told-3
 enum-told-3 c = search needs
 
-log-fits-requires : tie.Need-log-fits-requires
-log-fits-requires c κs = search needs
+is-log-length-requires : tie.Need-is-log-length-requires
+is-log-length-requires c κs = search needs
+
+log-padded-requires : tie.Need-log-padded-requires
+log-padded-requires c κs = search needs
 
 refusal-requires-5 : tie.Need-refusal-requires-5
 refusal-requires-5 c κs = search needs
@@ -75,8 +79,8 @@ as-met s p q = p ∙ ap (λ (k : Check). numberBy (testsBy k s)) (sym q)
 inside-as : (fits : Bool) {n : ℕ} {t u : Bool} → n ≡ numberBy (tests fits t) → t ≡ u → n ≡ numberBy (tests fits u)
 inside-as fits p q = p ∙ ap (λ (t : Bool). numberBy (tests fits t)) q
 
-fits-as : {n : ℕ} {t u : Bool} → n ≡ numberBy (tests t true) → t ≡ u → n ≡ numberBy (tests u true)
-fits-as p q = p ∙ ap (λ (t : Bool). numberBy (tests t true)) q
+fits-as : (inside : Bool) {n : ℕ} {t u : Bool} → n ≡ numberBy (tests t inside) → t ≡ u → n ≡ numberBy (tests u inside)
+fits-as inside p q = p ∙ ap (λ (t : Bool). numberBy (tests t inside)) q
 
 returns-2 : tie.Need-returns-2
 returns-2 c = let w = c .before .before in as-met (w .before .before .before .args .s .now) (c .refusal .ensures) (w .check .given .1)
@@ -96,10 +100,14 @@ returns-4 c =
     as-met s (inside-as (eqb (length s) (w .check3 .given .0 .0)) (c .refusal3 .ensures) (c .before .fix-allowed .ensures ∙ ap (fixUpTo _) (r .read-u8 .ensures))) (w .check3 .given .1)
 
 returns-5 : tie.Need-returns-5
-returns-5 c = let w = c .before .before in as-met (w .before .before .before .args .s .now) (fits-as (c .refusal4 .ensures) (c .before .is-obs-length .ensures)) (w .enum-told2 .given .1)
+returns-5 c = let w = c .before .before in as-met (w .before .before .before .args .s .now) (fits-as true (c .refusal4 .ensures) (c .before .is-obs-length .ensures)) (w .enum-told2 .given .1)
 
 returns-6 : tie.Need-returns-6
-returns-6 c = let w = c .before .before in as-met (w .before .before .before .args .s .now) (fits-as (c .refusal5 .ensures) (c .before .log-fits .ensures)) (w .enum-told3 .given .1)
+returns-6 c =
+    let l = c .before .before in
+    let w = l .before in
+    let s = w .before .before .before .args .s .now in
+    as-met s (inside-as (logLength (length s)) (fits-as (c .before .log-padded .result) (c .refusal5 .ensures) (l .is-log-length .ensures)) (c .before .log-padded .ensures)) (w .enum-told3 .given .1)
 
 pub tested-spec : {M : Type 1} → statement M
-tested-spec = tie.close (tie.spec enum-told enum-known-check refusal-requires enum-known-check-2 read-s32-requires ns-allowed-requires refusal-requires-2 enum-known-check-3 read-u8-requires fix-allowed-requires refusal-requires-3 enum-told-2 is-obs-length-requires refusal-requires-4 enum-told-3 log-fits-requires refusal-requires-5 returns returns-2 returns-3 returns-4 returns-5 returns-6)
+tested-spec = tie.close (tie.spec enum-told enum-known-check refusal-requires enum-known-check-2 read-s32-requires ns-allowed-requires refusal-requires-2 enum-known-check-3 read-u8-requires fix-allowed-requires refusal-requires-3 enum-told-2 is-obs-length-requires refusal-requires-4 enum-told-3 is-log-length-requires log-padded-requires refusal-requires-5 returns returns-2 returns-3 returns-4 returns-5 returns-6)

@@ -3,7 +3,7 @@ use mathlib.Core.List.{[]}
 use native.Mathlib.Omega.{arith}
 use borrow.Author.Needs.{needs}
 use Rattle.formats.proofs.Steps.{few}
-use Rattle.row_reader.proofs.Shaped.{no-tail-counted, tail-counted}
+use Rattle.row_reader.proofs.Shaped.{no-tail-counted, text-counted, tail-counted}
 use Rattle.row_reader.proofs.row.numbers.Statement.{statement}
 use Rattle.row_reader.proofs.row.numbers.Tie as tie
 
@@ -23,12 +23,23 @@ returns c = let w = c .before .before in no-tail-counted (w .before .before .arg
 
 add-result : tie.Need-add-result
 add-result c =
-    let w = c .before .before in
+    let w = c .before .before .before .before in
     let shape = w .before .before .args .shape in
     omega (arith, few 16 (shape .head) .0, few 16 (shape .more) .0, w .before .count .ensures, w .count2 .ensures)
 
 returns-2 : tie.Need-returns-2
-returns-2 c = let w = c .before .before in tail-counted (w .before .before .args .shape) [] (w .before .count .ensures) (w .count2 .ensures) (c .if1 .left)
+returns-2 c = let w = c .before .before .before .before in text-counted (w .before .before .args .shape) [] (w .before .count .ensures) (w .count2 .ensures) (c .if2 .taken)
+
+add-result-2 : tie.Need-add-result-2
+add-result-2 c =
+    let w = c .before .before .before .before in
+    let shape = w .before .before .args .shape in
+    omega (arith, few 16 (shape .head) .0, few 16 (shape .more) .0, w .before .count .ensures, w .count2 .ensures)
+
+returns-3 : tie.Need-returns-3
+returns-3 c =
+    let w = c .before .before .before .before in
+    tail-counted (w .before .before .args .shape) [] (w .before .count .ensures) (w .count2 .ensures) (c .before .before .if1 .left) (c .if2 .left)
 
 pub numbers-spec : {M : Type 1} → statement M
-numbers-spec = tie.close (tie.spec count-requires count-requires-2 add-fields returns add-result returns-2)
+numbers-spec = tie.close (tie.spec count-requires count-requires-2 add-fields returns add-result returns-2 add-result-2 returns-3)

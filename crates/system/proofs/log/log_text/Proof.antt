@@ -1,23 +1,28 @@
 -- `system::log::log_text` meets its contract.
+use mathlib.Core.Path.{sym}
 use borrow.Author.Needs.{needs}
-use Rattle.system.proofs.Logs.{text-none, text-some}
+use lib.Seq.{length-take-le}
+use Rattle.wire.proofs.Texts.{no-longer}
+use Rattle.system.proofs.Logs.{text-part}
 use Rattle.system.proofs.log.log_text.Statement.{statement}
 use Rattle.system.proofs.log.log_text.Tie as tie
 
+after-level-requires : tie.Need-after-level-requires
+after-level-requires c κs = search needs
+
+text-length-requires : tie.Need-text-length-requires
+text-length-requires c κs = search needs
+
+slice-aggregate-result : tie.Need-slice-aggregate-result
+slice-aggregate-result c =
+    let found = c .before in
+    let rest = found .before .after-level .result .now in
+    sym (length-take-le (found .text-length .result) rest (no-longer rest (found .text-length .ensures)))
+
 returns : tie.Need-returns
-returns c = text-none (c .before .args .s .now) (c .if1 .taken)
-
-sub-result : tie.Need-sub-result
-sub-result c = search needs
-
-part-result-start : tie.Need-part-result-start
-part-result-start c = search needs
-
-part-result-end : tie.Need-part-result-end
-part-result-end c = search needs
-
-returns-2 : tie.Need-returns-2
-returns-2 c = text-some (c .before .before .args .s .now)
+returns c =
+    let found = c .before in
+    text-part (found .before .before .before .args .s .now) (found .before .after-level .ensures) (found .text-length .ensures)
 
 pub log-text-spec : {M : Type 1} → statement M
-log-text-spec = tie.close (tie.spec returns sub-result part-result-start part-result-end returns-2)
+log-text-spec = tie.close (tie.spec after-level-requires text-length-requires slice-aggregate-result returns)

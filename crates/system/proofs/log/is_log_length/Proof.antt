@@ -1,12 +1,12 @@
--- `payloads::check::log_fits` meets its contract.
+-- `system::log::is_log_length` meets its contract.
 use mathlib.Core.Path.{_≡_, refl, sym, _∙_}
 use mathlib.Core.Bool.{Bool, true, false}
 use Prim.Native.Nat.{ℕ, _-_}
 use native.Mathlib.Omega.{arith}
 use lib.Dec.{leb}
 use borrow.Author.Tests.{le-leb, lt-leb, leb-true, leb-false}
-use Rattle.payloads.proofs.check.log_fits.Statement.{statement}
-use Rattle.payloads.proofs.check.log_fits.Tie as tie
+use Rattle.system.proofs.log.is_log_length.Statement.{statement}
+use Rattle.system.proofs.log.is_log_length.Tie as tie
 
 -- 255 bytes are a level and 254 of text
 text-of : (n : ℕ) → leb n 255 ≡ leb (n - 1) 254
@@ -22,5 +22,5 @@ returns c = rw (le-leb 1 (c .before .args .n) (c .if1 .taken)) (text-of (c .befo
 returns-2 : tie.Need-returns-2
 returns-2 c = rw (lt-leb 1 (c .before .args .n) (c .if1 .left))
 
-pub log-fits-spec : {M : Type 1} → statement M
-log-fits-spec = tie.close (tie.spec returns returns-2)
+pub is-log-length-spec : {M : Type 1} → statement M
+is-log-length-spec = tie.close (tie.spec returns returns-2)
