@@ -30,6 +30,11 @@ static size_t put_frame(size_t at, uint16_t kind, uint16_t sender, uint8_t size,
         memset(f + 12, 0, 4); /* ns */
     } else if (kind >= 0x0200 && kind <= 0x0207 && kind != 0x0206) {
         f[5 + size] &= 0xF8; /* fix mode */
+    } else if (kind == 0x0401) {
+        for (unsigned i = 1; i < size; i++) {
+            f[6 + i] |= 1; /* text: no zero */
+        }
+        memset(f + 2 + size, 0, 4); /* padding */
     }
     uint16_t sum = twin_crc(f + 1, size + 5u);
     f[size + 6] = (uint8_t)sum, f[size + 7] = (uint8_t)(sum >> 8);

@@ -146,8 +146,9 @@ static void write_obs(void) {
 static void write_log(void) {
     uint32_t sender = (uint32_t)number(4);
     uint8_t level = (uint8_t)number(1);
+    size_t padding = number(8);
     struct block *out = room_for(1), *size = filled(8), *words = given(1);
-    reply(sbp_write_log(out->at, out->n, sender, level, words->at, words->n, numbers(size)), 1);
+    reply(sbp_write_log(out->at, out->n, sender, level, words->at, words->n, padding, numbers(size)), 1);
 }
 
 static void write_frame(void) {

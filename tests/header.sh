@@ -164,6 +164,11 @@ modes = [(0x0200, ecef, ["single", "float", "fixed"]), (0x0201, llh, ["single", 
 keep("modes", b"".join(frame(kind, 7, payload(5, 1, 2, 3, flags)) for kind, payload, fixes in modes for flags in range(3)))
 keep("fixes", "".join(place(5, fix, 1, 2, 3) for _, _, fixes in modes for fix in fixes).encode())
 
+# lines of a device's log: no zero after the text, one, many, no text, a line's end in it; and one that is refused
+told = [(6, b"started", 0), (4, b"late", 1), (0, b"off", 200), (3, b"", 3), (7, b"two\nlines", 1)]
+keep("logs", b"".join(frame(0x0401, 7, bytes([level]) + text + bytes(zeros)) for level, text, zeros in told) + frame(0x0401, 7, b"\x06no\0text"))
+keep("texts", b"".join(b"L %d %s\n" % (level, text.replace(b"\n", b" ")) for level, text, _ in told))
+
 here = llh(416300400, 37.7749, -122.4194, 21.5, 1)
 seen = [(1052512345, -110000003, 128, 168, 900, 5, 0, 0), (1101122334, 121641107, 65, 181, 901, 31, 0, 0)]
 observations = struct.pack("<IHB", 416300400, 1900, 0x10) + b"".join(struct.pack("<IiBBHHBB", *one) for one in seen)
@@ -218,6 +223,8 @@ grows() {
     same "grows of a pipe" "$work/lines" "$work/out"
     cat "$work/modes" | timeout 60 "$work/grows" /dev/stdin 2>&1 | grep '^P' >"$work/out" || true
     same "fix modes of both positions" "$work/fixes" "$work/out"
+    cat "$work/logs" | timeout 60 "$work/grows" /dev/stdin 2>&1 | grep -av '^[FT]' >"$work/out" || true
+    same "texts of a device's log" "$work/texts" "$work/out"
     growing
 }
 

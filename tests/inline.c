@@ -1,6 +1,6 @@
-/* Calls every inline function of sbp.h, looks at every name in it and holds its sizes to the library. What is not as it should be is a line
- * 'differs: ..'; the last line is 'N passed, M failed'. No two bytes of a row are alike, so that a field from another place, of another width or
- * without its sign shows.
+/* Calls every inline function of sbp.h, looks at every name in it and holds its sizes, and what it says of LOG's text, to the library. What is not
+ * as it should be is a line 'differs: ..'; the last line is 'N passed, M failed'. No two bytes of a row are alike, so that a field from another
+ * place, of another width or without its sign shows.
  * usage: inline (tests/header.sh builds and runs it) */
 #include <inttypes.h>
 #include <stdio.h>
@@ -224,7 +224,8 @@ static void log_(const uint64_t *row) {
     const struct sbp_log m = sbp_log_of(row);
     U8(m.level, row[0]);
     U8(m.length, row[1]);
-    BACK(sbp_log, 2);
+    U8(m.padding, row[2]);
+    BACK(sbp_log, 3);
 }
 
 static void read_by_index_req(const uint64_t *row) {
@@ -262,7 +263,7 @@ static const struct {
     {"ddd", base_pos_ecef},
     {"IHBB", obs},
     {"IiBBHHBB", observation_row},
-    {"BB", log_},
+    {"BBB", log_},
     {"H", read_by_index_req},
     {"I", startup},
     {"I", heartbeat},
@@ -417,7 +418,7 @@ static void fields(void) {
     NAME(SBP_VEL_NED_FIELDS, 8);
     NAME(SBP_DOPS_FIELDS, 6);
     NAME(SBP_BASELINE_HEADING_FIELDS, 4);
-    NAME(SBP_LOG_FIELDS, 2);
+    NAME(SBP_LOG_FIELDS, 3);
     NAME(SBP_STARTUP_FIELDS, 1);
     NAME(SBP_HEARTBEAT_FIELDS, 1);
     NAME(SBP_FIELDS_MOST, 8);
@@ -427,10 +428,10 @@ static void fields(void) {
 
 static void version(void) {
     NAME(SBP_VERSION_MAJOR, 0);
-    NAME(SBP_VERSION_MINOR, 8);
+    NAME(SBP_VERSION_MINOR, 9);
     NAME(SBP_VERSION_PATCH, 0);
-    NAME(SBP_VERSION, 800);
-    SAME("sbp_version()", sbp_version(), 800);
+    NAME(SBP_VERSION, 900);
+    SAME("sbp_version()", sbp_version(), 900);
 }
 
 static const struct {
@@ -561,11 +562,112 @@ static void frames_have_room(void) {
     SAME("its size", size, SBP_FRAME_MOST);
     SAME("with less room", sbp_write_frame(out, SBP_FRAME_MOST - 1, 1, SBP_NO_SENDER, bytes, SBP_PAYLOAD_MOST, &size), SBP_NO_ROOM);
     SAME("with more", sbp_write_frame(out, SBP_FRAME_MOST, 1, SBP_NO_SENDER, bytes, SBP_PAYLOAD_MOST + 1, &size), SBP_TOO_MUCH);
-    SAME("sbp_write_log", sbp_write_log(out, SBP_FRAME_MOST, SBP_NO_SENDER, 6, bytes, SBP_TEXT_MOST, &size), SBP_OK);
-    SAME("with more text", sbp_write_log(out, SBP_FRAME_MOST, SBP_NO_SENDER, 6, bytes, SBP_TEXT_MOST + 1, &size), SBP_TOO_MUCH);
     SAME("sbp_write_obs", sbp_write_obs(out, SBP_FRAME_MOST, SBP_MSG_OBS, SBP_NO_SENDER, head, SBP_OBS_HEAD, rows, all, &size), SBP_OK);
     SAME("with one observation more",
          sbp_write_obs(out, SBP_FRAME_MOST, SBP_MSG_OBS, SBP_NO_SENDER, head, SBP_OBS_HEAD, rows, all + SBP_OBSERVATION_FIELDS, &size), SBP_TOO_MUCH);
+}
+
+/* ---- LOG: its text ends before the first zero after the level, and all bytes from there on are zeros */
+
+/* A text to write: its length, where it has a zero (at its length: nowhere), the zeros to write after it, and what that is answered. */
+static const struct {
+    size_t n, zero, padding;
+    uint8_t told;
+} texts[] = {
+    {0, 0, 0, SBP_OK},
+    {4, 4, 0, SBP_OK},
+    {4, 4, 1, SBP_OK},
+    {0, 0, SBP_TEXT_MOST, SBP_OK},
+    {100, 100, SBP_TEXT_MOST - 100, SBP_OK},
+    {SBP_TEXT_MOST, SBP_TEXT_MOST, 0, SBP_OK},
+    {0, 0, SBP_TEXT_MOST + 1, SBP_TOO_MUCH},
+    {100, 100, SBP_TEXT_MOST - 99, SBP_TOO_MUCH},
+    {SBP_TEXT_MOST, SBP_TEXT_MOST, 1, SBP_TOO_MUCH},
+    {SBP_TEXT_MOST + 1, SBP_TEXT_MOST + 1, 0, SBP_TOO_MUCH},
+    {4, 4, 1 << 8, SBP_TOO_MUCH}, /* 0 in too few bits, or in a sum */
+    {4, 4, 1 << 16, SBP_TOO_MUCH},
+    {4, 4, (size_t)1 << 32, SBP_TOO_MUCH},
+    {4, 4, SIZE_MAX - 3, SBP_TOO_MUCH},
+    {0, 0, SIZE_MAX, SBP_TOO_MUCH},
+    {4, 0, 0, SBP_OUT_OF_RANGE},
+    {4, 2, 0, SBP_OUT_OF_RANGE},
+    {4, 3, 0, SBP_OUT_OF_RANGE},
+    {4, 3, SIZE_MAX, SBP_OUT_OF_RANGE},
+    {SBP_TEXT_MOST, SBP_TEXT_MOST - 1, 0, SBP_OUT_OF_RANGE},
+    {300, 299, 0, SBP_OUT_OF_RANGE},
+};
+
+/* Whether so many bytes are all this one. */
+static bool all_are(const uint8_t *bytes, size_t n, uint8_t byte) {
+    for (size_t i = 0; i < n; i++) {
+        if (bytes[i] != byte) {
+            return false;
+        }
+    }
+    return true;
+}
+
+/* The frame holds the level, the text and the zeros, and reads as it was written. */
+static void log_back(const uint8_t *frame, uint64_t size, uint8_t level, size_t n, size_t padding) {
+    uint64_t row[SBP_LOG_FIELDS] = {0};
+    SAME("its size", size, 9 + n + padding);
+    SAME("its level", frame[6], level);
+    SAME("its text", all_are(frame + 7, n, 'x'), true);
+    SAME("its zeros", all_are(frame + 7 + n, padding, 0), true);
+    SAME("sbp_read", sbp_read(SBP_MSG_LOG, frame + 6, 1 + n + padding, row, SBP_LOG_FIELDS), SBP_OK);
+    const struct sbp_log m = sbp_log_of(row);
+    SAME("the level read", m.level, level);
+    SAME("the length read", m.length, n);
+    SAME("the padding read", m.padding, padding);
+}
+
+static void logs_written(void) {
+    for (size_t i = 0; i < sizeof texts / sizeof *texts; i++) {
+        uint8_t text[300], out[SBP_FRAME_MOST];
+        const size_t n = texts[i].n, padding = texts[i].padding;
+        const uint8_t level = i % 2 == 0 ? 0 : 0xA6, told = texts[i].told;
+        uint64_t size = 77;
+        memset(text, 'x', sizeof text);
+        memset(out, 0xEE, sizeof out);
+        if (texts[i].zero < n) {
+            text[texts[i].zero] = 0;
+        }
+        SAME("sbp_write_log", sbp_write_log(out, sizeof out, 1228, level, text, n, padding, &size), told);
+        if (told == SBP_OK) {
+            log_back(out, size, level, n, padding);
+            SAME("with less room", sbp_write_log(out, 8 + n + padding, 1228, level, text, n, padding, &size), SBP_NO_ROOM);
+        } else {
+            SAME("a refusal's size", size, 77);
+            SAME("a refusal's frame", all_are(out, sizeof out, 0xEE), true);
+            SAME("without room", sbp_write_log(out, 0, 1228, level, text, n, padding, &size), told);
+        }
+    }
+}
+
+/* Another byte after a zero. */
+static const struct {
+    uint8_t payload[5];
+    size_t n;
+} torn[] = {
+    {{6, 0, 'x'}, 3},
+    {{0, 0, 'x'}, 3},
+    {{6, 't', 0, 'x'}, 4},
+    {{6, 't', 0, 'x', 0}, 5},
+    {{6, 't', 0, 0, 'x'}, 5},
+};
+
+static void logs_refused(void) {
+    const uint8_t longer[SBP_PAYLOAD_MOST + 1] = {6, 0, 'x'};
+    uint64_t row[SBP_LOG_FIELDS] = {77, 77, 77};
+    for (size_t i = 0; i < sizeof torn / sizeof *torn; i++) {
+        SAME("sbp_answer", sbp_answer(SBP_MSG_LOG, torn[i].payload, torn[i].n), SBP_OUT_OF_RANGE);
+        SAME("sbp_read", sbp_read(SBP_MSG_LOG, torn[i].payload, torn[i].n, row, SBP_LOG_FIELDS), SBP_OUT_OF_RANGE);
+    }
+    SAME("sbp_read of nothing", sbp_read(SBP_MSG_LOG, longer, 0, row, SBP_LOG_FIELDS), SBP_WRONG_LENGTH);
+    SAME("sbp_read of too much", sbp_read(SBP_MSG_LOG, longer, sizeof longer, row, SBP_LOG_FIELDS), SBP_WRONG_LENGTH);
+    for (size_t i = 0; i < SBP_LOG_FIELDS; i++) {
+        SAME("a refusal's row", row[i], 77);
+    }
 }
 
 int main(void) {
@@ -588,6 +690,8 @@ int main(void) {
     fields_have_room();
     observations_have_room();
     frames_have_room();
+    logs_written();
+    logs_refused();
     printf("%u passed, %u failed\n", passed, failed);
     return failed != 0;
 }

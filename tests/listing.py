@@ -12,6 +12,7 @@ ROOT = os.path.dirname(os.path.dirname(os.path.abspath(__file__)))
 sys.dont_write_bytecode = True
 sys.path[:0] = [os.path.join(ROOT, "twins", "python"), os.path.join(ROOT, "tests", "sample")]
 import answers
+import logs
 import make
 import twin
 
@@ -49,6 +50,7 @@ def cases():
     yield "65536 bytes of 0x55", b"\x55" * 65536, None
     yield "ten senders", ten, None
     yield "unknown and malformed", b"".join(twin.frame(k, 9, bytes(n)) for k in (0x48, 0x49, 0x4A, 0x100, 0x200, 0x401) for n in (0, 7, 11, 24, 32, 255)), None
+    yield "LOGs: text, and zeros after it", logs.CAPTURE, None
     yield "a megabyte, 997 bytes at a time", (sample + bytes(100)) * 200, 997
 
 
@@ -68,6 +70,7 @@ def main():
         out, said = program.communicate()
     for name, held in (
             ("the stored sample is what make.py makes", sample), ("vectors' stored answers are what the Python twin works out", lines),
+            ("the Python twin answers LOGs as logs.py has them", logs.as_answered()),
             ("a read that fails prints nothing and says why", out == b"" and said.startswith(b"read: "))):
         passed += held
         if not held:

@@ -1,6 +1,7 @@
 /* Writes frames again with the library's own writers, one for each line of standard input; tests/tool_parts/objects.py makes these lines of what
  * `sbp json` printed. A line is a letter, the type, the sender, and how many numbers follow with these: W for sbp_write; O for sbp_write_obs, the
- * observations' numbers as a second such list; L for sbp_write_log, its level and the text's bytes; F for sbp_write_frame, its payload's bytes.
+ * observations' numbers as a second such list; L for sbp_write_log, its level, its padding and the text's bytes; F for sbp_write_frame, its
+ * payload's bytes.
  * Exit status 1 where a line is none of these or a writer refuses. */
 #include <inttypes.h>
 #include <stdio.h>
@@ -29,14 +30,17 @@ static size_t numbers(uint64_t *row, size_t most) {
     return n;
 }
 
+/* Numbers of a line: those before LOG's text, and the most of a text; a payload has fewer. */
+enum { LOG_HEAD = 2, MOST = LOG_HEAD + SBP_TEXT_MOST };
+
 int main(void) {
-    uint64_t row[SBP_PAYLOAD_MOST], rows[SBP_OBSERVATIONS_MOST * SBP_OBSERVATION_FIELDS], size = 0;
-    uint8_t frame[SBP_FRAME_MOST], bytes[SBP_PAYLOAD_MOST];
+    uint64_t row[MOST], rows[SBP_OBSERVATIONS_MOST * SBP_OBSERVATION_FIELDS], size = 0;
+    uint8_t frame[SBP_FRAME_MOST], bytes[MOST];
     char letter;
     while (scanf(" %c", &letter) == 1) {
         const uint16_t kind = (uint16_t)number();
         const uint32_t sender = (uint32_t)number();
-        const size_t n = numbers(row, sizeof row / sizeof *row);
+        const size_t n = numbers(row, MOST);
         for (size_t i = 0; i < n; i++) {
             bytes[i] = (uint8_t)row[i];
         }
@@ -46,8 +50,8 @@ int main(void) {
         } else if (letter == 'O') {
             const size_t m = numbers(rows, sizeof rows / sizeof *rows);
             told = sbp_write_obs(frame, sizeof frame, kind, sender, row, n, rows, m, &size);
-        } else if (letter == 'L' && n > 0) {
-            told = sbp_write_log(frame, sizeof frame, sender, bytes[0], bytes + 1, n - 1, &size);
+        } else if (letter == 'L' && n >= LOG_HEAD) {
+            told = sbp_write_log(frame, sizeof frame, sender, bytes[0], bytes + LOG_HEAD, n - LOG_HEAD, row[1], &size);
         } else if (letter == 'F') {
             told = sbp_write_frame(frame, sizeof frame, kind, sender, bytes, n, &size);
         }

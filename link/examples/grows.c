@@ -1,4 +1,5 @@
-/* Follows a capture that grows and prints each frame as it comes, as sbplist does, and after a position its time, fix and place: grows FILE [SECONDS]
+/* Follows a capture that grows and prints each frame as it comes, as sbplist does, after a position its time, fix and place, and after a line of
+ * the device's log its level and text: grows FILE [SECONDS]
  * A file is followed until nothing came for so many seconds, without them for ever; a pipe until it is closed. The end prints the totals.
  * Exit status 0; 1 for trouble with a file; 2 for wrong use. */
 #include "stream.h"
@@ -21,6 +22,15 @@ static void print_position(uint32_t tow, uint8_t fix, double a, double b, double
     printf("P %" PRIu32 " %s %.17g %.17g %.17g\n", tow, fix_name(fix), a, b, c);
 }
 
+/* The zeros after the text are none of it. A line's end in it would begin a line of ours. */
+static void print_log(const struct sbp_log *m, const uint8_t *text) {
+    printf("L %u ", (unsigned)m->level);
+    for (size_t i = 0; i < m->length; i++) {
+        putchar(text[i] < ' ' ? ' ' : text[i]);
+    }
+    putchar('\n');
+}
+
 /* What flags mean is asked with the frame's type: 1 is fixed in POS_LLH and float in POS_ECEF. */
 static void print_frame(const struct stream *s, const struct sbp_found *f) {
     uint64_t row[SBP_FIELDS_MOST];
@@ -33,6 +43,10 @@ static void print_frame(const struct stream *s, const struct sbp_found *f) {
     if (answer == SBP_OK && f->kind == SBP_MSG_POS_ECEF) {
         const struct sbp_pos_ecef m = sbp_pos_ecef_of(row);
         print_position(m.tow, sbp_fix(f->kind, m.flags), m.x, m.y, m.z);
+    }
+    if (answer == SBP_OK && f->kind == SBP_MSG_LOG) {
+        const struct sbp_log m = sbp_log_of(row);
+        print_log(&m, stream_payload(s, f) + 1);
     }
 }
 

@@ -57,7 +57,7 @@ static void put_observations(void) {
 
 static void put_log(void) {
     const uint8_t text[] = {'s', 't', 'a', 'r', 't', 'e', 'd'};
-    put("LOG", sbp_write_log(frame, sizeof frame, BASE, 6, text, sizeof text, &size));
+    put("LOG", sbp_write_log(frame, sizeof frame, BASE, 6, text, sizeof text, 0, &size)); /* no zeros after it */
 }
 
 /* A type of one's own: it has no reading, and is a frame all the same. */

@@ -30,7 +30,7 @@ extern "C" {
 
 /* This header's version; sbp_version tells the library's in the same form. */
 #define SBP_VERSION_MAJOR 0
-#define SBP_VERSION_MINOR 8
+#define SBP_VERSION_MINOR 9
 #define SBP_VERSION_PATCH 0
 #define SBP_VERSION (10000 * SBP_VERSION_MAJOR + 100 * SBP_VERSION_MINOR + SBP_VERSION_PATCH)
 
@@ -69,7 +69,7 @@ extern "C" {
 #define SBP_TOO_LONG 11            /* a capture to be listed is over 65536 bytes */
 #define SBP_UNKNOWN_TYPE 21        /* the type has no such reading, writing or flag */
 #define SBP_WRONG_LENGTH 22        /* a payload's length, or a number of fields, is not the type's */
-#define SBP_OUT_OF_RANGE 23        /* a field is outside its range, or a number is none that its field can hold */
+#define SBP_OUT_OF_RANGE 23        /* a field is outside its range, a number is none that its field can hold, or LOG's text has a zero in it */
 #define SBP_NO_SUCH_OBSERVATION 25 /* the index is not below the number of observations */
 #define SBP_TOO_MUCH 31            /* a payload to write would be over 255 bytes, or have over 15 observations */
 #define SBP_NO_ROOM 32             /* lent memory is too short */
@@ -93,7 +93,7 @@ extern "C" {
 #define SBP_STATE 105
 #define SBP_REPORT 11
 
-/* The most of each: bytes of a payload, of a frame and of LOG's text, observations in a frame, senders on a roster. */
+/* The most of each: bytes of a payload, of a frame and of LOG's text with its padding, observations in a frame, senders on a roster. */
 #define SBP_PAYLOAD_MOST 255
 #define SBP_FRAME_MOST 263
 #define SBP_TEXT_MOST 254
@@ -116,7 +116,7 @@ extern "C" {
 #define SBP_VEL_NED_FIELDS 8
 #define SBP_DOPS_FIELDS 6
 #define SBP_BASELINE_HEADING_FIELDS 4
-#define SBP_LOG_FIELDS 2
+#define SBP_LOG_FIELDS 3
 #define SBP_STARTUP_FIELDS 1
 #define SBP_HEARTBEAT_FIELDS 1
 #define SBP_FIELDS_MOST 8
@@ -159,8 +159,9 @@ uint8_t sbp_list(const uint8_t *capture, size_t n, uint8_t *text, size_t room, u
 uint8_t sbp_answer(uint16_t kind, const uint8_t *payload, size_t n);
 
 /* A payload's fields: one number for each, in order, from row[0] on: unsigned ones as they are, signed ones with their sign extended to 64 bits,
- * doubles as their bit pattern. OBS gives tow, wn, n_obs and the number of observations; LOG its level and the length of its text, which
- * stands in the payload from its second byte on. The structs below have a function from a row.
+ * doubles as their bit pattern. OBS gives tow, wn, n_obs and the number of observations; LOG its level, the length of its text, which stands in
+ * the payload from its second byte on and ends before the first zero, and how many zeros stand after it: another byte among them is
+ * SBP_OUT_OF_RANGE. The structs below have a function from a row.
  * SBP_OK; or what sbp_answer answers, SBP_NO_ROOM: room is below the number of fields (SBP_FIELDS_MOST have room for every type).
  * The caller keeps: n bytes are at payload, and room aligned uint64_t, that are no part of them, to write at row. */
 uint8_t sbp_read(uint16_t kind, const uint8_t *payload, size_t n, uint64_t *row, size_t room);
@@ -214,9 +215,11 @@ uint8_t sbp_write(uint8_t *out, size_t room, uint16_t kind, uint32_t sender, con
 uint8_t sbp_write_obs(uint8_t *out, size_t room, uint16_t kind, uint32_t sender, const uint64_t *head, size_t fields, const uint64_t *rows,
                       size_t numbers, uint64_t *size);
 
-/* LOG with n bytes of text: SBP_OK, and the frame's length in *size; or SBP_TOO_MUCH: n is over SBP_TEXT_MOST, SBP_NO_ROOM.
- * The caller keeps: room bytes to write are at out, n bytes at text, and size points to an aligned uint64_t; none overlaps another. */
-uint8_t sbp_write_log(uint8_t *out, size_t room, uint32_t sender, uint8_t level, const uint8_t *text, size_t n, uint64_t *size);
+/* LOG with n bytes of text and so many zeros after it as padding says: SBP_OK, and the frame's length in *size; or SBP_OUT_OF_RANGE: a zero in
+ * the text, SBP_TOO_MUCH: n + padding is over SBP_TEXT_MOST, SBP_NO_ROOM.
+ * The caller keeps: room bytes to write are at out, n bytes at text, and size points to an aligned uint64_t; none overlaps another. padding may
+ * be any number. */
+uint8_t sbp_write_log(uint8_t *out, size_t room, uint32_t sender, uint8_t level, const uint8_t *text, size_t n, size_t padding, uint64_t *size);
 
 /* A frame of any type with any payload: SBP_OK, and the frame's length in *size; or SBP_TOO_MUCH: n is over SBP_PAYLOAD_MOST, SBP_NO_ROOM.
  * The caller keeps: room bytes to write are at out, n bytes at payload, and size points to an aligned uint64_t; none overlaps another. */
@@ -606,18 +609,19 @@ static inline void sbp_observation_row_row(const struct sbp_observation_row *m, 
     memcpy(row, fields, sizeof fields);
 }
 
-/* LOG's level (0 emergency, 1 alert, 2 critical, 3 error, 4 warning, 5 notice, 6 info, 7 debug) and the length of its text. */
+/* LOG's level (0 emergency, 1 alert, 2 critical, 3 error, 4 warning, 5 notice, 6 info, 7 debug), the length of its text, and how many zeros
+ * stand after that. */
 struct sbp_log {
-    uint8_t level, length;
+    uint8_t level, length, padding;
 };
 
 static inline struct sbp_log sbp_log_of(const uint64_t row[SBP_LOG_FIELDS]) {
-    const struct sbp_log m = {(uint8_t)row[0], (uint8_t)row[1]};
+    const struct sbp_log m = {(uint8_t)row[0], (uint8_t)row[1], (uint8_t)row[2]};
     return m;
 }
 
 static inline void sbp_log_row(const struct sbp_log *m, uint64_t row[SBP_LOG_FIELDS]) {
-    const uint64_t fields[SBP_LOG_FIELDS] = {m->level, m->length};
+    const uint64_t fields[SBP_LOG_FIELDS] = {m->level, m->length, m->padding};
     memcpy(row, fields, sizeof fields);
 }
 

@@ -3,6 +3,7 @@ import itertools
 
 import captures
 import common
+import logs
 import twin
 
 
@@ -20,6 +21,7 @@ def edges():
     yield "malformed ones first", twin.frame(twin.OBS, 1, b"") + captures.many_senders(8)
     kinds = (0x48, 0x49, 0x4A, 0x100, 0x200, 0x401)
     yield "unknown and malformed", b"".join(twin.frame(k, 9, bytes(n)) for k in kinds for n in (0, 7, 11, 24, 32, 255))
+    yield "LOGs: text, and zeros after it", logs.CAPTURE
 
 
 def cases():

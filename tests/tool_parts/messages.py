@@ -13,7 +13,7 @@ FIELDS = {
     0x0203: ("MSG_BASELINE_NED", "tow n e d h_accuracy v_accuracy n_sats flags"),
     0x0205: ("MSG_VEL_NED", "tow n e d h_accuracy v_accuracy n_sats flags"),
     0x0207: ("MSG_BASELINE_HEADING", "tow heading n_sats flags"), 0x0044: ("MSG_BASE_POS_LLH", "lat lon height"),
-    0x0048: ("MSG_BASE_POS_ECEF", "x y z"), 0x0049: ("MSG_OBS", "header obs"), 0x0401: ("MSG_LOG", "level text"),
+    0x0048: ("MSG_BASE_POS_ECEF", "x y z"), 0x0049: ("MSG_OBS", "header obs"), 0x0401: ("MSG_LOG", "level text padding"),
     0x00A1: ("MSG_SETTINGS_SAVE", ""), 0x00A6: ("MSG_SETTINGS_READ_BY_INDEX_DONE", ""),
     0x00A2: ("MSG_SETTINGS_READ_BY_INDEX_REQ", "index"), 0xFF00: ("MSG_STARTUP", "reserved"), 0xFFFF: ("MSG_HEARTBEAT", "flags")}
 
@@ -25,8 +25,8 @@ EDGES = {
           0xFFF0000000000000, 0x7FF8000000000000, 0x7FF8000000000001, 0x7FF0000000000001, 0xFFFFFFFFFFFFFFFF, 0xFFF4000000000000,
           0x3FD3333333333334, 0x4042E334D6A161E5, 0xC05E9AD42C3C9EEC, 0x4340000000000001]}
 WIDTHS = {"B": 1, "H": 2, "I": 4, "i": 4, "d": 8}
-TEXTS = [b"", b"plain", b'quote " and \\ back', b"line\r\n\ttab \x00\x1b\x7f", "Gr\u00f6\u00dfe \u20ac \U0001f6f0".encode(), b"\xff\xfe cut \xe2\x82", b"\x80",
-         b"\xed\xa0\x80 \xed\xb2\x80", b"\xc0\x80 \xf4\x90\x80\x80", bytes(range(254)), b"\xe2\x82" * 127, b"a" * 254]
+TEXTS = [b"", b"plain", b'quote " and \\ back', b"line\r\n\ttab \x01\x1b\x7f", "Gr\u00f6\u00dfe \u20ac \U0001f6f0".encode(), b"\xff\xfe cut \xe2\x82", b"\x80",
+         b"\xed\xa0\x80 \xed\xb2\x80", b"\xc0\x80 \xf4\x90\x80\x80", bytes(range(1, 255)), b"\xe2\x82" * 127, b"a" * 254]
 
 
 def number(rng, form):
@@ -39,7 +39,7 @@ def filled(rng, kind):
     """A payload of that type, mostly one that is read."""
     if kind == 0x0401:
         text = rng.choice(TEXTS) if rng.random() < 0.7 else rng.randbytes(rng.randrange(255))
-        return number(rng, "B") + text
+        return (number(rng, "B") + text + bytes(rng.choice([0, 0, 1, 9, 254])))[:255]
     if kind == twin.OBS:
         return b"".join(number(rng, form) for form in "IHB" + "IiBBHHBB" * rng.randrange(16))
     _, layout, last = twin.MESSAGES[twin.NAMES[kind]]

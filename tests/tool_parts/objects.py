@@ -7,6 +7,7 @@ import struct
 
 import captures
 import common
+import logs
 import messages
 import twin
 
@@ -48,6 +49,10 @@ def observation(one):
     return packed("IiBBHHBB", [one["P"], one["L"]["i"], one["L"]["f"], one["cn0"], one["lock"], sid["sat"], sid["code"], sid["reserved"]])
 
 
+def text_of(told):
+    return told["text"].encode("utf-8", "surrogateescape")
+
+
 def fields_packed(told):
     """The payload that an object's fields make."""
     kind = told["msg_type"]
@@ -57,7 +62,10 @@ def fields_packed(told):
             raise ValueError("keys of the header")
         return packed("IHB", [header["t"]["tow"], header["t"]["wn"], header["n_obs"]]) + b"".join(map(observation, told["obs"]))
     if kind == 0x0401:
-        return packed("B", [told["level"]]) + told["text"].encode("utf-8", "surrogateescape")
+        text = text_of(told)
+        if 0 in text:
+            raise ValueError("a zero in the text")
+        return packed("B", [told["level"]]) + text + bytes(told["padding"])
     return packed(twin.MESSAGES[twin.NAMES[kind]][1], [told[name] for name in messages.FIELDS[kind][1].split()])
 
 
@@ -80,7 +88,7 @@ def writers_line(line):
         header, seen = told["header"], [(o["P"], *o["L"].values(), o["cn0"], o["lock"], *o["sid"].values()) for o in told["obs"]]
         return line_of("O", told, row("IHB", [*header["t"].values(), header["n_obs"]]), [n for one in seen for n in row("IiBBHHBB", one)])
     if kind == 0x0401:
-        return line_of("L", told, ["%d" % byte for byte in (told["level"], *told["text"].encode("utf-8", "surrogateescape"))])
+        return line_of("L", told, ["%d" % n for n in (told["level"], told["padding"], *text_of(told))])
     return line_of("W", told, row(twin.MESSAGES[twin.NAMES[kind]][1], [told[name] for name in messages.FIELDS[kind][1].split()]))
 
 
@@ -132,6 +140,7 @@ def cases():
     yield from compared("the sample", captures.SAMPLE)
     texts = b"".join(twin.frame(0x0401, 1, b"\x06" + text) for text in messages.TEXTS)
     yield from compared("texts", texts)
+    yield from compared("LOGs", logs.CAPTURE)
     edges = b"".join(twin.frame(0x0048, 1, struct.pack("<QQQ", bits, bits ^ 1 << 63, bits ^ 1)) for bits in messages.EDGES["d"])
     yield from compared("doubles", edges)
     # past the first window: offsets are the whole capture's

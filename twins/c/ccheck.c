@@ -1,5 +1,6 @@
-/* Checks what clist does not show: the published CRC values, the collator's
- * making and refusals, and the counts of closed reading. */
+/* Checks what clist does not show: the published CRC values, a LOG longer than
+ * any frame's, the collator's making and refusals, and the counts of closed
+ * reading. */
 #include "fast.h"
 
 #include <stdio.h>
@@ -29,6 +30,13 @@ int main(void)
             crc = crc & 0x8000 ? crc << 1 ^ 0x11021 : crc << 1;
         check(sbp_crc(&byte, 1) == crc, "table entry");
     }
+
+    /* A letter after zeros. */
+    uint8_t log[256] = {0};
+    log[254] = log[255] = 'a';
+    check(sbp_answer(0x0401, log, 254) == 0, "LOG of zeros");
+    check(sbp_answer(0x0401, log, 255) == 23, "LOG's 23");
+    check(sbp_answer(0x0401, log, 256) == 22, "LOG's 22 before 23");
 
     struct sbp_collator c;
     struct sbp_epoch e;

@@ -131,6 +131,19 @@ static inline int fixed_length(const uint8_t *payload, size_t length,
     return 0;
 }
 
+/* LOG after its level: bytes that are not zero, then zeros to the end. */
+static inline int log_answer(const uint8_t *payload, size_t length)
+{
+    if (length == 0 || length > 255)
+        return 22;
+    size_t at = 1;
+    while (at < length && payload[at] != 0)
+        at++;
+    while (at < length && payload[at] == 0)
+        at++;
+    return at == length ? 0 : 23;
+}
+
 int sbp_answer(uint16_t type, const uint8_t *payload, size_t length)
 {
     enum { ANY = 7 };
@@ -163,7 +176,7 @@ int sbp_answer(uint16_t type, const uint8_t *payload, size_t length)
     case OBS:
         return obs_length(length) ? 0 : 22;
     case 0x0401:
-        return length >= 1 && length <= 255 ? 0 : 22;
+        return log_answer(payload, length);
     case 0x00A1:
     case 0x00A6:
         return fixed_length(payload, length, 0, ANY);

@@ -5,7 +5,8 @@
 #include "fast.h"
 
 enum { PREAMBLE = 0x55, HEADER = 6, AROUND = 8, NO_SENDER = 0x42 };
-enum { OBS = 0x0049, LOG = 0x0401, OBS_HEAD = 7, OBS_EACH = 16, OBS_MAX = 15 };
+enum { OBS = 0x0049, OBS_HEAD = 7, OBS_EACH = 16, OBS_MAX = 15 };
+enum { LOG = 0x0401, LOG_TEXT_MAX = 254 };
 enum { GPS_TIME_NS = 2, ANY_MODE = 7 };
 
 /* A field's letter: 1, 2, 4 or 8 unsigned bytes, or s for a signed four. The
@@ -177,6 +178,29 @@ static inline bool obs_length(size_t n)
     return n % OBS_EACH == OBS_HEAD && n <= OBS_HEAD + OBS_EACH * OBS_MAX;
 }
 
+/* How many bytes come before the first zero; n where there is none. */
+static inline size_t before_zero(const uint8_t *text, size_t n)
+{
+    /* An empty text may be NULL, which memchr does not take. */
+    const uint8_t *zero = n > 0 ? memchr(text, 0, n) : NULL;
+    return zero != NULL ? (size_t)(zero - text) : n;
+}
+
+/* LOG's level, how long its text is, and the padding: 22, 23. */
+static inline uint8_t take_log(const uint8_t *payload, size_t n, uint64_t *row)
+{
+    if (n == 0 || n > 1 + LOG_TEXT_MAX)
+        return 22;
+    size_t text = before_zero(payload + 1, n - 1);
+    for (size_t i = 1 + text; i < n; i++)
+        if (payload[i] != 0)
+            return 23;
+    row[0] = payload[0];
+    row[1] = text;
+    row[2] = n - 1 - text;
+    return 0;
+}
+
 uint8_t twin_read(uint16_t kind, const uint8_t *payload, size_t n,
                   uint64_t *row, size_t room)
 {
@@ -197,11 +221,10 @@ uint8_t twin_read(uint16_t kind, const uint8_t *payload, size_t n,
         taken[3] = n / OBS_EACH;
         fields = 4;
     } else if (kind == LOG) {
-        if (n == 0 || n > 255)
-            return 22;
-        taken[0] = payload[0];
-        taken[1] = n - 1;
-        fields = 2;
+        uint8_t no = take_log(payload, n, taken);
+        if (no != 0)
+            return no;
+        fields = 3;
     } else {
         return 21;
     }
@@ -289,17 +312,22 @@ uint8_t twin_write_obs(uint8_t *out, size_t room, uint16_t kind,
 
 uint8_t twin_write_log(uint8_t *out, size_t room, uint32_t sender,
                        uint8_t level, const uint8_t *text, size_t n,
-                       uint64_t *size)
+                       size_t padding, uint64_t *size)
 {
-    if (n > 254)
+    if (before_zero(text, n) < n)
+        return 23;
+    /* What is left for the padding: a sum could run over. */
+    if (n > LOG_TEXT_MAX || padding > LOG_TEXT_MAX - n)
         return 31;
-    if (room < n + 1 + AROUND)
+    size_t length = 1 + n + padding;
+    if (room < length + AROUND)
         return 32;
-    uint8_t *p = put_header(out, LOG, sender, n + 1);
-    *p = level;
+    uint8_t *p = put_header(out, LOG, sender, length);
+    *p++ = level;
     if (n > 0)
-        memcpy(p + 1, text, n);
-    return seal(out, n + 1, size);
+        memcpy(p, text, n);
+    memset(p + n, 0, padding);
+    return seal(out, length, size);
 }
 
 uint8_t twin_write_frame(uint8_t *out, size_t room, uint16_t kind,

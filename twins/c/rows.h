@@ -9,8 +9,8 @@
 #include <stdint.h>
 
 /* A number for each field in order: unsigned as it is, signed sign-extended,
- * a double as its bits. OBS: tow, wn, n_obs, k. LOG: level, text length.
- * 21, 22, 23, 32. */
+ * a double as its bits. OBS: tow, wn, n_obs, k. LOG: level, text length,
+ * padding. 21, 22, 23, 32. */
 uint8_t twin_read(uint16_t kind, const uint8_t *payload, size_t n,
                   uint64_t *row, size_t room);
 
@@ -28,10 +28,13 @@ uint8_t twin_write_obs(uint8_t *out, size_t room, uint16_t kind,
                        uint32_t sender, const uint64_t *head, size_t fields,
                        const uint64_t *rows, size_t numbers, uint64_t *size);
 
-/* 31, 32. */
+/* n bytes of text, then the padding's zeros: 23 for a zero in the text, 31,
+ * 32. */
 uint8_t twin_write_log(uint8_t *out, size_t room, uint32_t sender,
                        uint8_t level, const uint8_t *text, size_t n,
-                       uint64_t *size);
+                       size_t padding, uint64_t *size);
+
+/* 31, 32. */
 uint8_t twin_write_frame(uint8_t *out, size_t room, uint16_t kind,
                          uint32_t sender, const uint8_t *payload, size_t n,
                          uint64_t *size);

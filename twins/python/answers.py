@@ -159,21 +159,43 @@ def observations():
     for count in 2, 15, 16:
         whole = data[:39] + bytes(16 * (count - 2))
         yield "write-obs " + (frame(OBS, 0, whole).hex() if count <= 15 else "refused 31")
-    for size in 0, 1, 9, 255, 256:
-        outcome = "%d %d %s" % (data[0], size - 1, data[1:size].hex()) if 1 <= size <= 255 else "refused 22"
-        yield "log %d %s" % (size, outcome)
-    buf = b""
-    for size, room in (0, 9), (5, 14), (5, 13), (254, 264), (255, 264):
-        buf = buf if len(buf) == room else b"\xee" * room
-        refusal = 31 if size > 254 else 32 if room < size + 9 else 0
-        if not refusal:
-            made = frame(0x0401, 0x42, b"\x06" + data[:size])
-            buf = made + buf[len(made):]
-        yield "write-log %d %s %s" % (size, "refused %d" % refusal if refusal else "%d" % (size + 9), buf.hex())
     for whole, part in (-3, 128), (-1, 255), (0, 0), (-2**31, 0), (2**31 - 1, 255):
         yield "phase %d %d %d" % (whole, part, 256 * whole + part)
     for z in -640, -1, 0, 255, 256, -256, -257, 2**39 - 1, 2**39, -2**39, -2**39 - 1, -2**63:
         yield "parts %d %s" % (z, "%d %d" % (z // 256, z % 256) if -2**39 <= z < 2**39 else "refused 33")
+
+
+def read_log(payload):
+    """A LOG's text ends before the first zero after the level, and from there on all is zero; a refused payload has a text too."""
+    text = payload[1:].split(b"\0")[0]
+    refusal = 22 if not 1 <= len(payload) <= 255 else 23 if payload[1 + len(text):].strip(b"\0") else 0
+    record = "refused %d" % refusal if refusal else "%d %d %d" % (payload[0], len(text), len(payload) - 1 - len(text))
+    return "log %d %s %s" % (len(payload), record, text.hex())
+
+
+def write_log(text, padding, room):
+    """What is told of a LOG of level 6, and the buffer after it."""
+    size = 1 + len(text) + padding
+    refusal = 23 if 0 in text else 31 if size > 255 else 32 if size + 8 > room else 0
+    made = b"" if refusal else frame(0x0401, 0x42, b"\x06" + text + bytes(padding))
+    buf = made + b"\xee" * (room - len(made))
+    return "write-log %d %d %s %s" % (len(text), padding, "refused %d" % refusal if refusal else "%d" % (size + 8), buf.hex())
+
+
+def logs():
+    data = mixed(65, 6, 300)
+    for filled, size in (0, 0), (1, 1), (9, 9), (9, 10), (9, 200), (1, 255), (0, 5), (255, 255), (254, 255), (256, 256):
+        yield read_log((data[:filled] + bytes(256))[:size])
+    for filled, at, size in (9, 10, 20), (9, 19, 20), (9, 9, 20), (0, 1, 6), (0, 2, 6), (9, 200, 256):
+        payload = bytearray((data[:filled] + bytes(256))[:256])
+        payload[at] = 0x41
+        yield read_log(bytes(payload[:size]))
+    for size, padding, room in (0, 0, 9), (0, 3, 13), (5, 0, 14), (5, 0, 13), (5, 2, 16), (5, 2, 15):
+        yield write_log(data[:size], padding, room)
+    for size, padding in (254, 0), (255, 0), (100, 154), (100, 155), (0, 254), (0, 255), (5, 2**64 - 1):
+        yield write_log(data[:size], padding, 264)
+    for at, size, padding, room in (0, 5, 0, 264), (2, 5, 0, 264), (4, 5, 1, 264), (299, 300, 0, 264), (4, 5, 250, 264), (4, 5, 0, 13):
+        yield write_log(data[:at] + b"\0" + data[at + 1:size], padding, room)
 
 
 def walks():
@@ -241,7 +263,7 @@ def collated():
 
 
 def lines():
-    for part in checksums, numbers, doubles, captures, written, each, flags, observations, walks, types, collated:
+    for part in checksums, numbers, doubles, captures, written, each, flags, observations, logs, walks, types, collated:
         yield from part()
 
 

@@ -1,4 +1,4 @@
-"""A twin in Python, by the words of documents 01 and 003 and with Python's own codecs: frames, payload answers, flags, epochs, the listing.
+"""A twin in Python, by the words of documents 01 and 003 and of request P1, with Python's own codecs: frames, payload answers, flags, epochs, the listing.
 
 It has none of our code and looks at none.
 """
@@ -71,12 +71,20 @@ def is_obs(size):
     return size in range(7, 248, 16)
 
 
+def log_answer(payload):
+    """The text after the level ends before the first zero, and all that comes after it is zeros."""
+    if not 1 <= len(payload) <= 255:
+        return 22
+    _, _, after = payload[1:].partition(b"\0")
+    return 23 if any(after) else 0
+
+
 def answer(kind, payload):
     """0, 21, 22 or 23."""
     if kind == OBS:
         return 0 if is_obs(len(payload)) else 22
     if kind == 0x0401:
-        return 0 if 1 <= len(payload) <= 255 else 22
+        return log_answer(payload)
     if kind not in NAMES:
         return 21
     _, layout, last = MESSAGES[NAMES[kind]]

@@ -10,7 +10,7 @@ use lib.Seq.{take-all}
 use borrow.Author.Tests.{eqb-true}
 use Rattle.wire.specs.Refusals.{given, mapped, ordered}
 use Rattle.wire.specs.Field.{SettledRow}
-use Rattle.wire.specs.Layout.{Layout, run, then, bytes, rows, HeldBody, SettledBody, allowedBody, bodySize}
+use Rattle.wire.specs.Layout.{Layout, run, then, bytes, text, rows, HeldBody, SettledBody, allowedBody, bodySize}
 use Rattle.wire.proofs.Ordered.{exactly-all}
 use Rattle.frames.specs.Faithful.{writeAnswer, frameWritten}
 use Rattle.frames.specs.Step.{stepAt, payloadIn}
@@ -35,12 +35,14 @@ module _ (ns : List ℕ) (words : (i : ℕ) → getD ns i 0 < 2 ^ 64) where
   settled-alone (run fs) h v = v
   settled-alone (then fs l) h v = absurd (false≢true h)
   settled-alone (bytes most) h v = absurd (false≢true h)
+  settled-alone (text most) h v = absurd (false≢true h)
   settled-alone (rows fs most) h v = absurd (false≢true h)
 
   same-numbers : (l : Layout) → alone l ≡ true → length ns ≡ numberCount l → wideBody l (bodyOf l ns) ≡ ns
   same-numbers (run fs) h counted = wide-narrow ns words fs 0 (omega (arith, counted)) ∙ take-all (length fs) ns (omega (arith, counted))
   same-numbers (then fs l) h counted = absurd (false≢true h)
   same-numbers (bytes most) h counted = absurd (false≢true h)
+  same-numbers (text most) h counted = absurd (false≢true h)
   same-numbers (rows fs most) h counted = absurd (false≢true h)
 
 -- ---- a message

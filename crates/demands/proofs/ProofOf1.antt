@@ -10,7 +10,7 @@ use Rattle.frames.specs.Faithful.{writeAnswer, writtenAs}
 use Rattle.observation.specs.Obs.{readEntry, readEntryOf, readObs}
 use Rattle.observation.specs.ObsWriter.{obsWriteAnswer, obsWritten}
 use Rattle.observation.specs.Phase.{readPhase}
-use Rattle.system.specs.Log.{readLog, logWriteAnswer, logWritten}
+use Rattle.system.specs.Log.{readLog}
 use Rattle.obs_reader.specs.declared.ObsReader.{ObsReader}
 use Rattle.obs_reader.proofs.OneQuestion.{stays}
 use Rattle.epochs.specs.Collator.{forPlace, fedFrame, made}
@@ -21,7 +21,7 @@ use Rattle.demands.specs.Demand1.{RefusedByNumber, WritesNothing, MovesN
 use Rattle.demands.proofs.Nobody.{nobody-listed}
 
 refused-by-number : RefusedByNumber
-unfolding readAs planned writeAnswer readEntry readEntryOf readObs obsWriteAnswer readPhase readLog logWriteAnswer forPlace fedFrame made listAnswer
+unfolding readAs planned writeAnswer readEntry readEntryOf readObs obsWriteAnswer readPhase readLog forPlace fedFrame made listAnswer
 refused-by-number = record {
   in-order = λ A x ts. (exactly-first x ts, exactly-all x ts);
   payload = λ kind s. refl;
@@ -32,7 +32,6 @@ refused-by-number = record {
   reader-index = λ kind s i. refl;
   record-buffer = λ R d r room. refl;
   obs-buffer = λ k room. refl;
-  log-buffer = λ r room. refl;
   bytes-buffer = λ n room. refl;
   capture = λ s room. refl;
   phase = λ z. refl;
@@ -41,11 +40,10 @@ refused-by-number = record {
 }
 
 writes-nothing : WritesNothing
-unfolding withFrame writtenAs obsWritten logWritten
+unfolding withFrame writtenAs obsWritten
 writes-nothing = record {
   refused-record = λ R d sender r buf n e. rw e;
   refused-obs = λ sender h k entries buf n e. rw e;
-  refused-log = λ sender r buf n e. rw e;
   refused-bytes = λ kind sender payload buf n e. rw e;
   refused-listing = λ s buf n e. rw e;
   unfit-bytes = bytes-nowhere;

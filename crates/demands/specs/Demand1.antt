@@ -21,7 +21,7 @@ use Rattle.observation.specs.Obs.{entryAt, oneObservation, oneOfFrame, readEntr
 use Rattle.observation.specs.ObsWriter.{writingObs, obsWriteAnswer, obsWritten}
 use Rattle.observation.specs.Phase.{partsOf, phaseRange, readPhase}
 use Rattle.observation.specs.declared.entry.Observation.{Observation}
-use Rattle.system.specs.Log.{Logged, log, logIn, readingLog, readLog, writingLog, logWriteAnswer, logWritten}
+use Rattle.system.specs.Log.{log, shown, readLog}
 use Rattle.obs_reader.specs.Reader.{asked}
 use Rattle.obs_reader.specs.declared.ObsReader.{ObsReader}
 use Rattle.payloads.specs.Payloads.{table, entryFor, readingAny, readFor}
@@ -42,14 +42,13 @@ pub record RefusedByNumber : Type 1 where
   pub payload : (kind : ℕ) (s : List ℕ) → readFor kind s ≡ ordered (readingAny kind s) (entryFor table kind .holds s)
   pub record-payload : (R : Type 0) (d : Description R) (s : List ℕ) → readAs d s ≡ ordered (reading d s) (inside d s)
   pub obs-payload : (s : List ℕ) → readObs s ≡ ordered (readingObs first s) (obsIn s)
-  pub log-payload : (s : List ℕ) → readLog s ≡ ordered (readingLog s) (logIn s)
+  pub log-payload : (s : List ℕ) → readLog s ≡ ordered (reading log s) (shown (inside log s))
   -- an index: 22, 25; an observation reader looks at the type first, which may be none of an observation's
   pub index : (s : List ℕ) (i : ℕ) → readEntry first s i ≡ ordered (oneObservation first s i) (entryAt first s i)
   pub reader-index : (kind : ℕ) (s : List ℕ) (i : ℕ) → readEntryOf kind s i ≡ ordered (oneOfFrame kind s i) (entryAt first s i)
-  -- a buffer: 23, 31, 32; for a record of any message, for what is handed in of OBS and of LOG, and for a raw frame
+  -- a buffer: 23, 31, 32; for a record of any message, LOG too, for what is handed in of OBS, and for a raw frame
   pub record-buffer : (R : Type 0) (d : Description R) (r : R) (room : ℕ) → writeAnswer d r room ≡ ordered (writing d r room) (bodySize (d .layout) (d .row r) + 8)
   pub obs-buffer : (k room : ℕ) → obsWriteAnswer first k room ≡ ordered (writingObs first k room) (startOf first k + 8)
-  pub log-buffer : (r : Logged) (room : ℕ) → logWriteAnswer r room ≡ ordered (writingLog r room) (bodySize (log .layout) (log .row r) + 8)
   pub bytes-buffer : (n room : ℕ) → planned n room ≡ ordered (writingFrame n room) (n + 8)
   -- a capture to list, and the buffer for its text: 11, 32
   pub capture : (s : List ℕ) (room : ℕ) → listAnswer s room ≡ ordered (listing s room) (length (textOf s))
@@ -67,7 +66,6 @@ pub record WritesNothing : Type 1 where
       → writeAnswer d r (length buf) ≡ refused n → writtenAs d sender r buf ≡ buf
   pub refused-obs : (sender : ℕ) (h : Head) (k : ℕ) (entries : List Observation) (buf : List ℕ) (n : ℕ)
       → obsWriteAnswer first k (length buf) ≡ refused n → obsWritten first sender h k entries buf ≡ buf
-  pub refused-log : (sender : ℕ) (r : Logged) (buf : List ℕ) (n : ℕ) → logWriteAnswer r (length buf) ≡ refused n → logWritten sender r buf ≡ buf
   pub refused-bytes : (kind sender : ℕ) (payload buf : List ℕ) (n : ℕ)
       → planned (length payload) (length buf) ≡ refused n → withFrame kind sender payload buf ≡ buf
   pub refused-listing : (s buf : List ℕ) (n : ℕ) → listAnswer s (length buf) ≡ refused n → withListing s buf ≡ buf

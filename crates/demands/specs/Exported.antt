@@ -46,7 +46,7 @@ use Rattle.demands.specs.RowsBack.{AllBack}
 
 -- demand 1: "refused by number". The number handed back is read off an answer by the call's own list; what that comes to is `in-order` there.
 -- `sbp_list` answers by demand 1's list for a capture, `sbp_answer` by that for a payload, `sbp_write_log`, `sbp_write_frame` and `sbp_phase_parts` by
--- those for LOG, for any bytes and for a carrier phase
+-- those for a record, for any bytes and for a carrier phase
 pub record ByNumber : Type 0 where
   pub next : (s : List ℕ) (at : ℕ) (opened : Bool) (room : ℕ) → nextFrom s at opened room ≡ ordered (finding room) (nextOf s (startAt at opened))
   pub totals : (s : List ℕ) (room : ℕ) → totalsFor s room ≡ ordered (totalling room) (countsOf (closedSteps s))

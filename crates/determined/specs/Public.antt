@@ -36,6 +36,10 @@ use Rattle.determined.specs.Determined.{Determined, DeterminedAs}
 module _ {M : Type 1} (𝓤 : URA M) (H : Heap 𝓤) (A : Atoms 𝓤) (mem : Memory → SProp 𝓤) (run : Routine → Fun 𝓤) where
   pub record Wire : Type 1 where
     pub flag : Determined 𝓤 wire.flag.ended (wire.flag.clauses 𝓤 H A mem run)
+    pub room : Determined 𝓤 wire.room.ended (wire.room.clauses 𝓤 H A mem run)
+    pub text-length : Determined 𝓤 wire.text_length.ended (wire.text_length.clauses 𝓤 H A mem run)
+    pub no-zero : Determined 𝓤 wire.no_zero.ended (wire.no_zero.clauses 𝓤 H A mem run)
+    pub all-zero : Determined 𝓤 wire.all_zero.ended (wire.all_zero.clauses 𝓤 H A mem run)
     pub of-bits : Determined 𝓤 wire.double.Double.of_bits.ended (wire.double.Double.of_bits.clauses 𝓤 H A mem run)
     pub bits : Determined 𝓤 wire.double.Double.bits.ended (wire.double.Double.bits.clauses 𝓤 H A mem run)
     pub read-u8 : Determined 𝓤 wire.read_u8.ended (wire.read_u8.clauses 𝓤 H A mem run)
@@ -53,6 +57,7 @@ module _ {M : Type 1} (𝓤 : URA M) (H : Heap 𝓤) (A : Atoms 𝓤) (mem : Mem
     pub store-s32 : Determined 𝓤 wire.store_s32.ended (wire.store_s32.clauses 𝓤 H A mem run)
     pub store-double : Determined 𝓤 wire.store_double.ended (wire.store_double.clauses 𝓤 H A mem run)
     pub store-bytes : Determined 𝓤 wire.store_bytes.ended (wire.store_bytes.clauses 𝓤 H A mem run)
+    pub store-zeros : Determined 𝓤 wire.store_zeros.ended (wire.store_zeros.clauses 𝓤 H A mem run)
 
   pub record Crc : Type 1 where
     pub entries : Determined 𝓤 crc.entries.ended (crc.entries.clauses 𝓤 H A mem run)
@@ -149,6 +154,9 @@ module _ {M : Type 1} (𝓤 : URA M) (H : Heap 𝓤) (A : Atoms 𝓤) (mem : Mem
     pub take-heartbeat : Determined 𝓤 system.take_heartbeat.ended (system.take_heartbeat.clauses 𝓤 H A mem run)
     pub read-heartbeat : Determined 𝓤 system.read_heartbeat.ended (system.read_heartbeat.clauses 𝓤 H A mem run)
     pub write-heartbeat : Determined 𝓤 system.write_heartbeat.ended (system.write_heartbeat.clauses 𝓤 H A mem run)
+    pub is-log-length : Determined 𝓤 system.is_log_length.ended (system.is_log_length.clauses 𝓤 H A mem run)
+    pub log-padded : Determined 𝓤 system.log_padded.ended (system.log_padded.clauses 𝓤 H A mem run)
+    pub take-log : Determined 𝓤 system.take_log.ended (system.take_log.clauses 𝓤 H A mem run)
     pub read-log : Determined 𝓤 system.read_log.ended (system.read_log.clauses 𝓤 H A mem run)
     -- a part of what was lent: what it holds
     pub log-text : DeterminedAs 𝓤 system.log_text.ended (system.log_text.clauses 𝓤 H A mem run) (λ κs. List ℕ) (λ κs r. now r)

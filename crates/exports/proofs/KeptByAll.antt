@@ -1,18 +1,19 @@
 -- A refusal writes nothing and moves no state, call by call. Assumes nothing.
 use lib.ListN.{length}
+use Rattle.frames.specs.Faithful.{writeAnswer, writtenAs}
 use Rattle.frames.specs.Writer.{planned, withFrame}
 use Rattle.observation.specs.Phase.{readPhase}
 use Rattle.row_reader.specs.ReadRow.{beginning, readRow, readOne}
 use Rattle.row_writer.specs.WriteObsRow.{writeObsRow, obsRowWritten}
 use Rattle.row_writer.specs.WriteRow.{writeRow, rowWritten}
-use Rattle.system.specs.Log.{logWriteAnswer, logWritten}
+use Rattle.system.specs.Log.{log}
 use Rattle.states.specs.State.{collatorStored}
 use Rattle.states.specs.Enlist.{growingIn, enlistIn}
 use Rattle.exports.specs.Kept.{Kept}
 use Rattle.exports.proofs.Untouched.{not-zero, next-keeps, totals-keeps, list-keeps, collator-keeps, feed-keeps}
 
 pub kept : Kept
-unfolding rowWritten obsRowWritten logWritten withFrame
+unfolding rowWritten obsRowWritten writtenAs withFrame
 kept =
     record {
       next = next-keeps;
@@ -27,6 +28,6 @@ kept =
       enlist = λ s kind sender. not-zero _ (enlistIn s kind sender) s;
       write = λ buf kind sender row before h. let a = writeRow kind row (length buf) in (not-zero _ a buf h, not-zero _ a before h);
       write-obs = λ buf kind sender head rows before h. let a = writeObsRow kind head rows (length buf) in (not-zero _ a buf h, not-zero _ a before h);
-      write-log = λ buf sender r before h. let a = logWriteAnswer r (length buf) in (not-zero _ a buf h, not-zero _ a before h);
+      write-log = λ buf sender r before h. let a = writeAnswer log r (length buf) in (not-zero _ a buf h, not-zero _ a before h);
       write-frame = λ buf kind sender payload before h. let a = planned (length payload) (length buf) in (not-zero _ a buf h, not-zero _ a before h);
     }

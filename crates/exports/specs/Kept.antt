@@ -8,11 +8,12 @@ use lib.IntN.{ℤ}
 use lib.ListN.{length}
 use Rattle.wire.specs.Refusals.{zeroOr}
 use Rattle.frames.specs.Frame.{Content}
+use Rattle.frames.specs.Faithful.{writeAnswer, writtenAs}
 use Rattle.frames.specs.Writer.{planned, withFrame, sizeLeft}
 use Rattle.row_reader.specs.ReadRow.{readRow, rowAfter, readOne, rowAfterOne}
 use Rattle.row_writer.specs.WriteObsRow.{writeObsRow, obsRowWritten}
 use Rattle.row_writer.specs.WriteRow.{writeRow, rowWritten}
-use Rattle.system.specs.Log.{Logged, logWriteAnswer, logWritten}
+use Rattle.system.specs.Log.{Logged, log}
 use Rattle.exports.specs.Found.{nextAnswer, nextStored}
 use Rattle.exports.specs.Totals.{totalsAnswer, totalsStored}
 use Rattle.exports.specs.Text.{textAnswer, sizeAfter}
@@ -38,7 +39,7 @@ pub record Kept : Type 0 where
       → (rowWritten kind (sentBy sender) row buf ≡ buf) × (sizeLeft (writeRow kind row (length buf)) before ≡ before)
   pub write-obs : (buf : List ℕ) (kind sender : ℕ) (head rows : List ℕ) (before : ℕ) → (zeroOr (writeObsRow kind head rows (length buf)) ≡ 0 → ⊥)
       → (obsRowWritten kind (sentBy sender) head rows buf ≡ buf) × (sizeLeft (writeObsRow kind head rows (length buf)) before ≡ before)
-  pub write-log : (buf : List ℕ) (sender : ℕ) (r : Logged) (before : ℕ) → (zeroOr (logWriteAnswer r (length buf)) ≡ 0 → ⊥)
-      → (logWritten (sentBy sender) r buf ≡ buf) × (sizeLeft (logWriteAnswer r (length buf)) before ≡ before)
+  pub write-log : (buf : List ℕ) (sender : ℕ) (r : Logged) (before : ℕ) → (zeroOr (writeAnswer log r (length buf)) ≡ 0 → ⊥)
+      → (writtenAs log (sentBy sender) r buf ≡ buf) × (sizeLeft (writeAnswer log r (length buf)) before ≡ before)
   pub write-frame : (buf : List ℕ) (kind sender : ℕ) (payload : List ℕ) (before : ℕ) → (zeroOr (planned (length payload) (length buf)) ≡ 0 → ⊥)
       → (withFrame kind (sentBy sender) payload buf ≡ buf) × (sizeLeft (planned (length payload) (length buf)) before ≡ before)

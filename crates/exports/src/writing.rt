@@ -2,10 +2,11 @@
 ghost use mathlib.Core.Path.{_≡_};
 ghost use lib.ListN.{length};
 ghost use Rattle.wire.specs.Refusals.{zeroOr};
+ghost use Rattle.frames.specs.Faithful.{writeAnswer, writtenAs};
 ghost use Rattle.frames.specs.Writer.{planned, withFrame, sizeLeft};
 ghost use Rattle.row_writer.specs.WriteObsRow.{writeObsRow, obsRowWritten};
 ghost use Rattle.row_writer.specs.WriteRow.{writeRow, rowWritten};
-ghost use Rattle.system.specs.Log.{logWriteAnswer, logWritten};
+ghost use Rattle.system.specs.Log.{log, logged};
 ghost use Rattle.exports.specs.Write.{senderFrom, sentBy};
 use frames::Sender;
 
@@ -53,20 +54,21 @@ pub extern "C" fn sbp_write_obs(
     row_writer::write_obs_row(out, kind, sender_from(sender), head, rows, size)
 }
 
-// A LOG: 31 for a text over 254 bytes, then 32.
+// A LOG: 23 for a zero in the text, 31 for a text and zeros over 254 bytes, then 32.
 #[no_mangle]
 pub extern "C" fn sbp_write_log(
     out: &mut [u8],
     sender: u32,
     level: u8,
     text: &[u8],
+    padding: usize,
     size: &mut u64,
 ) -> u8
-    ensures { λ r. ⌜ r ≡ zeroOr (logWriteAnswer (record { level = level; text = now (text .entry) }) (length (now (out .entry)))) ⌝ }
-    ensures { λ _. ⌜ now (out .exit) ≡ logWritten (sentBy sender) (record { level = level; text = now (text .entry) }) (now (out .entry)) ⌝ }
-    ensures { λ _. ⌜ now (size .exit) ≡ sizeLeft (logWriteAnswer (record { level = level; text = now (text .entry) }) (length (now (out .entry)))) (now (size .entry)) ⌝ }
+    ensures { λ r. ⌜ r ≡ zeroOr (writeAnswer log (logged level (now (text .entry)) padding) (length (now (out .entry)))) ⌝ }
+    ensures { λ _. ⌜ now (out .exit) ≡ writtenAs log (sentBy sender) (logged level (now (text .entry)) padding) (now (out .entry)) ⌝ }
+    ensures { λ _. ⌜ now (size .exit) ≡ sizeLeft (writeAnswer log (logged level (now (text .entry)) padding) (length (now (out .entry)))) (now (size .entry)) ⌝ }
 {
-    let written = system::write_log(out, sender_from(sender), level, text);
+    let written = system::write_log(out, sender_from(sender), level, text, padding);
     frames::hand_on(written, size)
 }
 

@@ -33,7 +33,7 @@ pub record LogFaithful : Type 0 where
   pub back : (sender level : ℕ) (text : List ℕ) (padding : ℕ) (buf : List ℕ) {n : ℕ} → sender < 65536 → level < 256 → Bytes text
       → writeAnswer log (logged level text padding) (length buf) ≡ given n
       → let s = payloadIn (writtenAs log sender (logged level text padding) buf) (frameWritten log sender (logged level text padding)) in
-        (readLog s ≡ given (record { level = level; length = length text; padding = padding })) × (textIn s ≡ text)
+      (readLog s ≡ given (record { level = level; length = length text; padding = padding })) × (textIn s ≡ text)
   -- an accepted payload written again gives a frame of the same bytes: the level and the padding that were read, and the text of the payload
   pub again : (sender : ℕ) (l : Log) (buf s : List ℕ) → Bytes s → readLog s ≡ given l
       → writtenAs log sender (logged (l .level) (textIn s) (l .padding)) buf ≡ withFrame (log .kind) sender s buf

@@ -92,13 +92,7 @@ fn put_log(buf: &mut [u8], level: u8, text: &[u8], padding: usize)
 }
 
 // 23 for a zero in the text, 31 for a text and zeros over 254 bytes, then 32.
-pub fn write_log(
-    buf: &mut [u8],
-    sender: Sender,
-    level: u8,
-    text: &[u8],
-    padding: usize,
-) -> Written
+pub fn write_log(buf: &mut [u8], sender: Sender, level: u8, text: &[u8], padding: usize) -> Written
     ensures { λ w. ⌜ writtenAnswer w ≡ writeAnswer log (logged level (now (text .entry)) padding) (length (now (buf .entry))) ⌝ }
     ensures { λ _. ⌜ now (buf .exit) ≡ writtenAs log (senderOf sender) (logged level (now (text .entry)) padding) (now (buf .entry)) ⌝ }
 {

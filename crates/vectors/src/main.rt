@@ -8,6 +8,7 @@ mod collated;
 mod doubles;
 mod each;
 mod flags;
+mod logs;
 mod messages;
 mod numbers;
 mod observations;
@@ -25,6 +26,7 @@ fn main() {
     each::run();
     flags::run();
     observations::run();
+    logs::run();
     walks::run();
     answers::run();
     collated::run();

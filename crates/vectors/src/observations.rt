@@ -1,4 +1,4 @@
-// OBS and its observations, the carrier phase, and LOG.
+// OBS and its observations, and the carrier phase.
 use crate::messages;
 use crate::payload::front;
 use crate::payload::mixed;
@@ -11,7 +11,6 @@ use observation::Observation;
 use observation::ObservationRead;
 use observation::Phase;
 use observation::PhaseParts;
-use system::LogRead;
 
 pub fn run() {
     let s = mixed(3, 37);
@@ -29,7 +28,6 @@ fn payloads(s: &[u8]) {
     rewritten(front(s, 39), 2);
     rewritten(front(s, 39), 15);
     rewritten(front(s, 39), 16);
-    logs(s);
 }
 
 fn obs(s: &[u8]) {
@@ -166,53 +164,5 @@ fn parts(z: i64) {
         }
         PhaseParts::Refused(n) => print::refused(n),
     }
-    print::end();
-}
-
-fn logs(s: &[u8]) {
-    log(front(s, 0));
-    log(front(s, 1));
-    log(front(s, 9));
-    log(front(s, 255));
-    log(front(s, 256));
-    logs_written(s);
-}
-
-fn logs_written(s: &[u8]) {
-    let mut least = [0xeeu8; 9];
-    log_into(&mut least, front(s, 0));
-    let mut just = [0xeeu8; 14];
-    log_into(&mut just, front(s, 5));
-    let mut short = [0xeeu8; 13];
-    log_into(&mut short, front(s, 5));
-    longest_log(s);
-}
-
-fn longest_log(s: &[u8]) {
-    let mut long = [0xeeu8; 264];
-    log_into(&mut long, front(s, 254));
-    log_into(&mut long, front(s, 255));
-}
-
-fn log(s: &[u8]) {
-    print::word(b"log");
-    print::number(s.len() as u64);
-    match system::read_log(s) {
-        LogRead::Record(r) => {
-            print::number(r.level as u64);
-            print::number(r.length as u64);
-            print::bytes(system::log_text(s));
-        }
-        LogRead::Refused(n) => print::refused(n),
-    }
-    print::end();
-}
-
-// A text written, or the refusal, and the buffer after it.
-fn log_into(buf: &mut [u8], text: &[u8]) {
-    print::word(b"write-log");
-    print::number(text.len() as u64);
-    written::outcome(system::write_log(buf, Sender::Unnamed, 6, text));
-    print::bytes(buf);
     print::end();
 }

@@ -47,6 +47,7 @@ fn capture() -> Result<Vec<u8>, Box<dyn Error>> {
     let line = Log {
         level: 6,
         text: b"base is up".to_vec(),
+        padding: 0,
     };
 
     let mut capture = Vec::new();

@@ -67,6 +67,7 @@ unsafe extern "C" {
         level: u8,
         text: *const u8,
         n: usize,
+        padding: usize,
         size: *mut u64,
     ) -> u8;
     pub fn sbp_write_frame(

@@ -57,7 +57,7 @@ refusals! {
     TooLong = 11, "TOO_LONG": "the capture to list is longer than 65536 bytes";
     UnknownType = 21, "UNKNOWN_TYPE": "the type has no reading here";
     WrongLength = 22, "WRONG_LENGTH": "the payload's length is wrong for its type";
-    OutOfRange = 23, "OUT_OF_RANGE": "a field is outside its range";
+    OutOfRange = 23, "OUT_OF_RANGE": "a field is outside its range, or a text has a zero in it";
     NoSuchObservation = 25, "NO_SUCH_OBSERVATION": "the payload has no observation of that index";
     TooMuch = 31, "TOO_MUCH": "the payload to write is over 255 bytes, or has over 15 observations";
     NoRoom = 32, "NO_ROOM": "the buffer to write to is too short";

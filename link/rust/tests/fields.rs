@@ -355,13 +355,15 @@ fn obs_of_any_number() {
 
 #[test]
 fn log() {
-    let payload = [0xa1, 0x00, 0xff, b'x', 0x80];
+    let payload = [0xa1, 0x01, 0xff, b'x', 0x80, 0x00, 0x00];
     let read = Log::read(&payload).unwrap();
     same!("level", read.level, 0xa1);
-    same!("text", read.text, [0x00, 0xff, b'x', 0x80]);
+    same!("text", read.text, [0x01, 0xff, b'x', 0x80]);
+    same!("padding", read.padding, 2);
     let written = Log {
         level: 0xa1,
-        text: vec![0x00, 0xff, b'x', 0x80],
+        text: vec![0x01, 0xff, b'x', 0x80],
+        padding: 2,
     };
     same!("read alike", read, written);
     message!(
@@ -369,25 +371,59 @@ fn log() {
         Log = 0x0401,
         "MSG_LOG",
         payload,
-        [0xa1, 4, 0x00, 0xff, u64::from(b'x'), 0x80]
+        [0xa1, 4, 2, 0x01, 0xff, u64::from(b'x'), 0x80]
     );
+}
 
+/// A text ends before its first zero, and all of it comes back.
+#[test]
+fn log_text_and_its_padding() {
     let longest: Vec<u8> = (0..255).collect();
-    let read = Log::read(&longest).unwrap();
-    same!("longest text", read.text, longest[1..]);
-    same!(
-        "frame",
-        read.frame(Some(0)),
-        Ok(frame(Log::KIND, 0, &longest))
-    );
-    same!(
-        "no text",
-        Log::read(&[7]),
-        Ok(Log {
-            level: 7,
-            text: vec![]
-        })
-    );
+    let last_is_zero = [&longest[..254], &[0]].concat();
+    let many = [&b"\x06text"[..], &[0; 250]].concat();
+    for (payload, text, padding) in [
+        (&b"\x06"[..], &b""[..], 0),
+        (b"\x06text", b"text", 0),
+        (b"\x06text\0", b"text", 1),
+        (&many, b"text", 250),
+        (b"\x06\0", b"", 1),
+        (&[6, 0, 0, 0], b"", 3),
+        // a level of 0 is a level
+        (b"\0", b"", 0),
+        (b"\0text", b"text", 0),
+        (b"\0text\0", b"text", 1),
+        (&[0; 255], b"", 254),
+        (&longest, &longest[1..], 0),
+        (&last_is_zero, &longest[1..254], 1),
+    ] {
+        let (level, text) = (payload[0], text.to_vec());
+        let log = Log {
+            level,
+            text,
+            padding,
+        };
+        same!(format!("{payload:?}"), Log::read(payload), Ok(log.clone()));
+        let whole = frame(Log::KIND, 0, payload);
+        writes("LOG", &whole, |out| log.write(Some(0), out));
+    }
+}
+
+#[test]
+fn logs_of_every_length_and_padding() {
+    for length in 0..255 {
+        for padding in 0..255 - length {
+            let log = Log {
+                level: padding as u8,
+                text: vec![b'x'; length],
+                padding,
+            };
+            let payload = [&[log.level][..], &log.text, &vec![0; padding]].concat();
+            let what = format!("{length} bytes, {padding} zeros");
+            let frame = log.frame(None).unwrap();
+            same!(what, frame[6..frame.len() - 2], payload);
+            same!(what, Log::read(&payload), Ok(log));
+        }
+    }
 }
 
 #[test]

@@ -16,7 +16,7 @@ fn numbers_names_and_texts() {
             Refusal::OutOfRange,
             23,
             "OUT_OF_RANGE",
-            "field is outside its range",
+            "field is outside its range, or a text has a zero in it",
         ),
         (
             Refusal::NoSuchObservation,
@@ -150,6 +150,7 @@ fn too_much_comes_before_room() {
     let log = Log {
         level: 1,
         text: vec![b'x'; 255],
+        padding: 0,
     };
     for room in [0, 7, 300] {
         refuses("16 observations", room, Refusal::TooMuch, |out| {
@@ -168,6 +169,85 @@ fn too_much_comes_before_room() {
         Message::from(log).frame(Some(1)),
         Err(Refusal::TooMuch)
     );
+}
+
+/// After a zero in a text to read, any other byte at any place.
+#[test]
+fn a_letter_after_a_zero() {
+    for zero in 1..254 {
+        for letter in zero + 1..255 {
+            let mut payload = [b'x'; 255];
+            payload[zero..].fill(0);
+            payload[letter] = letter as u8;
+            let payload = &payload[..=letter];
+            let what = format!("a zero at {zero}, a letter at {letter}");
+            same!(what, Log::read(payload), Err(Refusal::OutOfRange));
+            let told = answer(Log::KIND, payload);
+            same!(what, told, Err(Refusal::OutOfRange));
+        }
+    }
+    same!("at level 0", Log::read(b"\0\0x"), Err(Refusal::OutOfRange));
+    let longer = [&[6, 0][..], &[b'x'; 254]].concat();
+    same!("of 256", Log::read(&longer), Err(Refusal::WrongLength));
+}
+
+/// In front, in the middle, at the end; and before a text is too long.
+#[test]
+fn a_zero_in_a_text_to_write() {
+    for (length, zero) in [
+        (1, 0),
+        (9, 0),
+        (9, 4),
+        (9, 8),
+        (254, 253),
+        (255, 254),
+        (300, 299),
+    ] {
+        let mut text = vec![b'x'; length];
+        text[zero] = 0;
+        for padding in [0, 1, 254, 255, usize::MAX] {
+            let log = Log {
+                level: 0,
+                text: text.clone(),
+                padding,
+            };
+            for room in [0, 7, 400] {
+                let what = format!("{length} bytes, a zero at {zero}, {padding} after them");
+                refuses(&what, room, Refusal::OutOfRange, |out| log.write(None, out));
+            }
+            same!("frame", log.frame(None), Err(Refusal::OutOfRange));
+        }
+    }
+}
+
+#[test]
+fn text_and_padding_that_are_too_much() {
+    for (length, padding) in [
+        (0, 255),
+        (1, 254),
+        (127, 128),
+        (254, 1),
+        (255, 0),
+        // 0 in too few bits, or in a sum
+        (1, 1 << 8),
+        (1, 1 << 16),
+        (1, 1 << 32),
+        (1, usize::MAX),
+        (254, usize::MAX - 253),
+        (300, usize::MAX - 299),
+        (0, usize::MAX),
+    ] {
+        let log = Log {
+            level: 0,
+            text: vec![b'x'; length],
+            padding,
+        };
+        for room in [0, 7, 400] {
+            let what = format!("{length} bytes, {padding} zeros");
+            refuses(&what, room, Refusal::TooMuch, |out| log.write(None, out));
+        }
+        same!("frame", log.frame(None), Err(Refusal::TooMuch));
+    }
 }
 
 #[test]

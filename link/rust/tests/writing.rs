@@ -150,7 +150,7 @@ fn versions() {
         version(),
         Version {
             major: 0,
-            minor: 8,
+            minor: 9,
             patch: 0
         }
     );

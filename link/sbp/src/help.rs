@@ -27,10 +27,11 @@ Prints the lines of sbplist, numbers in decimal:
   T length framed junk bad short          at the end of a capture
 
 An answer is 0 (the payload was read), 21 (a type without a reading), 22 (a wrong
-length) or 23 (a field out of its range). Epochs are those of the first eight senders
-of observation frames (type 73). T has the capture's length in bytes, its bytes in
-frames, and those passed over: outside of a frame, at a wrong CRC, at a frame that is
-cut short. A capture that could not be read to its end has no T line.
+length) or 23 (a field out of its range, or a text that goes on after a zero). Epochs are
+those of the first eight senders of observation frames (type 73). T has the capture's
+length in bytes, its bytes in frames, and those passed over: outside of a frame, at a
+wrong CRC, at a frame that is cut short. A capture that could not be read to its end has
+no T line.
 ";
 
 const JSON: &str = "\
@@ -40,13 +41,14 @@ Prints an object a line for each frame, with the keys in this order:
 
   offset    where the frame begins in its capture
   answer    0, 21 (a type without a reading), 22 (a wrong length), 23 (a field out of
-            its range)
+            its range, or a text that goes on after a zero)
   preamble  85
   msg_type, msg_name, sender, length
   payload   in base64
   crc
   and, where the answer is 0, the payload's fields by the specification's names:
-  MSG_OBS as header (t, n_obs) and obs, MSG_LOG as level and text
+  MSG_OBS as header (t, n_obs) and obs, MSG_LOG as level, text (which ends before its
+  first zero) and padding (how many zeros are after it)
 
 A msg_type that has no reading here has the msg_name \"UNKNOWN\". A double is the shortest
 number that comes back to the same bits; one that is no number (NaN, infinities) is a

@@ -123,9 +123,11 @@ pub fn obs_of(head: &[u64], rows: &[u64]) -> Option<Obs> {
     })
 }
 
-/// The level, how many bytes of text, and each of them.
+/// The level, how many bytes of text, how many zeros after it, and each byte of
+/// the text.
 fn log_row(log: &Log) -> Vec<u64> {
     let mut row = vec![log.level.number(), log.text.len() as u64];
+    row.push(log.padding as u64);
     row.extend(log.text.iter().map(|&byte| byte.number()));
     row
 }

@@ -82,9 +82,14 @@ pub fn write_obs(request: &mut Request<impl Read>, reply: &mut Reply) -> io::Res
 pub fn write_log(request: &mut Request<impl Read>, reply: &mut Reply) -> io::Result<()> {
     let sender = request.sender()?;
     let level = request.u8()?;
+    let padding = request.u64()? as usize;
     let room = request.count()?;
     let text = request.bytes()?;
-    let log = Log { level, text };
+    let log = Log {
+        level,
+        text,
+        padding,
+    };
     written(
         reply,
         room,

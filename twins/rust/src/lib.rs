@@ -1,6 +1,7 @@
 //! A second, independent reading of SBP 1.1 (document 003) under the rules of
-//! document 01. Written to be obvious, so that another implementation can be
-//! compared with it; `fast` is the one module written for speed.
+//! document 01 and of request P1. Written to be obvious, so that another
+//! implementation can be compared with it; `fast` is the one module written for
+//! speed.
 
 #![forbid(unsafe_code)]
 

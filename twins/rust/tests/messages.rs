@@ -59,7 +59,7 @@ fn refused_payloads() {
             assert!(no != 21);
         }
     }
-    assert_eq!(ranged, 400 * 6);
+    assert_eq!(ranged, 400 * 7);
 }
 
 /// Which lengths each type takes, from the table of document 01.
@@ -224,18 +224,116 @@ fn observations() {
     assert_eq!(reader.index(), 2);
 }
 
-#[test]
-fn log_text() {
-    let text = [b'x'; 255];
+fn log(level: u8, text: &[u8], padding: usize) -> Log<'_> {
+    Log {
+        level,
+        text,
+        padding,
+    }
+}
+
+/// What a LOG answers when it is written with much room; no refusal writes.
+fn log_written(text: &[u8], padding: usize) -> Result<usize, u8> {
     let mut out = [0xA7; 300];
-    let log = |length| Log {
-        level: 255,
-        text: &text[..length],
-    };
-    assert_eq!(log(255).write(None, &mut []), Err(31));
-    assert_eq!(log(254).write(None, &mut []), Err(32));
-    assert_eq!(log(254).write(None, &mut out), Ok(263));
-    assert_eq!(Log::read(&out[6..261]), Ok(log(254)));
+    let written = log(6, text, padding).write(None, &mut out);
+    assert!(out[written.unwrap_or(0)..].iter().all(|&b| b == 0xA7));
+    written
+}
+
+#[test]
+fn log_read() {
+    let full = [b'x'; 255];
+    let mut zero_last = full;
+    zero_last[254] = 0;
+    for (payload, expected) in [
+        (&b"\x06ab"[..], log(6, b"ab", 0)),
+        (b"\x06ab\0", log(6, b"ab", 1)),
+        (b"\x06ab\0\0\0\0\0", log(6, b"ab", 5)),
+        // A level of 0 ends nothing.
+        (b"\0", log(0, b"", 0)),
+        (b"\0ab", log(0, b"ab", 0)),
+        (b"\0ab\0", log(0, b"ab", 1)),
+        // Only zeros, to the longest.
+        (b"\0\0", log(0, b"", 1)),
+        (&[0; 255], log(0, b"", 254)),
+        (&full, log(b'x', &full[1..], 0)),
+        (&zero_last, log(b'x', &full[2..], 1)),
+    ] {
+        assert_eq!(Log::read(payload), Ok(expected), "{payload:x?}");
+        assert_eq!(twin::fast::answer(Log::TYPE, payload), 0);
+        let mut row = [7; 4];
+        assert_eq!(twin::fast::read_row(Log::TYPE, payload, &mut row), 0);
+        assert_eq!(row[..3], Message::Log(expected).row());
+        assert_eq!(row[3], 7);
+
+        let mut out = [0; 263];
+        let size = expected.write(None, &mut out).unwrap();
+        assert_eq!(&out[6..size - 2], payload);
+    }
+}
+
+#[test]
+fn log_with_a_byte_after_a_zero() {
+    let mut long = [b'x'; 256];
+    long[254] = 0;
+    for payload in [
+        &b"\x06\0a"[..],
+        b"\0\0a",
+        b"\x06ab\0c",
+        b"\x06ab\0c\0",
+        b"\x06ab\0\0\0c",
+        b"\x06\0\xFF\0\0",
+        b"\x06\0\0\0\x80",
+    ] {
+        assert_eq!(Log::read(payload), Err(23), "{payload:x?}");
+        assert_eq!(twin::fast::answer(Log::TYPE, payload), 23);
+    }
+    // 22 comes before 23.
+    assert_eq!(Log::read(&long), Err(22));
+    assert_eq!(twin::fast::answer(Log::TYPE, &long), 22);
+    assert_eq!(Log::read(&[0; 256]), Err(22));
+    assert_eq!(Log::read(&long[1..]), Err(23));
+}
+
+/// 23 comes before 31, and before 32.
+#[test]
+fn log_text_with_a_zero() {
+    for text in [&b"\0"[..], b"\0ab", b"a\0b", b"ab\0", &[0; 254], &[0; 255]] {
+        for padding in [0, 1, 254, usize::MAX] {
+            assert_eq!(log_written(text, padding), Err(23), "{text:x?}");
+        }
+        assert_eq!(log(6, text, 0).write(None, &mut []), Err(23));
+    }
+    for at in [0, 150, 299] {
+        let mut long = [b'x'; 300];
+        assert_eq!(log_written(&long, 0), Err(31));
+        long[at] = 0;
+        assert_eq!(log_written(&long, 0), Err(23));
+    }
+}
+
+#[test]
+fn log_room() {
+    let text = [b'x'; 255];
+    for length in [0, 1, 100, 253, 254] {
+        let left = 254 - length;
+        let text = &text[..length];
+        assert_eq!(log_written(text, left), Ok(263));
+        for padding in [left + 1, left + 2, usize::MAX - length, usize::MAX] {
+            assert_eq!(log_written(text, padding), Err(31), "{length} {padding}");
+        }
+        // 31 comes before 32.
+        assert_eq!(log(6, text, left + 1).write(None, &mut []), Err(31));
+        assert_eq!(log(6, text, left).write(None, &mut [0; 262]), Err(32));
+    }
+    assert_eq!(log_written(&text, 0), Err(31));
+    assert_eq!(log_written(b"", 0), Ok(9));
+    assert_eq!(log_written(b"ab", 3), Ok(14));
+    assert_eq!(log(6, b"ab", 3).write(None, &mut [0; 13]), Err(32));
+}
+
+#[test]
+fn log_level_names() {
     assert_eq!(log_level_name(7), "DEBUG");
     assert_eq!(log_level_name(8), "EMERG");
 }

@@ -156,7 +156,8 @@ fn log_lengths() {
         Log::read(&[3]),
         Ok(Log {
             level: 3,
-            text: empty
+            text: empty,
+            padding: 0
         })
     );
 }

@@ -5,12 +5,12 @@ use crate::refusal::Refusal;
 use crate::rows;
 use crate::writing::{sender_number, sized};
 
-/// A line of the device's log.
+/// A line of the device's log: a level, a text, and zeros to the end.
 ///
 /// ```
 /// use yaqtumeer::Log;
 ///
-/// let line = Log { level: 6, text: b"antenna open".to_vec() };
+/// let line = Log { level: 6, text: b"antenna open".to_vec(), padding: 1 };
 /// let frame = line.frame(None).unwrap();
 /// assert_eq!(Log::read(&frame[6..frame.len() - 2]), Ok(line));
 /// ```
@@ -18,43 +18,64 @@ use crate::writing::{sender_number, sized};
 pub struct Log {
     /// From 0, an emergency, to 7, for debugging.
     pub level: u8,
-    /// All bytes after the level, up to 254, in whatever encoding.
+    /// Without a zero, in whatever encoding; with the padding up to 254 bytes.
     pub text: Vec<u8>,
+    /// How many zeros stand after the text: most devices send none or one.
+    pub padding: usize,
 }
 
 kind! { Log = 0x0401, "MSG_LOG" }
 
 impl Log {
-    /// Reads a payload.
+    /// Reads a payload. The text ends before the first zero after the level,
+    /// from which on all bytes have to be zero; without one it goes to the end.
     ///
-    /// Refused: [`Refusal::WrongLength`].
+    /// Refused: [`Refusal::WrongLength`], [`Refusal::OutOfRange`] for another
+    /// byte after a zero.
     ///
     /// ```
     /// use yaqtumeer::{Log, Refusal};
     ///
-    /// assert_eq!(Log::read(b"\x04late").unwrap().text, b"late");
+    /// let late = Log { level: 4, text: b"late".to_vec(), padding: 2 };
+    /// assert_eq!(Log::read(b"\x04late\0\0"), Ok(late));
+    /// assert_eq!(Log::read(b"\x04late").unwrap().padding, 0);
+    /// assert_eq!(Log::read(b"\x04la\0te"), Err(Refusal::OutOfRange));
     /// assert_eq!(Log::read(b""), Err(Refusal::WrongLength));
     /// ```
+    ///
+    /// What was read is written as the same bytes.
+    ///
+    /// ```
+    /// use yaqtumeer::Log;
+    ///
+    /// let payload = b"\x04late\0\0";
+    /// let frame = Log::read(payload).unwrap().frame(None).unwrap();
+    /// assert_eq!(&frame[6..13], payload);
+    /// ```
     pub fn read(payload: &[u8]) -> Result<Log, Refusal> {
-        let [level, length] = rows::read(Log::KIND, payload)?;
+        let [level, length, padding] = rows::read(Log::KIND, payload)?;
         Ok(Log {
             level: rows::Field::of(level),
-            text: payload[payload.len() - length as usize..].to_vec(),
+            text: payload[1..][..length as usize].to_vec(),
+            padding: padding as usize,
         })
     }
 
     /// Writes it as a frame at the buffer's start, and says the frame's length.
     /// Without a sender it is 0x42.
     ///
-    /// Refused: [`Refusal::TooMuch`], [`Refusal::NoRoom`]; then nothing is
-    /// written.
+    /// Refused: [`Refusal::OutOfRange`] for a zero in the text, however long,
+    /// [`Refusal::TooMuch`], [`Refusal::NoRoom`]; then nothing is written.
     ///
     /// ```
     /// use yaqtumeer::{Log, Refusal};
     ///
     /// let mut out = [0; 300];
-    /// assert_eq!(Log { level: 3, text: b"x".to_vec() }.write(None, &mut out), Ok(10));
-    /// let long = Log { level: 3, text: vec![b'x'; 255] };
+    /// let line = Log { level: 3, text: b"x".to_vec(), padding: 0 };
+    /// assert_eq!(line.write(None, &mut out), Ok(10));
+    /// let zero = Log { text: b"x\0".to_vec(), ..line.clone() };
+    /// assert_eq!(zero.write(None, &mut out), Err(Refusal::OutOfRange));
+    /// let long = Log { padding: 254, ..line };
     /// assert_eq!(long.write(None, &mut out), Err(Refusal::TooMuch));
     /// ```
     pub fn write(&self, sender: Option<u16>, out: &mut [u8]) -> Result<usize, Refusal> {
@@ -66,20 +87,27 @@ impl Log {
                 self.level,
                 self.text.as_ptr(),
                 self.text.len(),
+                self.padding,
                 size,
             )
         })
     }
 
-    /// Its numbers: the level, how many bytes of text, and each of them.
+    /// Its numbers: the level, how many bytes of text, how many zeros after it,
+    /// and each byte of the text.
     ///
     /// ```
     /// use yaqtumeer::Log;
     ///
-    /// assert_eq!(Log { level: 3, text: vec![65, 66] }.row(), [3, 2, 65, 66]);
+    /// let line = Log { level: 3, text: vec![65, 66], padding: 1 };
+    /// assert_eq!(line.row(), [3, 2, 1, 65, 66]);
     /// ```
     pub fn row(&self) -> Vec<u64> {
-        let head = [self.level.into(), self.text.len() as u64];
+        let head = [
+            self.level.into(),
+            self.text.len() as u64,
+            self.padding as u64,
+        ];
         let text = self.text.iter().map(|&byte| byte.into());
         head.into_iter().chain(text).collect()
     }

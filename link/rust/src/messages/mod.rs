@@ -26,7 +26,7 @@ macro_rules! messages {
         /// ```
         /// use yaqtumeer::{Frames, Heartbeat, Log, Message};
         ///
-        /// let log = Log { level: 6, text: b"ready".to_vec() };
+        /// let log = Log { level: 6, text: b"ready".to_vec(), padding: 0 };
         /// let beat = Heartbeat { flags: 0 };
         /// let capture = [log.frame(None).unwrap(), beat.frame(None).unwrap()].concat();
         /// for frame in Frames::closed(&capture) {

@@ -1,6 +1,6 @@
 //! A message's name and fields, as the SBP specification calls them.
 
-use super::{push_key, text};
+use super::{push_key, push_number, text};
 use crate::number;
 use yaqtumeer::{Log, Message, Obs, Observation};
 
@@ -80,10 +80,10 @@ messages! {
 }
 
 fn push_log(text: &mut Vec<u8>, log: &Log) {
-    push_key(text, "level");
-    log.level.push(text);
+    push_number(text, "level", log.level);
     push_key(text, "text");
     text::push(text, &log.text);
+    push_number(text, "padding", log.padding as u64);
 }
 
 /// Values with what stands before each of them, and what stands last.

@@ -6,7 +6,7 @@ pub fn answer(msg_type: u16, payload: &[u8]) -> u8 {
     // The length the type wants, and the highest fix mode (7: any).
     let (wanted, highest_mode) = match msg_type {
         0x0049 => return if obs_length(length) { 0 } else { 22 },
-        0x0401 => return if (1..=255).contains(&length) { 0 } else { 22 },
+        0x0401 => return log_text(payload).err().unwrap_or(0),
         0x0100 => return gps_time(payload),
         0x0206 => (14, 7),
         0x0200 => (32, 2),
@@ -35,6 +35,22 @@ pub fn answer(msg_type: u16, payload: &[u8]) -> u8 {
 #[inline]
 pub(super) fn obs_length(length: usize) -> bool {
     length & 15 == 7 && length <= 247
+}
+
+/// How long LOG's text is; or 22, 23.
+#[inline]
+pub(super) fn log_text(payload: &[u8]) -> Result<usize, u8> {
+    if payload.is_empty() || payload.len() > 255 {
+        return Err(22);
+    }
+    let tail = &payload[1..];
+    let last = tail.iter().rposition(|&b| b != 0);
+    let text = last.map_or(0, |last| last + 1);
+    // Only the zeros at the end are padding.
+    if tail[..text].contains(&0) {
+        return Err(23);
+    }
+    Ok(text)
 }
 
 #[inline]

@@ -183,12 +183,14 @@ pub fn read_row(msg_type: u16, payload: &[u8], row: &mut [u64]) -> u8 {
             4
         }
         (0x0401, None) => {
-            if length == 0 || length > 255 {
-                return 22;
-            }
+            let text = match super::answer::log_text(payload) {
+                Ok(text) => text,
+                Err(no) => return no,
+            };
             taken[0] = payload[0].into();
-            taken[1] = length as u64 - 1;
-            2
+            taken[1] = text as u64;
+            taken[2] = (length - 1 - text) as u64;
+            3
         }
         _ => return 21,
     };

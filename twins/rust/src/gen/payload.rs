@@ -1,6 +1,7 @@
 //! Payloads for each type of document 01's table: right, of a wrong length,
-//! and with a ranged field out of range. Made from bytes, not from the
-//! records of `messages`, so that they can test those.
+//! and with a ranged field out of range or LOG's text going on after a zero.
+//! Made from bytes, not from the records of `messages`, so that they can test
+//! those.
 
 use super::rng::Rng;
 
@@ -92,6 +93,25 @@ fn set_ns(payload: &mut [u8], ns: i32) {
     payload[6..10].copy_from_slice(&ns.to_le_bytes());
 }
 
+/// LOG's last bytes are zeros, and none before them but the level.
+fn set_padding(payload: &mut [u8], padding: usize) {
+    let end = payload.len() - padding;
+    payload[1..end].iter_mut().for_each(|b| *b = (*b).max(1));
+    payload[end..].fill(0);
+}
+
+/// A zero in LOG, and after it a byte that is none.
+fn break_padding(rng: &mut Rng, payload: &mut Vec<u8>) {
+    // The level and these two.
+    payload.resize(payload.len().max(3), 0);
+    let last = payload.len() - 1;
+    let zero = rng.between(1, last - 1);
+    let any = rng.between(zero + 1, last);
+    let letter = rng.pick(&[zero + 1, any, last]);
+    payload[zero] = 0;
+    payload[letter] |= 1;
+}
+
 /// A payload that answers 0.
 pub fn valid(rng: &mut Rng, msg_type: u16) -> Vec<u8> {
     let count = right_length(rng, msg_type);
@@ -113,10 +133,20 @@ pub fn valid(rng: &mut Rng, msg_type: u16) -> Vec<u8> {
         let ns = rng.pick(&[-500_000, 500_000, -499_999, 499_999, 0, -1, inside]);
         set_ns(&mut payload, ns);
     }
+    if msg_type == 0x0401 {
+        let room = payload.len() - 1;
+        let some = rng.between(0, room);
+        let padding = rng.pick(&[0, 0, room.min(1), some, some, room]);
+        set_padding(&mut payload, padding);
+        // A level of 0 ends nothing.
+        if rng.chance(1, 8) {
+            payload[0] = 0;
+        }
+    }
     payload
 }
 
-/// A payload that answers 23, if the type has a range.
+/// A payload that answers 23, if one of its type can.
 pub fn broken_range(rng: &mut Rng, msg_type: u16) -> Option<Vec<u8>> {
     let mut payload = valid(rng, msg_type);
     if let Some(highest) = highest_mode(msg_type) {
@@ -130,11 +160,15 @@ pub fn broken_range(rng: &mut Rng, msg_type: u16) -> Option<Vec<u8>> {
         set_ns(&mut payload, ns);
         return Some(payload);
     }
+    if msg_type == 0x0401 {
+        break_padding(rng, &mut payload);
+        return Some(payload);
+    }
     None
 }
 
-/// A payload whose length is mostly one off, at times far off. (For LOG
-/// only length 0 is wrong, and one more or less than another is right.)
+/// A payload whose length is mostly one off, at times far off. (For LOG only
+/// length 0 is wrong: others answer 0, or 23 for a byte after a zero.)
 pub fn off_length(rng: &mut Rng, msg_type: u16) -> Vec<u8> {
     let mut payload = match broken_range(rng, msg_type) {
         // 22 must come before 23.

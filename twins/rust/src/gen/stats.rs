@@ -5,12 +5,12 @@ use super::{capture, TYPES};
 use crate::epochs::{Collator, Outcome};
 use crate::frames::{closed, open, step, Step};
 use crate::listing::{roster, MAX_INPUT};
-use crate::messages::answer;
+use crate::messages::{answer, Log};
 use std::collections::BTreeMap;
 use std::fmt::Write;
 
 /// What the captures of a comparison have to reach.
-const WANTED: [&str; 29] = [
+const WANTED: [&str; 33] = [
     "step frame",
     "step junk",
     "step bad",
@@ -22,6 +22,10 @@ const WANTED: [&str; 29] = [
     "answer 21",
     "answer 22",
     "answer 23",
+    "type 0x0401 answer 22",
+    "type 0x0401 answer 23",
+    "LOG without padding",
+    "LOG with padding",
     "capture too long (11)",
     "capture of length 0",
     "capture of length 1",
@@ -102,6 +106,9 @@ impl Stats {
             if TYPES.contains(&frame.msg_type) {
                 self.add(&format!("type {:#06x} answer {no:02}", frame.msg_type), 1);
             }
+            if frame.msg_type == Log::TYPE {
+                self.padding(frame.payload);
+            }
             let Some(before) = collator.take() else {
                 self.add("feed none: no collator", 1);
                 continue;
@@ -119,6 +126,14 @@ impl Stats {
                     }
                 }
             }
+        }
+    }
+
+    fn padding(&mut self, log: &[u8]) {
+        match Log::read(log) {
+            Ok(Log { padding: 0, .. }) => self.add("LOG without padding", 1),
+            Ok(_) => self.add("LOG with padding", 1),
+            Err(_) => {}
         }
     }
 

@@ -5,7 +5,7 @@ use crate::numbers::{No, TYPE_UNKNOWN};
 
 impl Message<'_> {
     /// A number for each field in order. Of OBS the header's and k; of LOG the
-    /// level and the text's length.
+    /// level, the text's length and the padding.
     pub fn row(&self) -> Vec<u64> {
         match self {
             Message::GpsTime(m) => m.row(),
@@ -24,7 +24,7 @@ impl Message<'_> {
                 row.push(observations.len() as u64);
                 row
             }
-            Message::Log(m) => vec![m.level.into(), m.text.len() as u64],
+            Message::Log(m) => vec![m.level.into(), m.text.len() as u64, m.padding as u64],
             Message::SettingsSave(m) => m.row(),
             Message::SettingsReadByIndexDone(m) => m.row(),
             Message::SettingsReadByIndexReq(m) => m.row(),

@@ -2,9 +2,10 @@
 use mathlib.Core.Path.{ap, _∙_}
 use Prim.Native.Nat.{ℕ}
 use Rattle.wire.specs.Refusals.{Answer, zeroOr}
+use Rattle.frames.specs.Faithful.{writtenAs}
 use Rattle.frames.specs.Writer.{senderOf, sizeLeft}
 use Rattle.frames.specs.declared.write.Sender.{Sender}
-use Rattle.system.specs.Log.{logWritten}
+use Rattle.system.specs.Log.{log, logged}
 use borrow.Author.Needs.{needs}
 use Rattle.exports.proofs.writing.sbp_write_log.Statement.{statement}
 use Rattle.exports.proofs.writing.sbp_write_log.Tie as tie
@@ -28,7 +29,7 @@ returns c =
     let e = wrote .write-log .ensures .0 in (
       c .hand-on .ensures .0 ∙ ap zeroOr e,
       (
-        wrote .write-log .ensures .1 ∙ ap (λ (x : Sender). logWritten (senderOf x) (record { level = a .level; text = a .text .now }) (a .out .now)) (wrote .before .sender-from .ensures),
+        wrote .write-log .ensures .1 ∙ ap (λ (x : Sender). writtenAs log (senderOf x) (logged (a .level) (a .text .now) (a .padding)) (a .out .now)) (wrote .before .sender-from .ensures),
         c .hand-on .ensures .1 ∙ ap (λ (x : Answer ℕ). sizeLeft x (a .size .now)) e,
       ),
     )

@@ -13,7 +13,7 @@ type Wanted = (&'static str, &'static [u8]);
 const OF_BOTH: [Wanted; 9] = [
     ("crc", &[0]),
     ("answer", &[0, 21, 22, 23]),
-    ("write_log", &[0, 31, 32]),
+    ("write_log", &[0, 23, 31, 32]),
     ("write_frame", &[0, 31, 32]),
     ("read back", &[0]),
     ("observation back", &[0]),
@@ -99,6 +99,9 @@ fn of_message(side: Side, kind: u16) -> Vec<(&'static str, u8)> {
     }
     if RANGED.contains(&kind) {
         wanted.extend([("read", 23), ("write", 23)]);
+    }
+    if kind == Log::TYPE {
+        wanted.push(("read", 23));
     }
     if side == Side::C && !WITHOUT_FIELDS.contains(&kind) {
         wanted.push(("read", 32));

@@ -137,18 +137,46 @@ fn ask_write_obs(asked: &mut Asked, rng: &mut Rng) {
     ask_back(asked, kind, frame, &head);
 }
 
-fn ask_write_log(asked: &mut Asked, rng: &mut Rng) {
+/// A text of any length, mostly without a zero.
+fn log_text(rng: &mut Rng) -> Vec<u8> {
     let any = rng.below(254);
     let size = rng.pick(&[0, 1, any, any, any, 253, 254, 255, 256, 1000]);
-    let (level, text, sender) = (rng.byte(), rng.bytes(size), sender(rng));
-    let log = Log { level, text: &text };
+    let mut text: Vec<u8> = rng.bytes(size).iter().map(|&b| b.max(1)).collect();
+    if size > 0 && rng.chance(1, 4) {
+        let any = rng.below(size);
+        text[rng.pick(&[0, any, size - 1])] = 0;
+    }
+    text
+}
+
+/// None, one or some, all that there is room for, one less or more, and so
+/// many that a sum with them overflows.
+fn log_padding(rng: &mut Rng, text: usize) -> usize {
+    let left = 254_usize.saturating_sub(text);
+    let some = rng.below(left + 1);
+    let full = rng.pick(&[left.saturating_sub(1), left, left + 1]);
+    let huge = rng.pick(&[usize::MAX, usize::MAX - text]);
+    rng.pick(&[0, 0, 1, some, some, full, full, huge])
+}
+
+fn ask_write_log(asked: &mut Asked, rng: &mut Rng) {
+    let any = rng.byte();
+    let level = rng.pick(&[0, any, any, any]);
+    let (text, sender) = (log_text(rng), sender(rng));
+    let padding = log_padding(rng, text.len());
+    let log = Log {
+        level,
+        text: &text,
+        padding,
+    };
     let written = Written::by(rng, |out| log.write(given(sender), out));
     let question = Question::new("write_log", b'L');
     let question = question.put(&sender.to_le_bytes()).put(&[level]);
+    let question = question.put(&(padding as u64).to_le_bytes());
     let question = question.count(written.out.len()).bytes(&text);
     written.asked(asked, question);
     if let Some(frame) = written.frame() {
-        let mut row = vec![u64::from(level), size as u64];
+        let mut row = vec![u64::from(level), text.len() as u64, padding as u64];
         if asked.side == Side::Rust {
             row.extend(text.iter().map(|&b| u64::from(b)));
         }
