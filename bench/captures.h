@@ -12,7 +12,7 @@ extern size_t length;
 
 /* Epochs of a base and a rover, packet by packet, with positions between. */
 void clean(size_t most);
-/* Every kind of message by turns, all readable: ns and fix mode are 0. */
+/* Every kind of message by turns, all readable: ns and fix mode are 0, and four zeros pad the text of LOG. */
 void mixed(size_t most);
 void noise(size_t most);
 /* Nothing but 0x55. */
