@@ -290,6 +290,8 @@ int main(int argc, char **argv) {
     timed("CRC of a long buffer", rounds, 1, (const side[SIDES]){our_crc, twins_crc, rusts_crc, sliced_crc});
     readings("closed reading, clean, frame by frame", "closed reading, clean, in one call", rounds);
     timed("feeding epochs", rounds, 1, (const side[SIDES]){our_feeding, twins_feeding, rusts_feeding, NULL});
+    texts(most);
+    timed("rows read of LOG, 80 bytes of text", rounds, 1, (const side[SIDES]){our_rows, twins_rows, rusts_rows, NULL});
     mixed(most);
     timed("rows read of all 18 messages", rounds, 1, (const side[SIDES]){our_rows, twins_rows, rusts_rows, NULL});
     keep_rows();

@@ -71,6 +71,13 @@ void mixed(size_t most) {
     }
 }
 
+void texts(size_t most) {
+    length = 0;
+    while (length + FRAME_MOST <= most) {
+        length = put_frame(length, 0x0401, 1228, 1 + 80 + 4, 0, 0);
+    }
+}
+
 void noise(size_t most) {
     length = most;
     for (size_t i = 0; i < most; i++) {

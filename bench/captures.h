@@ -14,6 +14,8 @@ extern size_t length;
 void clean(size_t most);
 /* Every kind of message by turns, all readable: ns and fix mode are 0, and four zeros pad the text of LOG. */
 void mixed(size_t most);
+/* LOGs of 80 bytes of text, with the same padding. */
+void texts(size_t most);
 void noise(size_t most);
 /* Nothing but 0x55. */
 void preambles(size_t most);

@@ -7,7 +7,7 @@ use native.Mathlib.Omega.{arith}
 use lib.Dec.{eqb}
 use lib.ListN.{length, take}
 use Rattle.wire.specs.Field.{Format, size, encode}
-use Rattle.wire.specs.Layout.{Layout, Body, HeldBody, allowedBody, bodySize, lengths, LengthOf, encodeBody, decodeBody}
+use Rattle.wire.specs.Layout.{Layout, Body, HeldBody, allowedBody, bodySize, lengths, LengthOf, encodeBody}
 use Rattle.wire.specs.Refusals.{refused, Answer, Tests, ordered, zeroOr}
 use Rattle.wire.proofs.Fields.{row-sets, length-encode}
 use Rattle.wire.proofs.Layouts.{lengths-true, size-fits, length-encode-body}

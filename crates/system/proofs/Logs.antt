@@ -10,8 +10,8 @@ use lib.ListN.{length, getD, take, drop, length-replicate}
 use lib.Seq.{getD-drop}
 use borrow.Author.Tests.{leb-false, eqb-false}
 use Rattle.wire.specs.Number.{Bytes, numberAt}
-use Rattle.wire.specs.Padded.{beforeZero, fromZero, noZero, allZero, zeros}
-use Rattle.wire.specs.Layout.{HeldBody, allowedBody, fewEnough, bodySize, decodeBody, bodyStored}
+use Rattle.wire.specs.Padded.{beforeZero, fromZero, noZero, zeros}
+use Rattle.wire.specs.Layout.{allowedBody, fewEnough, bodySize, decodeBody, bodyStored}
 use Rattle.wire.specs.Description.{inside, reading, readAs}
 use Rattle.wire.specs.Refusals.{refused, given, Answer, ordered, FirstFails, AllPass}
 use Rattle.wire.proofs.Ordered.{exactly-first, exactly-all}

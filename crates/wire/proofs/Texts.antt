@@ -1,15 +1,15 @@
 -- A text and the zeros after it: bytes split at the first zero, joined again, are the same, and no other split has a text without a zero and
 -- zeros alone after it. Assumes nothing.
 use mathlib.Core.Path.{_≡_, refl, sym, ap, ap₂, _∙_}
-use mathlib.Core.Bool.{Bool, true, false, _&&_, not, cond, false≢true, and-eq-true-iff}
+use mathlib.Core.Bool.{Bool, true, false, _&&_, not, cond, false≢true, and-eq-true-iff, and-true}
 use mathlib.Core.List.{List, [], _∷_, _++_, append-nil}
-use Prim.Native.Nat.{ℕ, zero, suc, _+_, _≤_, _<_, zero-le}
-use native.Mathlib.Nat.{zero-add}
+use Prim.Native.Nat.{ℕ, zero, suc, _+_, _≤_, _-_, _<_, zero-le}
+use native.Mathlib.Nat.{zero-add, le-refl}
 use native.Mathlib.Numerals.{add-one}
 use native.Mathlib.Omega.{arith}
 use lib.Dec.{eqb, lit<}
-use lib.ListN.{length, getD, take, drop, length-append, drop-of-length-le}
-use lib.Seq.{take-all, take-at, drop-at, drop-cons}
+use lib.ListN.{length, getD, take, drop, length-append, take-append-drop, drop-of-length-le}
+use lib.Seq.{length-take-le, drop-length, take-at, drop-at, drop-cons}
 use borrow.Author.Tests.{eq-eqb, ne-eqb, eqb-true}
 use Rattle.wire.specs.Number.{Bytes}
 use Rattle.wire.specs.Padded.{beforeZero, fromZero, noZero, allZero, zeros}
@@ -105,15 +105,11 @@ bytes-zeros zero i = lit< tt
 bytes-zeros (suc n) zero = lit< tt
 bytes-zeros (suc n) (suc i) = bytes-zeros n i
 
--- a text has no zero exactly where all of it stands before the first
-pub no-zero-whole : (t : List ℕ) → eqb (length (beforeZero t)) (length t) ≡ noZero t
-no-zero-whole t = by (noZero t) refl
-  where
-    by : (b : Bool) → noZero t ≡ b → eqb (length (beforeZero t)) (length t) ≡ b
-    by true e = eq-eqb _ _ (ap length (ap beforeZero (sym (append-nil t)) ∙ split-joined t [] e (all-zeros 0) .0))
-    by false e = ne-eqb _ _ (λ (all : length (beforeZero t) ≡ length t).
-        let whole : t ≡ beforeZero t = sym (take-all (length (beforeZero t)) t (omega arith)) ∙ before-take t in
-        false≢true (sym e ∙ ap noZero whole ∙ no-zero-before t))
+-- where no zero stands up to n and nothing but zeros from there on, n bytes stand before the first
+pub whole-text : (s : List ℕ) (n : ℕ) → n ≤ length s → noZero (take n s) ≡ true → allZero (drop n s) ≡ true → n ≡ length (beforeZero s)
+whole-text s n h none all =
+    sym (length-take-le n s h)
+    ∙ ap length (sym (split-joined (take n s) (drop n s) none all .0) ∙ ap beforeZero (take-append-drop n s))
 
 -- ---- byte after byte
 
@@ -125,16 +121,53 @@ module _ (s : List ℕ) where
   abbrev pub Zeroed : ℕ → Type 0
   Zeroed i = (i ≤ length s) × (allZero (drop i s) ≡ allZero s)
 
+  -- i bytes were looked at; whether none of them is zero
+  abbrev pub Clean : Bool → ℕ → Type 0
+  Clean clean i = (i ≤ length s) × ((clean && noZero (drop i s)) ≡ noZero s)
+
+  pub none-looked-at : Clean true 0
+  none-looked-at = (zero-le, refl)
+
   pub none-passed : Passed 0
   none-passed = (zero-le, zero-add (length (beforeZero s)))
 
   pub none-zeroed : Zeroed 0
   none-zeroed = (zero-le, refl)
 
+  -- from n on there are zeros alone
+  abbrev pub Trimmed : ℕ → Type 0
+  Trimmed n = (n ≤ length s) × (allZero (drop n s) ≡ true)
+
+  pub none-trimmed : Trimmed (length s)
+  unfolding allZero
+  none-trimmed = (le-refl (length s), rw drop-length)
+
+  pub trimmed-more : (n : ℕ) → Trimmed n → 0 < n → getD s (n - 1) 0 ≡ 0 → Trimmed (n - 1)
+  unfolding allZero
+  trimmed-more n p h z =
+      let next : suc (n - 1) ≡ n = omega arith in
+      let last : drop (n - 1) s ≡ getD s (n - 1) 0 ∷ drop n s = drop-cons s (n - 1) 0 (omega arith) ∙ ap (λ (k : ℕ). getD s (n - 1) 0 ∷ drop k s) next in
+      (omega arith, rw (last, eq-eqb (getD s (n - 1) 0) 0 z) (p .1))
+
   module _ (i : ℕ) where
     -- the byte there, and those after it
     ahead : i < length s → drop i s ≡ getD s i 0 ∷ drop (i + 1) s
     ahead h = rw add-one (drop-cons s i 0 h)
+
+    module _ (clean : Bool) (p : Clean clean i) where
+      pub looked-at : i < length s → Clean (cond (eqb (getD s i 0) 0) false clean) (i + 1)
+      unfolding noZero
+      looked-at h = (omega arith, by (eqb (getD s i 0) 0) clean ∙ sym (ap (λ (t : List ℕ). clean && noZero t) (ahead h)) ∙ p .1)
+        where
+          by : (z c : Bool) → (cond z false c && noZero (drop (i + 1) s)) ≡ (c && (not z && noZero (drop (i + 1) s)))
+          by true true = refl
+          by true false = refl
+          by false true = refl
+          by false false = refl
+
+      pub looked-at-all : length s ≤ i → clean ≡ noZero s
+      unfolding noZero
+      looked-at-all h = sym (and-true clean) ∙ ap (λ (t : List ℕ). clean && noZero t) (sym (drop-of-length-le s h)) ∙ p .1
 
     module _ (p : Passed i) where
       pub stops-at : i < length s → getD s i 0 ≡ 0 → i ≡ length (beforeZero s)

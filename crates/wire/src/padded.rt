@@ -1,12 +1,51 @@
 // A text with zeros after it: how long it is, whether it has a zero, whether all that follows is zero, and zeros stored.
 ghost use mathlib.Core.Path.{_≡_};
-ghost use lib.ListN.{length};
+ghost use mathlib.Core.Bool.{true, false, cond};
+ghost use Prim.Native.Nat.{_≤_};
+ghost use lib.Dec.{eqb};
+ghost use lib.ListN.{length, drop};
 ghost use Rattle.wire.specs.Number.{bytesStored};
 ghost use Rattle.wire.specs.Padded.{beforeZero, noZero, allZero, zeros};
 use crate::store::room;
 
-// How many bytes stand before the first zero.
-pub fn text_length(s: &[u8]) -> usize
+// Whether no zero was seen, before or now.
+fn clean_after(clean: bool, b: u8) -> bool
+    ensures { λ r. ⌜ r ≡ cond (eqb b 0) false clean ⌝ }
+{
+    if b == 0 {
+        return false;
+    }
+    clean
+}
+
+// There is no way out before the end, so that the compiler tests many bytes at once.
+pub fn no_zero(s: &[u8]) -> bool
+    ensures { λ r. ⌜ r ≡ noZero (now (s .entry)) ⌝ }
+{
+    let mut clean = true;
+    let mut i = 0;
+    while i < s.len() {
+        clean = clean_after(clean, s[i]);
+        i += 1;
+    }
+    clean
+}
+
+// A length from which on there are zeros alone.
+fn trimmed(s: &[u8]) -> usize
+    ensures { λ r. ⌜ (r ≤ length (now (s .entry))) × (allZero (drop r (now (s .entry))) ≡ true) ⌝ }
+{
+    let mut n = s.len();
+    while 0 < n {
+        if s[n - 1] != 0 {
+            return n;
+        }
+        n -= 1;
+    }
+    n
+}
+
+fn first_zero(s: &[u8]) -> usize
     ensures { λ r. ⌜ r ≡ length (beforeZero (now (s .entry))) ⌝ }
 {
     let mut i = 0;
@@ -19,10 +58,15 @@ pub fn text_length(s: &[u8]) -> usize
     i
 }
 
-pub fn no_zero(s: &[u8]) -> bool
-    ensures { λ r. ⌜ r ≡ noZero (now (s .entry)) ⌝ }
+// How many bytes stand before the first zero. A text with zeros after it, which most are, is not searched byte by byte.
+pub fn text_length(s: &[u8]) -> usize
+    ensures { λ r. ⌜ r ≡ length (beforeZero (now (s .entry))) ⌝ }
 {
-    text_length(s) == s.len()
+    let n = trimmed(s);
+    if no_zero(&s[0..n]) {
+        return n;
+    }
+    first_zero(s)
 }
 
 pub fn all_zero(s: &[u8]) -> bool

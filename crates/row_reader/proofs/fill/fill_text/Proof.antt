@@ -1,5 +1,4 @@
 -- `row_reader::fill::fill_text` meets its contract.
-use mathlib.Core.Path.{refl}
 use borrow.Author.Needs.{needs}
 use Rattle.wire.proofs.Texts.{no-longer}
 use Rattle.row_reader.proofs.Filling.{text-set}

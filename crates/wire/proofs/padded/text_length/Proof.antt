@@ -1,41 +1,42 @@
--- `wire::padded::text_length` meets its contract: none of the bytes passed is zero.
-use Prim.Native.Nat.{_-_}
-use native.Mathlib.Omega.{arith}
-use lib.ListN.{length}
-use Rattle.wire.proofs.Texts.{Passed, none-passed, stops-at, passes, passed-all}
+-- `wire::padded::text_length` meets its contract: as trimmed, or byte by byte.
+use mathlib.Core.Path.{sym, ap, _∙_}
+use Prim.Native.Nat.{ℕ}
+use native.Mathlib.Nat.{sub-zero}
+use lib.ListN.{take}
+use borrow.Author.Needs.{needs}
+use Rattle.wire.specs.Padded.{noZero}
+use Rattle.wire.proofs.Texts.{whole-text}
 use Rattle.wire.proofs.padded.text_length.Statement.{statement}
 use Rattle.wire.proofs.padded.text_length.Tie as tie
 
-abbrev Inv-loop : tie.InvT-loop
-Inv-loop s i₀ i = Passed s i
+trimmed-requires : tie.Need-trimmed-requires
+trimmed-requires c κs = search needs
 
-abbrev μ-loop : tie.MeasureT-loop
-μ-loop s i₀ i = length s - i
+sub-no-zero : tie.Need-sub-no-zero
+sub-no-zero c = search needs
 
-loop-holds : tie.Need-loop-holds Inv-loop μ-loop
-loop-holds c = none-passed _
+part-no-zero-start : tie.Need-part-no-zero-start
+part-no-zero-start c = search needs
 
-shared-slice-read-if1 : tie.Need-shared-slice-read-if1 Inv-loop μ-loop
-shared-slice-read-if1 c = omega arith
+part-no-zero-end : tie.Need-part-no-zero-end
+part-no-zero-end c = search needs
 
-returns : tie.Need-returns Inv-loop μ-loop
+no-zero-requires : tie.Need-no-zero-requires
+no-zero-requires c κs = search needs
+
+returns : tie.Need-returns
 returns c =
-    let w = c .before .before in
-    stops-at (w .before .before .args .s .now) (w .before .loop .i) (w .before .loop .inv) (w .loop-test .taken) (c .if1 .taken)
+    let t = c .before .before .before in
+    let s = t .before .before .args .s .now in
+    let n = t .trimmed .result in
+    let none = ap (λ (k : ℕ). noZero (take k s)) (sym (sub-zero n)) ∙ sym (c .before .no-zero .ensures) ∙ c .if1 .taken in
+    whole-text s n (t .trimmed .ensures .0) none (t .trimmed .ensures .1)
 
-add-i : tie.Need-add-i Inv-loop μ-loop
-add-i c = omega arith
+first-zero-requires : tie.Need-first-zero-requires
+first-zero-requires c κs = search needs
 
-loop-less : tie.Need-loop-less Inv-loop μ-loop
-loop-less c = omega arith
-
-loop-again : tie.Need-loop-again Inv-loop μ-loop
-loop-again c =
-    let w = c .before .before in
-    passes (w .before .before .args .s .now) (w .before .loop .i) (w .before .loop .inv) (w .loop-test .taken) (c .if1 .left)
-
-returns-2 : tie.Need-returns-2 Inv-loop μ-loop
-returns-2 c = passed-all (c .before .before .args .s .now) (c .before .loop .i) (c .before .loop .inv) (c .loop-test .left)
+returns-2 : tie.Need-returns-2
+returns-2 c = c .first-zero .ensures
 
 pub text-length-spec : {M : Type 1} → statement M
-text-length-spec = tie.close (tie.spec Inv-loop μ-loop loop-holds shared-slice-read-if1 returns add-i loop-less loop-again returns-2)
+text-length-spec = tie.close (tie.spec trimmed-requires sub-no-zero part-no-zero-start part-no-zero-end no-zero-requires returns first-zero-requires returns-2)
