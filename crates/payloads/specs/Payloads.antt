@@ -49,7 +49,7 @@ pub record Described : Type 1 where
 abbrev pub under : {R : Type 0} → Description R → (R → Message) → Described
 under {R} d name = record { Of = R; description = d; name = name }
 
--- every message; of an OBS the code shows the header and how many observations follow, of a LOG the level and how long the text is
+-- every message; of an OBS the code shows the header and how many observations follow, of a LOG the level and how long text and padding are
 abbrev pub messages : List Described
 messages =
     under gpsTime (λ r. M.GpsTime r) ∷

@@ -20,7 +20,7 @@ beginning ns row = startingWith ns (length ns) row
 abbrev pub readingRow : ℕ → List ℕ → ℕ → Tests
 readingRow kind s room = readingAny kind s ++ roomFor (numberCount (layoutFor kind)) room
 
--- one number for each field in order; of observations and of text, how many
+-- one number for each field in order; of observations, how many; of a text, how long it and its padding are
 abbrev pub numbersFor : ℕ → List ℕ → List ℕ
 numbersFor kind s = wideBody (layoutFor kind) (decodeBody (layoutFor kind) s)
 

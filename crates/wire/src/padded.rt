@@ -31,7 +31,7 @@ pub fn no_zero(s: &[u8]) -> bool
     clean
 }
 
-// A length from which on there are zeros alone.
+// A length from which on there are zeros alone. How short it is decides only how soon a text is found.
 fn trimmed(s: &[u8]) -> usize
     ensures { λ r. ⌜ (r ≤ length (now (s .entry))) × (allZero (drop r (now (s .entry))) ≡ true) ⌝ }
 {
