@@ -24,7 +24,7 @@ last fits inside = rw (and-true inside)
 
 pub agreed : AsInDocument
 agreed =
-    (refl, λ s. last _ _, (refl, λ s. refl, (refl, λ s. last _ _, (refl, λ s. last _ _, (refl, λ s. last _ _, (refl, λ s. refl, (refl, λ s. last _ _, (refl, λ s. refl, (refl, λ s. last _ _, (refl, λ s. refl, (refl, λ s. refl, (refl, λ s. refl, (refl, λ s. refl, (refl, λ s. refl, (refl, λ s. refl, (refl, λ s. refl, (refl, λ s. ap (tests (fitting first (length s))) (obs-allowed s), (refl, λ s. ap (tests (logLength (length s))) (as-padded s), tt))))))))))))))))))
+    (refl, λ s. last _ _, (refl, λ s. refl, (refl, λ s. last _ _, (refl, λ s. last _ _, (refl, λ s. last _ _, (refl, λ s. refl, (refl, λ s. last _ _, (refl, λ s. refl, (refl, λ s. last _ _, (refl, λ s. refl, (refl, λ s. refl, (refl, λ s. refl, (refl, λ s. refl, (refl, λ s. refl, (refl, λ s. refl, (refl, λ s. refl, (refl, λ s. refl, (refl, λ s. refl, (refl, λ s. refl, (refl, λ s. refl, (refl, λ s. refl, (refl, λ s. refl, (refl, λ s. ap (tests (fitting first (length s))) (obs-allowed s), (refl, λ s. ap (tests (logLength (length s))) (as-padded s), tt))))))))))))))))))))))))
 
 -- ---- of any type
 

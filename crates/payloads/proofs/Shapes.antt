@@ -47,7 +47,7 @@ Unpacks l = (formatsBy (shapeOf l .head) ++ formatsBy (shapeOf l .more) ≡ map 
 
 pub unpacks : (kind : ℕ) → Unpacks (layoutFor kind)
 unfolding upTo
-unpacks kind = of-any (λ e. Unpacks (e .layout)) table ((refl, tt), ((refl, tt), ((refl, tt), ((refl, tt), ((refl, tt), ((refl, tt), ((refl, tt), ((refl, tt), ((refl, tt), ((refl, tt), ((refl, tt), ((refl, tt), ((refl, tt), ((refl, tt), ((refl, tt), ((refl, tt), ((refl, (refl, refl, refl)), ((refl, tt), tt)))))))))))))))))) kind (refl, tt)
+unpacks kind = of-any (λ e. Unpacks (e .layout)) table ((refl, tt), ((refl, tt), ((refl, tt), ((refl, tt), ((refl, tt), ((refl, tt), ((refl, tt), ((refl, tt), ((refl, tt), ((refl, tt), ((refl, tt), ((refl, tt), ((refl, tt), ((refl, tt), ((refl, tt), ((refl, tt), ((refl, tt), ((refl, tt), ((refl, tt), ((refl, tt), ((refl, tt), ((refl, tt), ((refl, (refl, refl, refl)), ((refl, tt), tt)))))))))))))))))))))))) kind (refl, tt)
 
 pub shaped : (kind : ℕ) → formatsBy (shapeFor kind .head) ++ formatsBy (shapeFor kind .more) ≡ map formatOf (frontOf (layoutFor kind))
 shaped kind = unpacks kind .0

@@ -30,6 +30,12 @@ document =
     (0x0207, Fix 10 9 1) ∷
     (0x0044, Length 24) ∷
     (0x0048, Length 24) ∷
+    (0x0081, Length 185) ∷
+    (0x0082, Length 112) ∷
+    (0x0083, Length 112) ∷
+    (0x0090, Length 70) ∷
+    (0x0091, Length 10) ∷
+    (0x0092, Length 14) ∷
     (0x00a1, Length 0) ∷
     (0x00a6, Length 0) ∷
     (0x00a2, Length 2) ∷

@@ -23,6 +23,12 @@ use Rattle.observation.specs.BasePosEcef.{basePosEcef}
 use Rattle.observation.specs.BasePosLlh.{basePosLlh}
 use Rattle.observation.specs.Edition.{obs, first}
 use Rattle.observation.specs.Obs as observation
+use Rattle.orbits.specs.EphemerisGlo.{ephemerisGlo}
+use Rattle.orbits.specs.EphemerisGps.{ephemerisGps}
+use Rattle.orbits.specs.EphemerisSbas.{ephemerisSbas}
+use Rattle.orbits.specs.GroupDelay.{groupDelay}
+use Rattle.orbits.specs.Iono.{iono}
+use Rattle.orbits.specs.SvConfigurationGps.{svConfigurationGps}
 use Rattle.system.specs.Empty.{settingsSave, readByIndexDone}
 use Rattle.system.specs.Heartbeat.{heartbeat}
 use Rattle.system.specs.Log as system
@@ -63,6 +69,12 @@ messages =
     under baselineHeading (λ r. M.BaselineHeading r) ∷
     under basePosLlh (λ r. M.BasePosLlh r) ∷
     under basePosEcef (λ r. M.BasePosEcef r) ∷
+    under ephemerisGps (λ r. M.EphemerisGps r) ∷
+    under ephemerisSbas (λ r. M.EphemerisSbas r) ∷
+    under ephemerisGlo (λ r. M.EphemerisGlo r) ∷
+    under iono (λ r. M.Iono r) ∷
+    under svConfigurationGps (λ r. M.SvConfigurationGps r) ∷
+    under groupDelay (λ r. M.GroupDelay r) ∷
     under settingsSave (λ r. M.SettingsSave) ∷
     under readByIndexDone (λ r. M.ReadByIndexDone) ∷
     under readByIndexReq (λ r. M.ReadByIndexReq r) ∷

@@ -11,3 +11,4 @@ pub mod Ordered
 pub mod Joined
 pub mod Descriptions
 pub mod OneBit
+pub mod Together

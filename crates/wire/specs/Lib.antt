@@ -5,3 +5,4 @@ pub mod Field
 pub mod Layout
 pub mod Refusals
 pub mod Description
+pub mod Together

@@ -44,6 +44,24 @@ take-base-pos-llh-requires c κs = search needs
 take-base-pos-ecef-requires : tie.Need-take-base-pos-ecef-requires
 take-base-pos-ecef-requires c κs = search needs
 
+take-ephemeris-gps-requires : tie.Need-take-ephemeris-gps-requires
+take-ephemeris-gps-requires c κs = search needs
+
+take-ephemeris-sbas-requires : tie.Need-take-ephemeris-sbas-requires
+take-ephemeris-sbas-requires c κs = search needs
+
+take-ephemeris-glo-requires : tie.Need-take-ephemeris-glo-requires
+take-ephemeris-glo-requires c κs = search needs
+
+take-iono-requires : tie.Need-take-iono-requires
+take-iono-requires c κs = search needs
+
+take-sv-configuration-gps-requires : tie.Need-take-sv-configuration-gps-requires
+take-sv-configuration-gps-requires c κs = search needs
+
+take-group-delay-requires : tie.Need-take-group-delay-requires
+take-group-delay-requires c κs = search needs
+
 take-read-by-index-req-requires : tie.Need-take-read-by-index-req-requires
 take-read-by-index-req-requires c κs = search needs
 
@@ -108,33 +126,57 @@ returns-12 c = let w = c .before .before in let a = w .before .before .before .a
 
 returns-13 : tie.Need-returns-13
 unfolding entryFor
-returns-13 c = let w = c .before in let a = w .before .before .before .args in gives (a .kind) (a .payload .now) (w .before .answer .ensures) (w .if1 .left) (c .match .keys12) refl
+returns-13 c = let w = c .before .before in let a = w .before .before .before .args in gives (a .kind) (a .payload .now) (w .before .answer .ensures) (w .if1 .left) (c .before .match .keys12) (ap (λ r. M.EphemerisGps r) (c .take-ephemeris-gps .ensures))
 
 returns-14 : tie.Need-returns-14
 unfolding entryFor
-returns-14 c = let w = c .before in let a = w .before .before .before .args in gives (a .kind) (a .payload .now) (w .before .answer .ensures) (w .if1 .left) (c .match .keys13) refl
+returns-14 c = let w = c .before .before in let a = w .before .before .before .args in gives (a .kind) (a .payload .now) (w .before .answer .ensures) (w .if1 .left) (c .before .match .keys13) (ap (λ r. M.EphemerisSbas r) (c .take-ephemeris-sbas .ensures))
 
 returns-15 : tie.Need-returns-15
 unfolding entryFor
-returns-15 c = let w = c .before .before in let a = w .before .before .before .args in gives (a .kind) (a .payload .now) (w .before .answer .ensures) (w .if1 .left) (c .before .match .keys14) (ap (λ r. M.ReadByIndexReq r) (c .take-read-by-index-req .ensures))
+returns-15 c = let w = c .before .before in let a = w .before .before .before .args in gives (a .kind) (a .payload .now) (w .before .answer .ensures) (w .if1 .left) (c .before .match .keys14) (ap (λ r. M.EphemerisGlo r) (c .take-ephemeris-glo .ensures))
 
 returns-16 : tie.Need-returns-16
 unfolding entryFor
-returns-16 c = let w = c .before .before in let a = w .before .before .before .args in gives (a .kind) (a .payload .now) (w .before .answer .ensures) (w .if1 .left) (c .before .match .keys15) (ap (λ r. M.Startup r) (c .take-startup .ensures))
+returns-16 c = let w = c .before .before in let a = w .before .before .before .args in gives (a .kind) (a .payload .now) (w .before .answer .ensures) (w .if1 .left) (c .before .match .keys15) (ap (λ r. M.Iono r) (c .take-iono .ensures))
 
 returns-17 : tie.Need-returns-17
 unfolding entryFor
-returns-17 c = let w = c .before .before in let a = w .before .before .before .args in gives (a .kind) (a .payload .now) (w .before .answer .ensures) (w .if1 .left) (c .before .match .keys16) (ap (λ r. M.Heartbeat r) (c .take-heartbeat .ensures))
+returns-17 c = let w = c .before .before in let a = w .before .before .before .args in gives (a .kind) (a .payload .now) (w .before .answer .ensures) (w .if1 .left) (c .before .match .keys16) (ap (λ r. M.SvConfigurationGps r) (c .take-sv-configuration-gps .ensures))
 
 returns-18 : tie.Need-returns-18
-returns-18 c = let a = c .before .before .before .before .before .args in at-kind (a .kind) (a .payload .now) (typed.obs-read (a .payload .now)) (c .obs .ensures) (c .before .match .keys17)
+unfolding entryFor
+returns-18 c = let w = c .before .before in let a = w .before .before .before .args in gives (a .kind) (a .payload .now) (w .before .answer .ensures) (w .if1 .left) (c .before .match .keys17) (ap (λ r. M.GroupDelay r) (c .take-group-delay .ensures))
 
 returns-19 : tie.Need-returns-19
 unfolding entryFor
-returns-19 c = let w = c .before .before in let a = w .before .before .before .args in gives (a .kind) (a .payload .now) (w .before .answer .ensures) (w .if1 .left) (c .before .match .keys18) (ap (λ r. M.Log r) (c .take-log .ensures))
+returns-19 c = let w = c .before in let a = w .before .before .before .args in gives (a .kind) (a .payload .now) (w .before .answer .ensures) (w .if1 .left) (c .match .keys18) refl
 
 returns-20 : tie.Need-returns-20
-returns-20 c = let a = c .before .before .before .before .args in at-none (a .kind) (a .payload .now) (c .match .rest)
+unfolding entryFor
+returns-20 c = let w = c .before in let a = w .before .before .before .args in gives (a .kind) (a .payload .now) (w .before .answer .ensures) (w .if1 .left) (c .match .keys19) refl
+
+returns-21 : tie.Need-returns-21
+unfolding entryFor
+returns-21 c = let w = c .before .before in let a = w .before .before .before .args in gives (a .kind) (a .payload .now) (w .before .answer .ensures) (w .if1 .left) (c .before .match .keys20) (ap (λ r. M.ReadByIndexReq r) (c .take-read-by-index-req .ensures))
+
+returns-22 : tie.Need-returns-22
+unfolding entryFor
+returns-22 c = let w = c .before .before in let a = w .before .before .before .args in gives (a .kind) (a .payload .now) (w .before .answer .ensures) (w .if1 .left) (c .before .match .keys21) (ap (λ r. M.Startup r) (c .take-startup .ensures))
+
+returns-23 : tie.Need-returns-23
+unfolding entryFor
+returns-23 c = let w = c .before .before in let a = w .before .before .before .args in gives (a .kind) (a .payload .now) (w .before .answer .ensures) (w .if1 .left) (c .before .match .keys22) (ap (λ r. M.Heartbeat r) (c .take-heartbeat .ensures))
+
+returns-24 : tie.Need-returns-24
+returns-24 c = let a = c .before .before .before .before .before .args in at-kind (a .kind) (a .payload .now) (typed.obs-read (a .payload .now)) (c .obs .ensures) (c .before .match .keys23)
+
+returns-25 : tie.Need-returns-25
+unfolding entryFor
+returns-25 c = let w = c .before .before in let a = w .before .before .before .args in gives (a .kind) (a .payload .now) (w .before .answer .ensures) (w .if1 .left) (c .before .match .keys24) (ap (λ r. M.Log r) (c .take-log .ensures))
+
+returns-26 : tie.Need-returns-26
+returns-26 c = let a = c .before .before .before .before .args in at-none (a .kind) (a .payload .now) (c .match .rest)
 
 pub read-spec : {M : Type 1} → statement M
-read-spec = tie.close (tie.spec answer-requires returns take-gps-time-requires take-dops-requires take-pos-ecef-requires take-pos-llh-requires take-ecef-requires take-ecef-requires-2 take-ned-requires take-ned-requires-2 take-baseline-heading-requires take-base-pos-llh-requires take-base-pos-ecef-requires take-read-by-index-req-requires take-startup-requires take-heartbeat-requires obs-requires take-log-requires returns-2 returns-3 returns-4 returns-5 returns-6 returns-7 returns-8 returns-9 returns-10 returns-11 returns-12 returns-13 returns-14 returns-15 returns-16 returns-17 returns-18 returns-19 returns-20)
+read-spec = tie.close (tie.spec answer-requires returns take-gps-time-requires take-dops-requires take-pos-ecef-requires take-pos-llh-requires take-ecef-requires take-ecef-requires-2 take-ned-requires take-ned-requires-2 take-baseline-heading-requires take-base-pos-llh-requires take-base-pos-ecef-requires take-ephemeris-gps-requires take-ephemeris-sbas-requires take-ephemeris-glo-requires take-iono-requires take-sv-configuration-gps-requires take-group-delay-requires take-read-by-index-req-requires take-startup-requires take-heartbeat-requires obs-requires take-log-requires returns-2 returns-3 returns-4 returns-5 returns-6 returns-7 returns-8 returns-9 returns-10 returns-11 returns-12 returns-13 returns-14 returns-15 returns-16 returns-17 returns-18 returns-19 returns-20 returns-21 returns-22 returns-23 returns-24 returns-25 returns-26)

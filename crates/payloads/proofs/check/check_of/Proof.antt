@@ -78,7 +78,31 @@ unfolding checkIn
 returns-18 c = sym (ap checkFor (c .match .keys18))
 
 returns-19 : tie.Need-returns-19
-returns-19 c = no-check document (c .before .args .kind) (c .match .rest) .1
+unfolding checkIn
+returns-19 c = sym (ap checkFor (c .match .keys19))
+
+returns-20 : tie.Need-returns-20
+unfolding checkIn
+returns-20 c = sym (ap checkFor (c .match .keys20))
+
+returns-21 : tie.Need-returns-21
+unfolding checkIn
+returns-21 c = sym (ap checkFor (c .match .keys21))
+
+returns-22 : tie.Need-returns-22
+unfolding checkIn
+returns-22 c = sym (ap checkFor (c .match .keys22))
+
+returns-23 : tie.Need-returns-23
+unfolding checkIn
+returns-23 c = sym (ap checkFor (c .match .keys23))
+
+returns-24 : tie.Need-returns-24
+unfolding checkIn
+returns-24 c = sym (ap checkFor (c .match .keys24))
+
+returns-25 : tie.Need-returns-25
+returns-25 c = no-check document (c .before .args .kind) (c .match .rest) .1
 
 pub check-of-spec : {M : Type 1} → statement M
-check-of-spec = tie.close (tie.spec returns returns-2 returns-3 returns-4 returns-5 returns-6 returns-7 returns-8 returns-9 returns-10 returns-11 returns-12 returns-13 returns-14 returns-15 returns-16 returns-17 returns-18 returns-19)
+check-of-spec = tie.close (tie.spec returns returns-2 returns-3 returns-4 returns-5 returns-6 returns-7 returns-8 returns-9 returns-10 returns-11 returns-12 returns-13 returns-14 returns-15 returns-16 returns-17 returns-18 returns-19 returns-20 returns-21 returns-22 returns-23 returns-24 returns-25)

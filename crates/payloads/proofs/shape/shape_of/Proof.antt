@@ -64,6 +64,24 @@ digits-requires-18 c κs = search needs
 digits-requires-19 : tie.Need-digits-requires-19
 digits-requires-19 c κs = search needs
 
+digits-requires-20 : tie.Need-digits-requires-20
+digits-requires-20 c κs = search needs
+
+digits-requires-21 : tie.Need-digits-requires-21
+digits-requires-21 c κs = search needs
+
+digits-requires-22 : tie.Need-digits-requires-22
+digits-requires-22 c κs = search needs
+
+digits-requires-23 : tie.Need-digits-requires-23
+digits-requires-23 c κs = search needs
+
+digits-requires-24 : tie.Need-digits-requires-24
+digits-requires-24 c κs = search needs
+
+digits-requires-25 : tie.Need-digits-requires-25
+digits-requires-25 c κs = search needs
+
 returns : tie.Need-returns
 unfolding entryFor
 returns c = c .digits .ensures ∙ sym (ap shapeFor (c .before .match .keys1))
@@ -137,7 +155,31 @@ unfolding entryFor
 returns-18 c = c .digits18 .ensures ∙ sym (ap shapeFor (c .before .match .keys18))
 
 returns-19 : tie.Need-returns-19
-returns-19 c = c .digits19 .ensures ∙ sym (ap (λ (e : Entry). shapeOf (e .layout)) (no-entry table (c .before .before .args .kind) (c .before .match .rest) .1))
+unfolding entryFor
+returns-19 c = c .digits19 .ensures ∙ sym (ap shapeFor (c .before .match .keys19))
+
+returns-20 : tie.Need-returns-20
+unfolding entryFor
+returns-20 c = c .digits20 .ensures ∙ sym (ap shapeFor (c .before .match .keys20))
+
+returns-21 : tie.Need-returns-21
+unfolding entryFor
+returns-21 c = c .digits21 .ensures ∙ sym (ap shapeFor (c .before .match .keys21))
+
+returns-22 : tie.Need-returns-22
+unfolding entryFor
+returns-22 c = c .digits22 .ensures ∙ sym (ap shapeFor (c .before .match .keys22))
+
+returns-23 : tie.Need-returns-23
+unfolding entryFor
+returns-23 c = c .digits23 .ensures ∙ sym (ap shapeFor (c .before .match .keys23))
+
+returns-24 : tie.Need-returns-24
+unfolding entryFor
+returns-24 c = c .digits24 .ensures ∙ sym (ap shapeFor (c .before .match .keys24))
+
+returns-25 : tie.Need-returns-25
+returns-25 c = c .digits25 .ensures ∙ sym (ap (λ (e : Entry). shapeOf (e .layout)) (no-entry table (c .before .before .args .kind) (c .before .match .rest) .1))
 
 pub shape-of-spec : {M : Type 1} → statement M
-shape-of-spec = tie.close (tie.spec digits-requires digits-requires-2 digits-requires-3 digits-requires-4 digits-requires-5 digits-requires-6 digits-requires-7 digits-requires-8 digits-requires-9 digits-requires-10 digits-requires-11 digits-requires-12 digits-requires-13 digits-requires-14 digits-requires-15 digits-requires-16 digits-requires-17 digits-requires-18 digits-requires-19 returns returns-2 returns-3 returns-4 returns-5 returns-6 returns-7 returns-8 returns-9 returns-10 returns-11 returns-12 returns-13 returns-14 returns-15 returns-16 returns-17 returns-18 returns-19)
+shape-of-spec = tie.close (tie.spec digits-requires digits-requires-2 digits-requires-3 digits-requires-4 digits-requires-5 digits-requires-6 digits-requires-7 digits-requires-8 digits-requires-9 digits-requires-10 digits-requires-11 digits-requires-12 digits-requires-13 digits-requires-14 digits-requires-15 digits-requires-16 digits-requires-17 digits-requires-18 digits-requires-19 digits-requires-20 digits-requires-21 digits-requires-22 digits-requires-23 digits-requires-24 digits-requires-25 returns returns-2 returns-3 returns-4 returns-5 returns-6 returns-7 returns-8 returns-9 returns-10 returns-11 returns-12 returns-13 returns-14 returns-15 returns-16 returns-17 returns-18 returns-19 returns-20 returns-21 returns-22 returns-23 returns-24 returns-25)

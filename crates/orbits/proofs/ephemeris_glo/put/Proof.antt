@@ -1,0 +1,34 @@
+-- `orbits::ephemeris_glo::put` meets its contract: one store after the other.
+use borrow.Author.Needs.{needs}
+use Rattle.wire.proofs.Fields.{then}
+use Rattle.wire.proofs.Together.{then-part}
+use Rattle.orbits.specs.Motion.{motion}
+use Rattle.orbits.proofs.ephemeris_glo.put.Statement.{statement}
+use Rattle.orbits.proofs.ephemeris_glo.put.Tie as tie
+
+put-requires : tie.Need-put-requires
+put-requires c κs = search needs
+
+store-double-requires : tie.Need-store-double-requires
+store-double-requires c κs = search needs
+
+store-double-requires-2 : tie.Need-store-double-requires-2
+store-double-requires-2 c κs = search needs
+
+put-requires-2 : tie.Need-put-requires-2
+put-requires-2 c κs = search needs
+
+same-length : tie.Need-same-length
+same-length c = search needs
+
+returns : tie.Need-returns
+returns c =
+    let k4 = c .before .before in
+    let k3 = k4 .before .before .before .before in
+    let k2 = k3 .before .before .before .before in
+    let k1 = k2 .before .before .before .before in
+    let a = k1 .before .before .before .args in
+    then-part motion (a .r .motion) 46 (then _ _ _ (then _ _ _ (k1 .put .ensures) (k2 .store-double .ensures)) (k3 .store-double2 .ensures)) (k4 .put2 .ensures)
+
+pub put-spec : {M : Type 1} → statement M
+put-spec = tie.close (tie.spec put-requires store-double-requires store-double-requires-2 put-requires-2 same-length returns)

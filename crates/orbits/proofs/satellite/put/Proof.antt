@@ -1,0 +1,27 @@
+-- `orbits::satellite::put` meets its contract: one store after the other.
+use borrow.Author.Needs.{needs}
+use Rattle.wire.proofs.Fields.{then}
+use Rattle.orbits.proofs.satellite.put.Statement.{statement}
+use Rattle.orbits.proofs.satellite.put.Tie as tie
+
+store-u16-requires : tie.Need-store-u16-requires
+store-u16-requires c κs = search needs
+
+store-u8-requires : tie.Need-store-u8-requires
+store-u8-requires c κs = search needs
+
+store-u8-requires-2 : tie.Need-store-u8-requires-2
+store-u8-requires-2 c κs = search needs
+
+same-length : tie.Need-same-length
+same-length c = search needs
+
+returns : tie.Need-returns
+returns c =
+    let k3 = c .before .before in
+    let k2 = k3 .before .before .before .before in
+    let k1 = k2 .before .before .before .before in
+    then _ _ _ (then _ _ _ (k1 .store-u16 .ensures) (k2 .store-u8 .ensures)) (k3 .store-u82 .ensures)
+
+pub put-spec : {M : Type 1} → statement M
+put-spec = tie.close (tie.spec store-u16-requires store-u8-requires store-u8-requires-2 same-length returns)

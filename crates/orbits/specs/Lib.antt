@@ -1,0 +1,8 @@
+pub mod Common
+pub mod Motion
+pub mod EphemerisGps
+pub mod EphemerisSbas
+pub mod EphemerisGlo
+pub mod Iono
+pub mod SvConfigurationGps
+pub mod GroupDelay

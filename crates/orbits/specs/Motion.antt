@@ -1,0 +1,21 @@
+-- Position in m, velocity in m/s and acceleration in m/s^2 of a satellite, 72 bytes. Assumes nothing.
+use mathlib.Core.Path.{refl}
+use mathlib.Core.List.{[], _∷_}
+use Rattle.wire.specs.Field.{any, double}
+use Rattle.wire.specs.Description.{Part}
+use Rattle.wire.specs.Together.{both, named}
+use Rattle.orbits.specs.declared.motion.Vector.{Vector}
+use Rattle.orbits.specs.declared.motion.Motion.{Motion}
+
+-- 003's double[3]
+abbrev pub vector : Part Vector
+vector = record {
+  fields = any double ∷ any double ∷ any double ∷ [];
+  row = λ r. (r .x, (r .y, (r .z, tt)));
+  make = λ v. record { x = v .0; y = v .1 .0; z = v .1 .1 .0 };
+  row-make = λ v. refl;
+  make-row = λ r. refl;
+}
+
+abbrev pub motion : Part Motion
+motion = named (both vector (both vector vector)) (λ r. (r .pos, (r .vel, r .acc))) (λ a. record { pos = a .0; vel = a .1 .0; acc = a .1 .1 }) (λ a. refl) (λ r. refl)
