@@ -121,6 +121,23 @@ def each():
             yield message(name, bytes(size))
 
 
+# minus zero, both infinities, both ends of the subnormals, two NaN patterns
+DOUBLES = (0x8000000000000000, 0x7FF0000000000000, 0xFFF0000000000000, 1, 0x800FFFFFFFFFFFFF, 0x7FF0000000000001, 0xFFF8000000000123)
+
+
+def orbits():
+    """Each kind of double in each place of the ephemerides and of IONO, and group delays at the ends of their range."""
+    for turn in range(7):
+        filled = b"".join(struct.pack("<Q", DOUBLES[(turn + i) % 7]) for i in range(19))
+        plain = mixed(5, 37, 300)
+        payload = plain[:10] + filled[:8] + plain[18:24] + filled + plain[176:]
+        for name, size in ("ephemeris-gps", 185), ("ephemeris-sbas", 112), ("ephemeris-glo", 112):
+            yield message(name, payload[:size])
+        yield message("iono", plain[:6] + filled[:64])
+    for delays in (-2**15, 2**15 - 1, -1), (-1, -2**15, 2**15 - 1), (2**15 - 1, -1, -2**15):
+        yield message("group-delay", struct.pack("<IHBBhhh", 0, 0, 0, 0, *delays))
+
+
 def flags():
     """A flags byte at all values: each ranged message's answer and its fix mode, then the single flags; and HEARTBEAT's, bit by bit."""
     for flags in range(256):
@@ -213,7 +230,8 @@ def walks():
 def types():
     sizes = {kind: [struct.calcsize("<" + layout)] for kind, layout, _ in MESSAGES.values()}
     sizes.update({OBS: range(7, 248, 16), 0x0401: range(1, 256)})
-    order = (0x0100, 0x0206, 0x0200, 0x0201, 0x0202, 0x0204, 0x0203, 0x0205, 0x0207, 0x0044, 0x0048, 0x0049, 0x0401, 0x00A1, 0x00A6, 0x00A2, 0xFF00, 0xFFFF)
+    order = (0x0100, 0x0206, 0x0200, 0x0201, 0x0202, 0x0204, 0x0203, 0x0205, 0x0207, 0x0044, 0x0048, 0x0081, 0x0082, 0x0083, 0x0090, 0x0091, 0x0092,
+             0x0049, 0x0401, 0x00A1, 0x00A6, 0x00A2, 0xFF00, 0xFFFF)
     for kind in order:
         yield "lengths %04x %s" % (kind, " ".join("%d" % n for n in sizes[kind]))
     yield "types %d %d" % (65536 - len(order), sum(0 not in sizes[kind] for kind in order))
@@ -263,7 +281,7 @@ def collated():
 
 
 def lines():
-    for part in checksums, numbers, doubles, captures, written, each, flags, observations, logs, walks, types, collated:
+    for part in checksums, numbers, doubles, captures, written, each, orbits, flags, observations, logs, walks, types, collated:
         yield from part()
 
 

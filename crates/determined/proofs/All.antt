@@ -9,7 +9,7 @@ use contract.Monad.{Fun}
 use Rattle.determined.specs.Public as public
 use Rattle.determined.proofs.Determining as by
 
-ruleset determinations = (id⊢, by.plain, by.stored, by.plain-stored, by.plain-stored-stored, by.written-stored, by.reader, by.asked, by.stepped, by.gps-time, by.dilutions, by.pos-ecef, by.pos-llh, by.ecef-vector, by.ned-vector, by.baseline-heading, by.base-pos-llh, by.base-pos-ecef, by.obs, by.one-observation, by.phase-parts, by.log, by.empty, by.read-by-index-req, by.start-up, by.heart-beat, by.reading, by.packet-read, by.recognised, by.written)
+ruleset determinations = (id⊢, by.plain, by.stored, by.plain-stored, by.plain-stored-stored, by.written-stored, by.reader, by.asked, by.stepped, by.gps-time, by.dilutions, by.pos-ecef, by.pos-llh, by.ecef-vector, by.ned-vector, by.baseline-heading, by.base-pos-llh, by.base-pos-ecef, by.ephemeris-gps, by.ephemeris-sbas, by.ephemeris-glo, by.ionosphere, by.sv-configuration-gps, by.group-delay, by.obs, by.one-observation, by.phase-parts, by.log, by.empty, by.read-by-index-req, by.start-up, by.heart-beat, by.reading, by.packet-read, by.recognised, by.written)
 
 module _ {M : Type 1} (𝓤 : URA M) (H : Heap 𝓤) (A : Atoms 𝓤) (mem : Memory → SProp 𝓤) (run : Routine → Fun 𝓤) where
   pub wire : public.Wire 𝓤 H A mem run
@@ -32,6 +32,9 @@ module _ {M : Type 1} (𝓤 : URA M) (H : Heap 𝓤) (A : Atoms 𝓤) (mem : Mem
 
   pub observation : public.Observation 𝓤 H A mem run
   observation = search determinations
+
+  pub orbits : public.Orbits 𝓤 H A mem run
+  orbits = search determinations
 
   pub system : public.System 𝓤 H A mem run
   system = search determinations

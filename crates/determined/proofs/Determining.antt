@@ -34,6 +34,18 @@ use Rattle.observation.specs.declared.entry.Observation.{Observation}
 use Rattle.observation.specs.declared.entry.ObservationRead as ObservationRead
 use Rattle.observation.specs.declared.obs.ObsRead.the-variants as ObsRead
 use Rattle.observation.specs.declared.phase.PhaseParts.the-variants as PhaseParts
+use Rattle.orbits.specs.EphemerisGlo as EphemerisGlo
+use Rattle.orbits.specs.EphemerisGps as EphemerisGps
+use Rattle.orbits.specs.EphemerisSbas as EphemerisSbas
+use Rattle.orbits.specs.GroupDelay as GroupDelay
+use Rattle.orbits.specs.Iono as Iono
+use Rattle.orbits.specs.SvConfigurationGps as SvConfigurationGps
+use Rattle.orbits.specs.declared.ephemeris_gps.EphemerisGpsRead.the-variants as EphemerisGpsRead
+use Rattle.orbits.specs.declared.ephemeris_sbas.EphemerisSbasRead.the-variants as EphemerisSbasRead
+use Rattle.orbits.specs.declared.ephemeris_glo.EphemerisGloRead.the-variants as EphemerisGloRead
+use Rattle.orbits.specs.declared.iono.IonoRead.the-variants as IonoRead
+use Rattle.orbits.specs.declared.sv_configuration_gps.SvConfigurationGpsRead.the-variants as SvConfigurationGpsRead
+use Rattle.orbits.specs.declared.group_delay.GroupDelayRead.the-variants as GroupDelayRead
 use Rattle.system.specs.Empty as Empty
 use Rattle.system.specs.Heartbeat as Heartbeat
 use Rattle.system.specs.Log as Log
@@ -130,6 +142,24 @@ module _ {M : Type 1} (𝓤 : URA M) where
 
   pub base-pos-ecef : Answered BasePosEcef.answerOf
   base-pos-ecef = enum BasePosEcef.answerOf BasePosEcefRead.Record BasePosEcefRead.Refused (elim [ BasePosEcefRead.Record r ↦ refl | BasePosEcefRead.Refused n ↦ refl ])
+
+  pub ephemeris-gps : Answered EphemerisGps.answerOf
+  ephemeris-gps = enum EphemerisGps.answerOf EphemerisGpsRead.Record EphemerisGpsRead.Refused (elim [ EphemerisGpsRead.Record r ↦ refl | EphemerisGpsRead.Refused n ↦ refl ])
+
+  pub ephemeris-sbas : Answered EphemerisSbas.answerOf
+  ephemeris-sbas = enum EphemerisSbas.answerOf EphemerisSbasRead.Record EphemerisSbasRead.Refused (elim [ EphemerisSbasRead.Record r ↦ refl | EphemerisSbasRead.Refused n ↦ refl ])
+
+  pub ephemeris-glo : Answered EphemerisGlo.answerOf
+  ephemeris-glo = enum EphemerisGlo.answerOf EphemerisGloRead.Record EphemerisGloRead.Refused (elim [ EphemerisGloRead.Record r ↦ refl | EphemerisGloRead.Refused n ↦ refl ])
+
+  pub ionosphere : Answered Iono.answerOf
+  ionosphere = enum Iono.answerOf IonoRead.Record IonoRead.Refused (elim [ IonoRead.Record r ↦ refl | IonoRead.Refused n ↦ refl ])
+
+  pub sv-configuration-gps : Answered SvConfigurationGps.answerOf
+  sv-configuration-gps = enum SvConfigurationGps.answerOf SvConfigurationGpsRead.Record SvConfigurationGpsRead.Refused (elim [ SvConfigurationGpsRead.Record r ↦ refl | SvConfigurationGpsRead.Refused n ↦ refl ])
+
+  pub group-delay : Answered GroupDelay.answerOf
+  group-delay = enum GroupDelay.answerOf GroupDelayRead.Record GroupDelayRead.Refused (elim [ GroupDelayRead.Record r ↦ refl | GroupDelayRead.Refused n ↦ refl ])
 
   pub obs : Answered Obs.obsAnswer
   obs = enum Obs.obsAnswer ObsRead.Record ObsRead.Refused (elim [ ObsRead.Record r ↦ refl | ObsRead.Refused n ↦ refl ])

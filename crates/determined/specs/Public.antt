@@ -18,6 +18,7 @@ use Rattle.formats.proofs as formats
 use Rattle.frames.proofs as frames
 use Rattle.navigation.proofs as navigation
 use Rattle.observation.proofs as observation
+use Rattle.orbits.proofs as orbits
 use Rattle.system.proofs as system
 use Rattle.obs_reader.proofs as obs_reader
 use Rattle.payloads.proofs as payloads
@@ -141,6 +142,26 @@ module _ {M : Type 1} (𝓤 : URA M) (H : Heap 𝓤) (A : Atoms 𝓤) (mem : Mem
     pub write-obs : Determined 𝓤 observation.write_obs.ended (observation.write_obs.clauses 𝓤 H A mem run)
     pub carrier-phase : Determined 𝓤 observation.carrier_phase.ended (observation.carrier_phase.clauses 𝓤 H A mem run)
     pub phase-parts : Determined 𝓤 observation.phase_parts.ended (observation.phase_parts.clauses 𝓤 H A mem run)
+
+  pub record Orbits : Type 1 where
+    pub take-ephemeris-gps : Determined 𝓤 orbits.take_ephemeris_gps.ended (orbits.take_ephemeris_gps.clauses 𝓤 H A mem run)
+    pub read-ephemeris-gps : Determined 𝓤 orbits.read_ephemeris_gps.ended (orbits.read_ephemeris_gps.clauses 𝓤 H A mem run)
+    pub write-ephemeris-gps : Determined 𝓤 orbits.write_ephemeris_gps.ended (orbits.write_ephemeris_gps.clauses 𝓤 H A mem run)
+    pub take-ephemeris-sbas : Determined 𝓤 orbits.take_ephemeris_sbas.ended (orbits.take_ephemeris_sbas.clauses 𝓤 H A mem run)
+    pub read-ephemeris-sbas : Determined 𝓤 orbits.read_ephemeris_sbas.ended (orbits.read_ephemeris_sbas.clauses 𝓤 H A mem run)
+    pub write-ephemeris-sbas : Determined 𝓤 orbits.write_ephemeris_sbas.ended (orbits.write_ephemeris_sbas.clauses 𝓤 H A mem run)
+    pub take-ephemeris-glo : Determined 𝓤 orbits.take_ephemeris_glo.ended (orbits.take_ephemeris_glo.clauses 𝓤 H A mem run)
+    pub read-ephemeris-glo : Determined 𝓤 orbits.read_ephemeris_glo.ended (orbits.read_ephemeris_glo.clauses 𝓤 H A mem run)
+    pub write-ephemeris-glo : Determined 𝓤 orbits.write_ephemeris_glo.ended (orbits.write_ephemeris_glo.clauses 𝓤 H A mem run)
+    pub take-iono : Determined 𝓤 orbits.take_iono.ended (orbits.take_iono.clauses 𝓤 H A mem run)
+    pub read-iono : Determined 𝓤 orbits.read_iono.ended (orbits.read_iono.clauses 𝓤 H A mem run)
+    pub write-iono : Determined 𝓤 orbits.write_iono.ended (orbits.write_iono.clauses 𝓤 H A mem run)
+    pub take-sv-configuration-gps : Determined 𝓤 orbits.take_sv_configuration_gps.ended (orbits.take_sv_configuration_gps.clauses 𝓤 H A mem run)
+    pub read-sv-configuration-gps : Determined 𝓤 orbits.read_sv_configuration_gps.ended (orbits.read_sv_configuration_gps.clauses 𝓤 H A mem run)
+    pub write-sv-configuration-gps : Determined 𝓤 orbits.write_sv_configuration_gps.ended (orbits.write_sv_configuration_gps.clauses 𝓤 H A mem run)
+    pub take-group-delay : Determined 𝓤 orbits.take_group_delay.ended (orbits.take_group_delay.clauses 𝓤 H A mem run)
+    pub read-group-delay : Determined 𝓤 orbits.read_group_delay.ended (orbits.read_group_delay.clauses 𝓤 H A mem run)
+    pub write-group-delay : Determined 𝓤 orbits.write_group_delay.ended (orbits.write_group_delay.clauses 𝓤 H A mem run)
 
   pub record System : Type 1 where
     pub read-settings-save : Determined 𝓤 system.read_settings_save.ended (system.read_settings_save.clauses 𝓤 H A mem run)

@@ -88,7 +88,9 @@ pub fn read(kind: u16, payload: &[u8]) -> Reading
         0x0082 => Reading::Record(Message::EphemerisSbas(orbits::take_ephemeris_sbas(payload))),
         0x0083 => Reading::Record(Message::EphemerisGlo(orbits::take_ephemeris_glo(payload))),
         0x0090 => Reading::Record(Message::Iono(orbits::take_iono(payload))),
-        0x0091 => Reading::Record(Message::SvConfigurationGps(orbits::take_sv_configuration_gps(payload))),
+        0x0091 => Reading::Record(Message::SvConfigurationGps(orbits::take_sv_configuration_gps(
+            payload,
+        ))),
         0x0092 => Reading::Record(Message::GroupDelay(orbits::take_group_delay(payload))),
         0x00a1 => Reading::Record(Message::SettingsSave),
         0x00a6 => Reading::Record(Message::ReadByIndexDone),

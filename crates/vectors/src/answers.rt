@@ -20,6 +20,12 @@ fn each(s: &[u8]) {
     known(s, 0x0207);
     known(s, 0x0044);
     known(s, 0x0048);
+    known(s, 0x0081);
+    known(s, 0x0082);
+    known(s, 0x0083);
+    known(s, 0x0090);
+    known(s, 0x0091);
+    known(s, 0x0092);
     known(s, 0x0049);
     known(s, 0x0401);
     known(s, 0x00a1);

@@ -1,5 +1,6 @@
 // Every message of a fixed length: at its length and one off, at the ends of its ranges, with NaNs and minus zero.
 use crate::messages;
+use crate::orbit_messages;
 use crate::payload::front;
 use crate::payload::mixed;
 
@@ -32,7 +33,10 @@ fn off(s: &[u8], n: usize, size: usize) -> &[u8] {
 fn near(s: &[u8], n: usize) {
     times_and_positions(s, n);
     vectors(s, n);
-    bases_and_system(s, n);
+    bases(s, n);
+    ephemerides(s, n);
+    atmosphere(s, n);
+    system(s, n);
 }
 
 fn times_and_positions(s: &[u8], n: usize) {
@@ -50,9 +54,24 @@ fn vectors(s: &[u8], n: usize) {
     messages::baseline_heading(off(s, n, 10));
 }
 
-fn bases_and_system(s: &[u8], n: usize) {
+fn bases(s: &[u8], n: usize) {
     messages::base_pos_llh(off(s, n, 24));
     messages::base_pos_ecef(off(s, n, 24));
+}
+
+fn ephemerides(s: &[u8], n: usize) {
+    orbit_messages::ephemeris_gps(off(s, n, 185));
+    orbit_messages::ephemeris_sbas(off(s, n, 112));
+    orbit_messages::ephemeris_glo(off(s, n, 112));
+}
+
+fn atmosphere(s: &[u8], n: usize) {
+    orbit_messages::iono(off(s, n, 70));
+    orbit_messages::sv_configuration_gps(off(s, n, 10));
+    orbit_messages::group_delay(off(s, n, 14));
+}
+
+fn system(s: &[u8], n: usize) {
     messages::read_by_index_req(off(s, n, 2));
     messages::startup(off(s, n, 4));
     messages::heartbeat(off(s, n, 4));

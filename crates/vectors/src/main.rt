@@ -12,6 +12,8 @@ mod logs;
 mod messages;
 mod numbers;
 mod observations;
+mod orbit_messages;
+mod orbit_values;
 mod payload;
 mod print;
 mod walks;
@@ -24,6 +26,7 @@ fn main() {
     captures::run();
     written::run();
     each::run();
+    orbit_values::run();
     flags::run();
     observations::run();
     logs::run();
