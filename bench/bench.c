@@ -168,10 +168,10 @@ static void rusts_listing(void) { text = rust_list(capture, length, told); }
 
 /* ---- rows: payloads of a clean capture read, and some rows written again and again */
 
-enum { FIELDS_MOST = 8, KEPT_MOST = 4096 };
+enum { KEPT_MOST = 4096 };
 
 static struct kept {
-    uint64_t row[FIELDS_MOST];
+    uint64_t row[SBP_FIELDS_MOST];
     size_t fields;
     uint16_t kind, sender;
 } kept[KEPT_MOST];
@@ -186,9 +186,9 @@ static void keep_rows(void) {
         uint64_t size;
         uint8_t out[FRAME_MOST];
         k->kind = (uint16_t)(f[1] | f[2] << 8), k->sender = (uint16_t)(f[3] | f[4] << 8);
-        twin_read(k->kind, f + 6, f[5], k->row, FIELDS_MOST);
+        twin_read(k->kind, f + 6, f[5], k->row, SBP_FIELDS_MOST);
         /* the number of fields is the one that it is written with */
-        for (k->fields = 0; k->fields <= FIELDS_MOST; k->fields++) {
+        for (k->fields = 0; k->fields <= SBP_FIELDS_MOST; k->fields++) {
             if (twin_write(out, sizeof out, k->kind, k->sender, k->row, k->fields, &size) == 0) {
                 kept_count++;
                 break;
@@ -200,12 +200,12 @@ static void keep_rows(void) {
 typedef uint8_t (*reader)(uint16_t kind, const uint8_t *payload, size_t n, uint64_t *row, size_t room);
 typedef uint8_t (*writer)(uint8_t *out, size_t room, uint16_t kind, uint32_t sender, const uint64_t *row, size_t fields, uint64_t *size);
 
-/* The sum of all answers, and sums of the rows' numbers. */
+/* The sum of all answers, and sums of the first eight numbers: same_rows has compared the rest. */
 static inline void read_all(reader read) {
-    uint64_t row[FIELDS_MOST] = {0};
+    uint64_t row[SBP_FIELDS_MOST] = {0};
     for (size_t at = 0; at < length; at += capture[at + 5] + 8u) {
         const uint8_t *f = capture + at;
-        told[0] += read((uint16_t)(f[1] | f[2] << 8), f + 6, f[5], row, FIELDS_MOST);
+        told[0] += read((uint16_t)(f[1] | f[2] << 8), f + 6, f[5], row, SBP_FIELDS_MOST);
         told[1] += row[0] ^ row[1], told[2] += row[2] ^ row[3] ^ row[4], told[3] += row[5] ^ row[6] ^ row[7];
     }
 }
@@ -213,6 +213,25 @@ static inline void read_all(reader read) {
 static void our_rows(void) { read_all(sbp_read); }
 static void twins_rows(void) { read_all(twin_read); }
 static void rusts_rows(void) { read_all(rust_read); }
+
+/* Every row in all its numbers, before it is timed: to sum up 32 of them would be timed too. */
+static void same_rows(void) {
+    const reader twins[] = {twin_read, rust_read};
+    for (size_t at = 0; at < length; at += capture[at + 5] + 8u) {
+        const uint8_t *f = capture + at;
+        uint16_t kind = (uint16_t)(f[1] | f[2] << 8);
+        uint64_t ours[SBP_FIELDS_MOST] = {0};
+        sbp_read(kind, f + 6, f[5], ours, SBP_FIELDS_MOST);
+        for (int i = 0; i < 2; i++) {
+            uint64_t row[SBP_FIELDS_MOST] = {0};
+            twins[i](kind, f + 6, f[5], row, SBP_FIELDS_MOST);
+            if (memcmp(ours, row, sizeof row) != 0) {
+                fprintf(stderr, "side %d reads another row of type %#06x\n", C + i, kind);
+                exit(EXIT_FAILURE);
+            }
+        }
+    }
+}
 
 /* Frames one after the other, as text. */
 static inline void write_all(writer write) {
@@ -274,6 +293,11 @@ static void readings(const char *by_frame, const char *in_one, int rounds) {
     timed(in_one, rounds, 1, (const side[SIDES]){our_totals, twins_reading, rusts_reading, sliced_reading});
 }
 
+static void reading_rows(const char *name, int rounds) {
+    same_rows();
+    timed(name, rounds, 1, (const side[SIDES]){our_rows, twins_rows, rusts_rows, NULL});
+}
+
 int main(int argc, char **argv) {
     int mebibytes = argc > 1 ? atoi(argv[1]) : 64, rounds = argc > 2 ? atoi(argv[2]) : 9;
     if (mebibytes < 1 || mebibytes > 1024 || rounds < 1 || rounds > ROUNDS_MAX) {
@@ -291,14 +315,14 @@ int main(int argc, char **argv) {
     readings("closed reading, clean, frame by frame", "closed reading, clean, in one call", rounds);
     timed("feeding epochs", rounds, 1, (const side[SIDES]){our_feeding, twins_feeding, rusts_feeding, NULL});
     texts(most);
-    timed("rows read of LOG, 80 bytes of text", rounds, 1, (const side[SIDES]){our_rows, twins_rows, rusts_rows, NULL});
+    reading_rows("rows read of LOG, 80 bytes of text", rounds);
     mixed(most);
-    timed("rows read of all 18 messages", rounds, 1, (const side[SIDES]){our_rows, twins_rows, rusts_rows, NULL});
+    reading_rows("rows read of all 24 messages", rounds);
     keep_rows();
     writing_room = length;
     twins_writing();
     length = told[0];
-    timed("rows written of 16 messages", rounds, 1, (const side[SIDES]){our_writing, twins_writing, rusts_writing, NULL});
+    timed("rows written of 22 messages", rounds, 1, (const side[SIDES]){our_writing, twins_writing, rusts_writing, NULL});
     noise(most);
     readings("closed reading, noise, frame by frame", "closed reading, noise, in one call", rounds);
     /* Every byte begins a frame of 93 that is bad: some 200 ns a byte, so a 64th of them. */

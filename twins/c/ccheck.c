@@ -1,10 +1,12 @@
-/* Checks what clist does not show: the published CRC values, a LOG longer than
- * any frame's, the collator's making and refusals, and the counts of closed
- * reading. */
+/* Checks what clist does not show: the published CRC values, that a message's
+ * fields fill its length, a LOG longer than any frame's, the collator's making
+ * and refusals, and the counts of closed reading. */
 #include "fast.h"
 
 #include <stdio.h>
 #include <string.h>
+
+#include "messages.h"
 
 static int failed;
 
@@ -16,8 +18,29 @@ static void check(int holds, const char *what)
     }
 }
 
+/* The bytes of fields by their letters. */
+static size_t width(const char *letters)
+{
+    size_t sum = 0;
+    for (; *letters != 0; letters++)
+        sum += *letters == 's'   ? 4
+               : *letters == 'h' ? 2
+                                 : (size_t)(*letters - '0');
+    return sum;
+}
+
+static void check_lengths(void)
+{
+#define MESSAGE(type, letters, length, highest_mode)                           \
+    check(width(letters) == length, "length of " #type);
+    SBP_MESSAGES(MESSAGE)
+#undef MESSAGE
+}
+
 int main(void)
 {
+    check_lengths();
+
     const uint8_t nine[] = "123456789";
     check(sbp_crc(nine, 0) == 0, "CRC of nothing");
     check(sbp_crc(nine, 9) == 0x31C3, "CRC of 123456789");

@@ -2,6 +2,8 @@
 
 #include <string.h>
 
+#include "messages.h"
+
 enum { PREAMBLE = 0x55, HEADER = 6, AROUND = 8, OBS = 0x0049 };
 
 /* The CRC of each single byte: eight single-bit steps with x^16 + x^12 +
@@ -120,13 +122,16 @@ static inline int obs_length(size_t length)
     return length % 16 == 7 && length <= 247;
 }
 
-/* One length, and the fix mode: the low three bits of flags, the last byte. */
+/* One length; then GPS_TIME's ns, or the fix mode in the last byte. */
 static inline int fixed_length(const uint8_t *payload, size_t length,
                                size_t wanted, int highest_mode)
 {
     if (length != wanted)
         return 22;
-    if (highest_mode < 7 && (payload[length - 1] & 7) > highest_mode)
+    /* From -500000 to 500000, both moved up by 500000. */
+    if (highest_mode == NS_RANGE)
+        return get32(payload + 6) + 500000u <= 1000000u ? 0 : 23;
+    if (highest_mode < ANY_MODE && (payload[length - 1] & 7) > highest_mode)
         return 23;
     return 0;
 }
@@ -146,45 +151,16 @@ static inline int log_answer(const uint8_t *payload, size_t length)
 
 int sbp_answer(uint16_t type, const uint8_t *payload, size_t length)
 {
-    enum { ANY = 7 };
     switch (type) {
-    case 0x0100: {
-        if (length != 11)
-            return 22;
-        /* From -500000 to 500000, both moved up by 500000. */
-        return get32(payload + 6) + 500000u <= 1000000u ? 0 : 23;
-    }
-    case 0x0206:
-        return fixed_length(payload, length, 14, ANY);
-    case 0x0200:
-        return fixed_length(payload, length, 32, 2);
-    case 0x0201:
-        return fixed_length(payload, length, 34, 2);
-    case 0x0202:
-        return fixed_length(payload, length, 20, 1);
-    case 0x0203:
-        return fixed_length(payload, length, 22, 1);
-    case 0x0204:
-        return fixed_length(payload, length, 20, ANY);
-    case 0x0205:
-        return fixed_length(payload, length, 22, ANY);
-    case 0x0207:
-        return fixed_length(payload, length, 10, 1);
-    case 0x0044:
-    case 0x0048:
-        return fixed_length(payload, length, 24, ANY);
+#define MESSAGE(kind, letters, wanted, highest_mode)                           \
+    case kind:                                                                 \
+        return fixed_length(payload, length, wanted, highest_mode);
+        SBP_MESSAGES(MESSAGE)
+#undef MESSAGE
     case OBS:
         return obs_length(length) ? 0 : 22;
     case 0x0401:
         return log_answer(payload, length);
-    case 0x00A1:
-    case 0x00A6:
-        return fixed_length(payload, length, 0, ANY);
-    case 0x00A2:
-        return fixed_length(payload, length, 2, ANY);
-    case 0xFF00:
-    case 0xFFFF:
-        return fixed_length(payload, length, 4, ANY);
     default:
         return 21;
     }

@@ -1,6 +1,6 @@
-/* SBP 1.1 frames (document 003) under the rules of document 01 and of request
- * P1: CRC, closed reading, epochs, and the listing of a capture. No memory is
- * allocated. */
+/* SBP 1.1 frames (document 003) under the rules of document 01 and of requests
+ * P1 and P2: CRC, closed reading, epochs, and the listing of a capture. No
+ * memory is allocated. */
 #ifndef FAST_H
 #define FAST_H
 

@@ -3,14 +3,13 @@
 #include <string.h>
 
 #include "fast.h"
+#include "messages.h"
 
 enum { PREAMBLE = 0x55, HEADER = 6, AROUND = 8, NO_SENDER = 0x42 };
 enum { OBS = 0x0049, OBS_HEAD = 7, OBS_EACH = 16, OBS_MAX = 15 };
 enum { LOG = 0x0401, LOG_TEXT_MAX = 254 };
-enum { GPS_TIME_NS = 2, ANY_MODE = 7 };
+enum { GPS_TIME_NS = 2 };
 
-/* A field's letter: 1, 2, 4 or 8 unsigned bytes, or s for a signed four. The
- * highest fix mode, where it is not any, is for the last field, flags. */
 struct format {
     const char *letters;
     uint8_t fields;
@@ -18,55 +17,23 @@ struct format {
     uint8_t highest_mode;
 };
 
-static const struct format gps_time = {"24s1", 4, 11, ANY_MODE};
-static const struct format dops = {"422222", 6, 14, ANY_MODE};
-static const struct format pos_ecef = {"4888211", 7, 32, 2};
-static const struct format pos_llh = {"48882211", 8, 34, 2};
-static const struct format baseline_ecef = {"4sss211", 7, 20, 1};
-static const struct format vel_ecef = {"4sss211", 7, 20, ANY_MODE};
-static const struct format baseline_ned = {"4sss2211", 8, 22, 1};
-static const struct format vel_ned = {"4sss2211", 8, 22, ANY_MODE};
-static const struct format heading = {"4411", 4, 10, 1};
-static const struct format base_pos = {"888", 3, 24, ANY_MODE};
-static const struct format nothing = {"", 0, 0, ANY_MODE};
-static const struct format index_only = {"2", 1, 2, ANY_MODE};
-static const struct format word_only = {"4", 1, 4, ANY_MODE};
-static const struct format obs_head = {"421", 3, OBS_HEAD, ANY_MODE};
-static const struct format observation = {"4s112211", 8, OBS_EACH, ANY_MODE};
+#define FORMAT(letters, length, highest_mode)                                  \
+    {letters, sizeof letters - 1, length, highest_mode}
+
+static const struct format obs_head = FORMAT("421", OBS_HEAD, ANY_MODE);
+static const struct format observation = FORMAT("4s112211", OBS_EACH, ANY_MODE);
 
 /* For the messages without a tail; NULL for all else. */
 static const struct format *format_of(uint16_t kind)
 {
     switch (kind) {
-    case 0x0100:
-        return &gps_time;
-    case 0x0206:
-        return &dops;
-    case 0x0200:
-        return &pos_ecef;
-    case 0x0201:
-        return &pos_llh;
-    case 0x0202:
-        return &baseline_ecef;
-    case 0x0203:
-        return &baseline_ned;
-    case 0x0204:
-        return &vel_ecef;
-    case 0x0205:
-        return &vel_ned;
-    case 0x0207:
-        return &heading;
-    case 0x0044:
-    case 0x0048:
-        return &base_pos;
-    case 0x00A1:
-    case 0x00A6:
-        return &nothing;
-    case 0x00A2:
-        return &index_only;
-    case 0xFF00:
-    case 0xFFFF:
-        return &word_only;
+#define MESSAGE(type, letters, length, highest_mode)                           \
+    case type: {                                                               \
+        static const struct format f = FORMAT(letters, length, highest_mode);  \
+        return &f;                                                             \
+    }
+        SBP_MESSAGES(MESSAGE)
+#undef MESSAGE
     default:
         return NULL;
     }
@@ -103,6 +70,10 @@ static void take_fields(const char *letters, const uint8_t *p, uint64_t *row)
             *row++ = get(p, 4);
             p += 4;
             break;
+        case 'h':
+            *row++ = (uint64_t)(int64_t)(int16_t)(uint16_t)get(p, 2);
+            p += 2;
+            break;
         case 's':
             *row++ = (uint64_t)(int64_t)(int32_t)(uint32_t)get(p, 4);
             p += 4;
@@ -122,6 +93,7 @@ static uint8_t *put_fields(const char *letters, const uint64_t *row, uint8_t *p)
             *p++ = (uint8_t)*row++;
             break;
         case '2':
+        case 'h':
             p = put(p, *row++, 2);
             break;
         case '8':
@@ -151,8 +123,12 @@ static bool fit(const char *letters, const uint64_t *row)
             if (*row > UINT32_MAX)
                 return false;
             break;
+        case 'h':
+            /* Moved up by 2^15: that ends where the signed numbers do. */
+            if (*row + 0x8000u > UINT16_MAX)
+                return false;
+            break;
         case 's':
-            /* Moved up by 2^31: that ends where the signed numbers do. */
             if (*row + 0x80000000u > UINT32_MAX)
                 return false;
             break;
@@ -166,7 +142,7 @@ static bool fit(const char *letters, const uint64_t *row)
 /* From -500000 to 500000, both moved up by 500000; flags' low three bits. */
 static bool in_range(const struct format *f, const uint64_t *row)
 {
-    if (f == &gps_time)
+    if (f->highest_mode == NS_RANGE)
         return row[GPS_TIME_NS] + 500000u <= 1000000u;
     return f->highest_mode == ANY_MODE ||
            (row[f->fields - 1] & 7) <= f->highest_mode;
@@ -204,7 +180,7 @@ static inline uint8_t take_log(const uint8_t *payload, size_t n, uint64_t *row)
 uint8_t twin_read(uint16_t kind, const uint8_t *payload, size_t n,
                   uint64_t *row, size_t room)
 {
-    uint64_t taken[8];
+    uint64_t taken[TWIN_FIELDS_MOST];
     size_t fields;
     const struct format *f = format_of(kind);
     if (f != NULL) {

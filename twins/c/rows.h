@@ -8,6 +8,9 @@
 #include <stddef.h>
 #include <stdint.h>
 
+/* The numbers of a GPS ephemeris, which no row has more of. */
+enum { TWIN_FIELDS_MOST = 32 };
+
 /* A number for each field in order: unsigned as it is, signed sign-extended,
  * a double as its bits. OBS: tow, wn, n_obs, k. LOG: level, text length,
  * padding. 21, 22, 23, 32. */

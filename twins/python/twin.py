@@ -1,4 +1,5 @@
-"""A twin in Python, by the words of documents 01 and 003 and of request P1, with Python's own codecs: frames, payload answers, flags, epochs, the listing.
+"""A twin in Python, by the words of documents 01 and 003 and of requests P1 and P2, with Python's own codecs: frames, payload answers, flags,
+epochs, the listing.
 
 It has none of our code and looks at none.
 """
@@ -7,12 +8,20 @@ import struct
 
 OBS = 0x0049
 
+# tow and wn; sid, toe, ura, fit_interval, valid and health, which every ephemeris begins with; position, velocity and acceleration
+TIME = "IH"
+COMMON = "HBB" + TIME + "dIBB"
+MOTION = "ddd" * 3
+
 # name: type, struct format (d: a double), and the last fix mode that flags may have
 MESSAGES = {
     "gps-time": (0x0100, "HIiB", None), "dops": (0x0206, "IHHHHH", None), "pos-ecef": (0x0200, "IdddHBB", 2), "pos-llh": (0x0201, "IdddHHBB", 2),
     "baseline-ecef": (0x0202, "IiiiHBB", 1), "vel-ecef": (0x0204, "IiiiHBB", None), "baseline-ned": (0x0203, "IiiiHHBB", 1),
     "vel-ned": (0x0205, "IiiiHHBB", None), "baseline-heading": (0x0207, "IIBB", 1), "base-pos-llh": (0x0044, "ddd", None),
-    "base-pos-ecef": (0x0048, "ddd", None), "read-by-index-req": (0x00A2, "H", None),
+    "base-pos-ecef": (0x0048, "ddd", None), "ephemeris-gps": (0x0081, COMMON + "d" * 19 + TIME + "BH", None),
+    "ephemeris-sbas": (0x0082, COMMON + MOTION + "dd", None), "ephemeris-glo": (0x0083, COMMON + "dd" + MOTION, None),
+    "iono": (0x0090, TIME + "d" * 8, None), "sv-configuration-gps": (0x0091, TIME + "I", None), "group-delay": (0x0092, TIME + "BBhhh", None),
+    "read-by-index-req": (0x00A2, "H", None),
     "startup": (0xFF00, "I", None), "heartbeat": (0xFFFF, "I", None), "settings-save": (0x00A1, "", None), "read-by-index-done": (0x00A6, "", None)}
 NAMES = {kind: name for name, (kind, _, _) in MESSAGES.items()}
 

@@ -2,13 +2,15 @@
 //! the same bytes; consecutive seeds take the shapes by turns.
 
 mod frame;
+mod layouts;
 mod obs;
 mod payload;
 mod rng;
 mod shapes;
 pub mod stats;
 
-pub use payload::{broken_range, off_length, valid, TYPES};
+pub use layouts::{RETIRED, TYPES};
+pub use payload::{broken_range, off_length, valid};
 pub use rng::Rng;
 
 use shapes::SHAPES;

@@ -5,7 +5,10 @@ use twin::epochs::Outcome;
 use twin::fast::{closed, crc_sliced, crc_table, listing_into, read_row, write_row};
 use twin::gen::{self, broken_range, off_length, valid, Rng};
 use twin::listing::listing;
-use twin::messages::Message;
+use twin::messages::{EphemerisGps, Field, Message};
+
+/// No row is longer.
+const MOST: usize = EphemerisGps::NUMBERS;
 
 #[test]
 fn crcs_agree() {
@@ -111,18 +114,20 @@ fn rows_agree() {
             1 => broken_range(&mut rng, known).unwrap_or_default(),
             _ => valid(&mut rng, known),
         };
-        let mut row = [7; 8];
-        let room = rng.between(0, 8);
+        let mut row = [7; MOST + 1];
+        let any = rng.between(0, MOST + 1);
+        let room = rng.pick(&[any, MOST, MOST + 1]);
         let told = read_row(msg_type, &payload, &mut row[..room]);
         let mut numbers = match Message::read(msg_type, &payload).map(|m| m.row()) {
             Ok(expected) if expected.len() <= room => {
                 assert_eq!(told, 0);
                 assert_eq!(row[..expected.len()], expected);
+                assert!(row[expected.len()..].iter().all(|&n| n == 7));
                 expected
             }
             refused => {
                 assert_eq!(told, refused.err().unwrap_or(32));
-                assert_eq!(row, [7; 8]);
+                assert_eq!(row, [7; MOST + 1]);
                 vec![7; room]
             }
         };
@@ -131,8 +136,8 @@ fn rows_agree() {
             numbers[at] = rng.word() >> rng.below(64);
         }
         let sender = rng.chance(1, 2).then(|| rng.word() as u16);
-        let (mut ours, mut fast) = (vec![0; rng.below(60)], vec![0; 60]);
-        fast.truncate(ours.len());
+        let mut ours = vec![0; rng.pick(&[20, 40, 120, 200]) + rng.below(3)];
+        let mut fast = ours.clone();
         let written = Message::of_row(msg_type, &numbers).and_then(|m| m.write(sender, &mut ours));
         let theirs = write_row(crc_table, &mut fast, msg_type, sender, &numbers);
         assert_eq!((written, ours), (theirs, fast), "{msg_type} {numbers:x?}");

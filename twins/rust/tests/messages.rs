@@ -62,7 +62,7 @@ fn refused_payloads() {
     assert_eq!(ranged, 400 * 7);
 }
 
-/// Which lengths each type takes, from the table of document 01.
+/// Which lengths each type takes, from the table of document 01 and from P2.
 #[test]
 fn every_length_of_every_type() {
     for msg_type in TYPES {
@@ -77,6 +77,11 @@ fn every_length_of_every_type() {
                 0x0207 => length == 10,
                 0x0044 | 0x0048 => length == 24,
                 0x0049 => length <= 247 && length % 16 == 7,
+                0x0081 => length == 185,
+                0x0082 | 0x0083 => length == 112,
+                0x0090 => length == 70,
+                0x0091 => length == 10,
+                0x0092 => length == 14,
                 0x0401 => (1..=255).contains(&length),
                 0x00A2 => length == 2,
                 0xFF00 | 0xFFFF => length == 4,

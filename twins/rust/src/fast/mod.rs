@@ -6,6 +6,7 @@ mod collate;
 mod crc;
 mod decimal;
 mod find;
+mod formats;
 mod listing;
 mod rows;
 

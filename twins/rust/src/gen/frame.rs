@@ -1,7 +1,8 @@
 //! Putting frames together. The CRC is `fast`'s, which the tests compare
 //! with the plain one.
 
-use super::payload::{broken_range, off_length, valid, TYPES};
+use super::layouts::{RETIRED, TYPES};
+use super::payload::{broken_range, off_length, valid};
 use super::rng::Rng;
 use crate::fast::crc_sliced;
 
@@ -17,13 +18,13 @@ pub fn frame(msg_type: u16, sender: u16, payload: &[u8]) -> Vec<u8> {
     bytes
 }
 
-/// A type: of the table, next to one of the table, or any.
+/// A type: of the table, next to one of the table, out of use, or any.
 pub fn any_type(rng: &mut Rng) -> u16 {
     let listed = rng.pick(&TYPES);
     match rng.below(8) {
         0 => rng.word() as u16,
         1 => listed.wrapping_add(1),
-        2 => listed.swap_bytes(),
+        2 => rng.pick(&[listed.swap_bytes(), RETIRED[0], RETIRED[1]]),
         _ => listed,
     }
 }

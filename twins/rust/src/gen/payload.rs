@@ -1,32 +1,16 @@
-//! Payloads for each type of document 01's table: right, of a wrong length,
-//! and with a ranged field out of range or LOG's text going on after a zero.
-//! Made from bytes, not from the records of `messages`, so that they can test
-//! those.
+//! Payloads for each type that has a reading: right, of a wrong length, and
+//! with a ranged field out of range or LOG's text going on after a zero. Made
+//! from bytes, not from the records of `messages`, so that they can test those.
 
+use super::layouts::{known, Layout, LAYOUTS};
 use super::rng::Rng;
 
-/// Every type of the table.
-pub const TYPES: [u16; 18] = [
-    0x0100, 0x0206, 0x0200, 0x0201, 0x0202, 0x0204, 0x0203, 0x0205, 0x0207, 0x0044, 0x0048, 0x0049,
-    0x0401, 0x00A1, 0x00A6, 0x00A2, 0xFF00, 0xFFFF,
-];
-
 /// Some length right for the type.
-fn right_length(rng: &mut Rng, msg_type: u16) -> usize {
-    match msg_type {
-        0x0100 => 11,
-        0x0206 => 14,
-        0x0200 => 32,
-        0x0201 => 34,
-        0x0202 | 0x0204 => 20,
-        0x0203 | 0x0205 => 22,
-        0x0207 => 10,
-        0x0044 | 0x0048 => 24,
+fn right_length(rng: &mut Rng, layout: &Layout) -> usize {
+    match layout.msg_type {
         0x0049 => 16 * few(rng, 15) + 7,
         0x0401 => 1 + few(rng, 254),
-        0x00A2 => 2,
-        0xFF00 | 0xFFFF => 4,
-        _ => 0,
+        _ => layout.length,
     }
 }
 
@@ -50,10 +34,11 @@ fn filling(rng: &mut Rng, count: usize) -> Vec<u8> {
     }
 }
 
-/// NaN patterns, infinities, minus zero, the smallest, and plain values.
+/// NaN patterns, infinities, minus zero, the smallest, other subnormals, and
+/// plain values.
 fn special_double(rng: &mut Rng) -> u64 {
     let payload = rng.word() & 0x000F_FFFF_FFFF_FFFF;
-    match rng.below(8) {
+    match rng.below(10) {
         0 => 0x8000_0000_0000_0000,
         1 => 0x7FF0_0000_0000_0000,
         2 => 0xFFF0_0000_0000_0000,
@@ -61,25 +46,9 @@ fn special_double(rng: &mut Rng) -> u64 {
         4 => 0x7FF0_0000_0000_0000 | payload,
         5 => 0xFFF0_0000_0000_0000 | payload,
         6 => 1,
+        7 => payload,
+        8 => 0x8000_0000_0000_0000 | payload,
         _ => 1234.5f64.to_bits(),
-    }
-}
-
-/// Where the three doubles begin, if the type has them.
-fn doubles_at(msg_type: u16) -> Option<usize> {
-    match msg_type {
-        0x0200 | 0x0201 => Some(4),
-        0x0044 | 0x0048 => Some(0),
-        _ => None,
-    }
-}
-
-/// The highest fix mode, if the type has one; flags is then the last byte.
-fn highest_mode(msg_type: u16) -> Option<u8> {
-    match msg_type {
-        0x0200 | 0x0201 => Some(2),
-        0x0202 | 0x0203 | 0x0207 => Some(1),
-        _ => None,
     }
 }
 
@@ -112,19 +81,25 @@ fn break_padding(rng: &mut Rng, payload: &mut Vec<u8>) {
     payload[letter] |= 1;
 }
 
-/// A payload that answers 0.
-pub fn valid(rng: &mut Rng, msg_type: u16) -> Vec<u8> {
-    let count = right_length(rng, msg_type);
-    let mut payload = filling(rng, count);
-    if let Some(start) = doubles_at(msg_type) {
-        for each in 0..3 {
+/// About half of the doubles become special ones.
+fn set_doubles(rng: &mut Rng, payload: &mut [u8], layout: &Layout) {
+    for &(start, count) in layout.doubles {
+        for double in payload[start..].chunks_exact_mut(8).take(count) {
             if rng.chance(1, 2) {
-                let at = start + 8 * each;
-                payload[at..at + 8].copy_from_slice(&special_double(rng).to_le_bytes());
+                double.copy_from_slice(&special_double(rng).to_le_bytes());
             }
         }
     }
-    if let Some(highest) = highest_mode(msg_type) {
+}
+
+/// A payload that answers 0, if its type has a reading.
+pub fn valid(rng: &mut Rng, msg_type: u16) -> Vec<u8> {
+    // A type without a reading looks like some other.
+    let layout = known(msg_type).unwrap_or_else(|| rng.pick(&LAYOUTS));
+    let count = right_length(rng, &layout);
+    let mut payload = filling(rng, count);
+    set_doubles(rng, &mut payload, &layout);
+    if let Some(highest) = layout.highest_mode {
         let mode = rng.below(usize::from(highest) + 1) as u8;
         set_mode(&mut payload, mode);
     }
@@ -149,7 +124,7 @@ pub fn valid(rng: &mut Rng, msg_type: u16) -> Vec<u8> {
 /// A payload that answers 23, if one of its type can.
 pub fn broken_range(rng: &mut Rng, msg_type: u16) -> Option<Vec<u8>> {
     let mut payload = valid(rng, msg_type);
-    if let Some(highest) = highest_mode(msg_type) {
+    if let Some(highest) = known(msg_type).and_then(|l| l.highest_mode) {
         let mode = rng.between(usize::from(highest) + 1, 7) as u8;
         set_mode(&mut payload, mode);
         return Some(payload);

@@ -1,8 +1,9 @@
 //! The kinds of capture. Each gives about `budget` bytes, at most 300 more.
 
 use super::frame::{any_frame, any_sender, damaged, frame, good_frame};
+use super::layouts::TYPES;
 use super::obs::{senders, stream, Faults};
-use super::payload::{broken_range, off_length, valid, TYPES};
+use super::payload::{broken_range, off_length, valid};
 use super::rng::Rng;
 
 pub type Shape = fn(&mut Rng, usize) -> Vec<u8>;

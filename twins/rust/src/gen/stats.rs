@@ -1,16 +1,17 @@
 //! What the generated captures reach, so that a comparison over them means
 //! something.
 
-use super::{capture, TYPES};
+use super::{capture, RETIRED, TYPES};
 use crate::epochs::{Collator, Outcome};
 use crate::frames::{closed, open, step, Step};
 use crate::listing::{roster, MAX_INPUT};
 use crate::messages::{answer, Log};
+use crate::numbers::{No, LENGTH_WRONG, TYPE_UNKNOWN};
 use std::collections::BTreeMap;
 use std::fmt::Write;
 
-/// What the captures of a comparison have to reach.
-const WANTED: [&str; 33] = [
+/// What the captures of a comparison have to reach, beside what `of_types` says.
+const WANTED: [&str; 32] = [
     "step frame",
     "step junk",
     "step bad",
@@ -22,7 +23,6 @@ const WANTED: [&str; 33] = [
     "answer 21",
     "answer 22",
     "answer 23",
-    "type 0x0401 answer 22",
     "type 0x0401 answer 23",
     "LOG without padding",
     "LOG with padding",
@@ -45,6 +45,17 @@ const WANTED: [&str; 33] = [
     "epoch of sender 0",
     "epoch of sender 65535",
 ];
+
+fn of_type(msg_type: u16, no: No) -> String {
+    format!("type {msg_type:#06x} answer {no:02}")
+}
+
+/// Every message read, and refused for its length; what is retired not known.
+fn of_types() -> impl Iterator<Item = String> {
+    let both = |t| [of_type(t, 0), of_type(t, LENGTH_WRONG)];
+    let retired = RETIRED.map(|t| of_type(t, TYPE_UNKNOWN));
+    TYPES.into_iter().flat_map(both).chain(retired)
+}
 
 #[derive(Default)]
 pub struct Stats {
@@ -103,8 +114,8 @@ impl Stats {
         for frame in &reading.frames {
             let no = answer(frame.msg_type, frame.payload);
             self.add(&format!("answer {no:02}"), 1);
-            if TYPES.contains(&frame.msg_type) {
-                self.add(&format!("type {:#06x} answer {no:02}", frame.msg_type), 1);
+            if TYPES.contains(&frame.msg_type) || RETIRED.contains(&frame.msg_type) {
+                self.add(&of_type(frame.msg_type, no), 1);
             }
             if frame.msg_type == Log::TYPE {
                 self.padding(frame.payload);
@@ -138,10 +149,10 @@ impl Stats {
     }
 
     /// What is wanted and was not reached.
-    pub fn missing(&self) -> Vec<&'static str> {
-        let mut missing = WANTED.to_vec();
-        missing.retain(|&name| !self.counts.contains_key(name));
-        missing
+    pub fn missing(&self) -> Vec<String> {
+        let wanted = WANTED.iter().map(|name| name.to_string());
+        let reached = |name: &String| self.counts.contains_key(name);
+        wanted.chain(of_types()).filter(|n| !reached(n)).collect()
     }
 
     /// One line for each count.

@@ -1,7 +1,7 @@
 //! What the flag bits mean. The two position messages number their fix modes
 //! differently, so each message has its own function.
 
-use super::{BaselineEcef, BaselineHeading, BaselineNed, PosEcef, PosLlh};
+use super::{BaselineEcef, BaselineHeading, BaselineNed, Fixed, PosEcef, PosLlh};
 use crate::numbers::{No, TYPE_UNKNOWN};
 
 #[derive(Clone, Copy, Debug, PartialEq, Eq)]

@@ -1,14 +1,14 @@
 //! Payloads read as rows.
 
 use twin::gen::{Rng, TYPES};
-use twin::messages::{observation, Message, OBS_TYPE};
+use twin::messages::{observation, EphemerisGps, Field, Message, OBS_TYPE};
 use twin::numbers::{No, BUFFER_TOO_SHORT, TYPE_UNKNOWN};
 
 use crate::asked::{as_bytes, lent, told, Asked, Question, Side};
 use crate::values::{kind_near, payload, room};
 
-/// The numbers of an observation, which no row has more of.
-const OBSERVATION: usize = 8;
+/// The numbers of a GPS ephemeris, which no row has more of.
+const MOST: usize = EphemerisGps::NUMBERS;
 
 pub fn ask(asked: &mut Asked, rng: &mut Rng) {
     for known in TYPES {
@@ -21,12 +21,13 @@ pub fn ask(asked: &mut Asked, rng: &mut Rng) {
     }
 }
 
-/// Some numbers around those that are read; in Rust these, and of a refusal
-/// none.
+/// Some numbers around those that are read, of a refusal around those of any
+/// row; in Rust as many as are read, and of a refusal none.
 fn row_room(asked: &Asked, rng: &mut Rng, read: &Result<Vec<u64>, No>) -> usize {
+    let any = rng.between(0, MOST);
     match (asked.side, read) {
         (Side::C, Ok(row)) => room(rng, row.len()),
-        (Side::C, Err(_)) => room(rng, OBSERVATION),
+        (Side::C, Err(_)) => room(rng, any),
         (Side::Rust, Ok(row)) => row.len(),
         (Side::Rust, Err(_)) => 0,
     }

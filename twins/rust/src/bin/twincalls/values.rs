@@ -4,7 +4,7 @@ use twin::gen::{broken_range, off_length, valid, Rng, TYPES};
 use twin::messages::Message;
 
 /// The ends of widths and ranges, and one past them.
-const ENDS: [i64; 28] = [
+const ENDS: [i64; 30] = [
     0,
     1,
     -1,
@@ -15,6 +15,8 @@ const ENDS: [i64; 28] = [
     256,
     32767,
     32768,
+    -32768,
+    -32769,
     65535,
     65536,
     0x7FFF_FFFF,

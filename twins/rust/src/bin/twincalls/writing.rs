@@ -2,7 +2,7 @@
 
 use twin::frames;
 use twin::gen::{valid, Rng, TYPES};
-use twin::messages::{obs_of_rows, write_obs, Log, Message, OBS_TYPE};
+use twin::messages::{obs_of_rows, write_obs, Field, Log, Message, OBS_TYPE};
 use twin::numbers::{No, TYPE_UNKNOWN};
 
 use crate::asked::{as_bytes, told, Asked, Question, Side, FILL};
