@@ -25,28 +25,35 @@ static void same(const char *where, const char *what, uint64_t got, uint64_t wan
 /* Bytes that begin a double's number: a NaN that is not quiet, negative by its sign bit. A processor that moves it as a number makes it quiet. */
 #define NAN_TOP 0xFFF4000000000000
 
-enum pattern { NEGATIVE, POSITIVE, NANS };
+/* Doubles that are no ordinary numbers: zero and minus zero, infinities, a subnormal. */
+static const uint64_t ends[] = {0, 0x8000000000000000, 0x7FF0000000000000, 0xFFF0000000000000, 1};
+
+enum pattern { NEGATIVE, POSITIVE, NANS, ENDS };
 
 /* The number of a field of so many bytes, the bytes counting up from first. POSITIVE has all bits the other way. */
 static uint64_t patterned(enum pattern pattern, unsigned first, unsigned size) {
     uint64_t value = 0;
     for (unsigned i = 0; i < size; i++) {
-        value |= (uint64_t)(first + i) << 8 * i;
+        value |= (uint64_t)((first + i) % 256) << 8 * i;
     }
     return pattern == POSITIVE ? ~value & UINT64_MAX >> (64 - 8 * size) : value;
 }
 
-/* A row by its fields' formats: B, H and I unsigned of 1, 2 and 4 bytes, i signed of 4, d a double. */
+/* A row by its fields' formats: B, H and I unsigned of 1, 2 and 4 bytes, h and i signed of 2 and 4, d a double. */
 static void fill(uint64_t *row, const char *formats, enum pattern pattern) {
     unsigned first = 0x81;
     for (size_t i = 0; formats[i] != '\0'; i++) {
-        const unsigned size = formats[i] == 'B' ? 1 : formats[i] == 'H' ? 2 : formats[i] == 'd' ? 8 : 4;
+        const char format = formats[i];
+        const unsigned size = format == 'B' ? 1 : format == 'H' || format == 'h' ? 2 : format == 'd' ? 8 : 4;
         row[i] = patterned(pattern, first, size);
-        if (formats[i] == 'i' && pattern != POSITIVE) {
-            row[i] |= 0xFFFFFFFF00000000;
+        if ((format == 'h' || format == 'i') && pattern != POSITIVE) {
+            row[i] |= UINT64_MAX << 8 * size;
         }
-        if (formats[i] == 'd' && pattern == NANS) {
+        if (format == 'd' && pattern == NANS) {
             row[i] = NAN_TOP | (row[i] & 0x0000FFFFFFFFFFFF);
+        }
+        if (format == 'd' && pattern == ENDS) {
+            row[i] = ends[i % (sizeof ends / sizeof *ends)];
         }
         first += size;
     }
@@ -63,6 +70,7 @@ static uint64_t bits(double value) {
 #define U8(field, wanted) HELD(field, (uint64_t)(field), wanted, 1)
 #define U16(field, wanted) HELD(field, (uint64_t)(field), wanted, 2)
 #define U32(field, wanted) HELD(field, (uint64_t)(field), wanted, 4)
+#define S16(field, wanted) HELD(field, (uint64_t)(field), wanted, 2)
 #define S32(field, wanted) HELD(field, (uint64_t)(field), wanted, 4)
 #define F64(field, wanted) HELD(field, bits(field), wanted, 8)
 
@@ -220,6 +228,106 @@ static void observation_row(const uint64_t *row) {
     BACK(sbp_observation_row, 8);
 }
 
+/* The parts that several messages have, from their first number on. */
+
+static void time_of_week(const struct sbp_time_of_week m, const uint64_t *row) {
+    U32(m.tow, row[0]);
+    U16(m.wn, row[1]);
+}
+
+static void ephemeris_common(const struct sbp_ephemeris_common m, const uint64_t *row) {
+    U16(m.sid.sat, row[0]);
+    U8(m.sid.code, row[1]);
+    U8(m.sid.reserved, row[2]);
+    time_of_week(m.toe, row + 3);
+    F64(m.ura, row[5]);
+    U32(m.fit_interval, row[6]);
+    U8(m.valid, row[7]);
+    U8(m.health, row[8]);
+}
+
+static void motion(const struct sbp_motion m, const uint64_t *row) {
+    for (size_t i = 0; i < 3; i++) {
+        F64(m.pos[i], row[i]);
+        F64(m.vel[i], row[3 + i]);
+        F64(m.acc[i], row[6 + i]);
+    }
+}
+
+static void ephemeris_gps(const uint64_t *row) {
+    const struct sbp_ephemeris_gps m = sbp_ephemeris_gps_of(row);
+    ephemeris_common(m.common, row);
+    F64(m.tgd, row[9]);
+    F64(m.c_rs, row[10]);
+    F64(m.c_rc, row[11]);
+    F64(m.c_uc, row[12]);
+    F64(m.c_us, row[13]);
+    F64(m.c_ic, row[14]);
+    F64(m.c_is, row[15]);
+    F64(m.dn, row[16]);
+    F64(m.m0, row[17]);
+    F64(m.ecc, row[18]);
+    F64(m.sqrta, row[19]);
+    F64(m.omega0, row[20]);
+    F64(m.omegadot, row[21]);
+    F64(m.w, row[22]);
+    F64(m.inc, row[23]);
+    F64(m.inc_dot, row[24]);
+    F64(m.af0, row[25]);
+    F64(m.af1, row[26]);
+    F64(m.af2, row[27]);
+    time_of_week(m.toc, row + 28);
+    U8(m.iode, row[30]);
+    U16(m.iodc, row[31]);
+    BACK(sbp_ephemeris_gps, 32);
+}
+
+static void ephemeris_sbas(const uint64_t *row) {
+    const struct sbp_ephemeris_sbas m = sbp_ephemeris_sbas_of(row);
+    ephemeris_common(m.common, row);
+    motion(m.motion, row + 9);
+    F64(m.a_gf0, row[18]);
+    F64(m.a_gf1, row[19]);
+    BACK(sbp_ephemeris_sbas, 20);
+}
+
+static void ephemeris_glo(const uint64_t *row) {
+    const struct sbp_ephemeris_glo m = sbp_ephemeris_glo_of(row);
+    ephemeris_common(m.common, row);
+    F64(m.gamma, row[9]);
+    F64(m.tau, row[10]);
+    motion(m.motion, row + 11);
+    BACK(sbp_ephemeris_glo, 20);
+}
+
+static void iono(const uint64_t *row) {
+    const struct sbp_iono m = sbp_iono_of(row);
+    time_of_week(m.t_nmct, row);
+    for (size_t i = 0; i < 4; i++) {
+        F64(m.a[i], row[2 + i]);
+        F64(m.b[i], row[6 + i]);
+    }
+    BACK(sbp_iono, 10);
+}
+
+static void sv_configuration_gps(const uint64_t *row) {
+    const struct sbp_sv_configuration_gps m = sbp_sv_configuration_gps_of(row);
+    time_of_week(m.t_nmct, row);
+    U32(m.l2c_mask, row[2]);
+    BACK(sbp_sv_configuration_gps, 3);
+}
+
+static void group_delay(const uint64_t *row) {
+    const struct sbp_group_delay m = sbp_group_delay_of(row);
+    time_of_week(m.t_op, row);
+    U8(m.prn, row[2]);
+    U8(m.valid, row[3]);
+    S16(m.tgd, row[4]);
+    S16(m.isc_l1ca, row[5]);
+    S16(m.isc_l2c, row[6]);
+    BACK(sbp_group_delay, 7);
+}
+
 static void log_(const uint64_t *row) {
     const struct sbp_log m = sbp_log_of(row);
     U8(m.level, row[0]);
@@ -263,6 +371,12 @@ static const struct {
     {"ddd", base_pos_ecef},
     {"IHBB", obs},
     {"IiBBHHBB", observation_row},
+    {"HBBIHdIBB" "ddddddddddddddddddd" "IHBH", ephemeris_gps},
+    {"HBBIHdIBB" "ddddddddd" "dd", ephemeris_sbas},
+    {"HBBIHdIBB" "dd" "ddddddddd", ephemeris_glo},
+    {"IHdddddddd", iono},
+    {"IHI", sv_configuration_gps},
+    {"IHBBhhh", group_delay},
     {"BBB", log_},
     {"H", read_by_index_req},
     {"I", startup},
@@ -271,7 +385,7 @@ static const struct {
 
 static void messages_both_ways(void) {
     for (size_t i = 0; i < sizeof messages / sizeof *messages; i++) {
-        for (int pattern = NEGATIVE; pattern <= NANS; pattern++) {
+        for (int pattern = NEGATIVE; pattern <= ENDS; pattern++) {
             uint64_t row[SBP_FIELDS_MOST];
             fill(row, messages[i].formats, (enum pattern)pattern);
             messages[i].test(row);
@@ -359,6 +473,12 @@ static void types(void) {
     NAME(SBP_MSG_BASE_POS_LLH, 0x0044);
     NAME(SBP_MSG_BASE_POS_ECEF, 0x0048);
     NAME(SBP_MSG_OBS, 0x0049);
+    NAME(SBP_MSG_EPHEMERIS_GPS, 0x0081);
+    NAME(SBP_MSG_EPHEMERIS_SBAS, 0x0082);
+    NAME(SBP_MSG_EPHEMERIS_GLO, 0x0083);
+    NAME(SBP_MSG_IONO, 0x0090);
+    NAME(SBP_MSG_SV_CONFIGURATION_GPS, 0x0091);
+    NAME(SBP_MSG_GROUP_DELAY, 0x0092);
     NAME(SBP_MSG_SETTINGS_SAVE, 0x00A1);
     NAME(SBP_MSG_SETTINGS_READ_BY_INDEX_REQ, 0x00A2);
     NAME(SBP_MSG_SETTINGS_READ_BY_INDEX_DONE, 0x00A6);
@@ -406,6 +526,12 @@ static void fields(void) {
     NAME(SBP_BASE_POS_LLH_FIELDS, 3);
     NAME(SBP_BASE_POS_ECEF_FIELDS, 3);
     NAME(SBP_OBS_FIELDS, 4);
+    NAME(SBP_EPHEMERIS_GPS_FIELDS, 32);
+    NAME(SBP_EPHEMERIS_SBAS_FIELDS, 20);
+    NAME(SBP_EPHEMERIS_GLO_FIELDS, 20);
+    NAME(SBP_IONO_FIELDS, 10);
+    NAME(SBP_SV_CONFIGURATION_GPS_FIELDS, 3);
+    NAME(SBP_GROUP_DELAY_FIELDS, 7);
     NAME(SBP_SETTINGS_SAVE_FIELDS, 0);
     NAME(SBP_READ_BY_INDEX_REQ_FIELDS, 1);
     NAME(SBP_READ_BY_INDEX_DONE_FIELDS, 0);
@@ -421,17 +547,21 @@ static void fields(void) {
     NAME(SBP_LOG_FIELDS, 3);
     NAME(SBP_STARTUP_FIELDS, 1);
     NAME(SBP_HEARTBEAT_FIELDS, 1);
-    NAME(SBP_FIELDS_MOST, 8);
+    NAME(SBP_FIELDS_MOST, 32);
+    NAME(SBP_TIME_OF_WEEK_FIELDS, 2);
+    NAME(SBP_SATELLITE_FIELDS, 3);
+    NAME(SBP_EPHEMERIS_COMMON_FIELDS, 9);
+    NAME(SBP_MOTION_FIELDS, 9);
     NAME(SBP_OBS_HEAD, 3);
     NAME(SBP_OBSERVATION_FIELDS, 8);
 }
 
 static void version(void) {
     NAME(SBP_VERSION_MAJOR, 0);
-    NAME(SBP_VERSION_MINOR, 9);
+    NAME(SBP_VERSION_MINOR, 10);
     NAME(SBP_VERSION_PATCH, 0);
-    NAME(SBP_VERSION, 900);
-    SAME("sbp_version()", sbp_version(), 900);
+    NAME(SBP_VERSION, 1000);
+    SAME("sbp_version()", sbp_version(), 1000);
 }
 
 static const struct {
@@ -508,7 +638,7 @@ static void report_has_room(void) {
     SAME("sbp_feed with less", sbp_feed(state, sizeof state, SBP_MSG_OBS, 1228, packet, sizeof packet, row, SBP_REPORT - 1), SBP_NO_ROOM);
 }
 
-/* A type, the length of a payload of it, and how many numbers that gives. */
+/* A type, the length of the shortest payload of it, and how many numbers that gives. */
 static const struct {
     uint16_t kind;
     size_t length, fields;
@@ -516,6 +646,12 @@ static const struct {
     {SBP_MSG_BASE_POS_LLH, 24, SBP_BASE_POS_LLH_FIELDS},
     {SBP_MSG_BASE_POS_ECEF, 24, SBP_BASE_POS_ECEF_FIELDS},
     {SBP_MSG_OBS, 7, SBP_OBS_FIELDS},
+    {SBP_MSG_EPHEMERIS_GPS, 185, SBP_EPHEMERIS_GPS_FIELDS},
+    {SBP_MSG_EPHEMERIS_SBAS, 112, SBP_EPHEMERIS_SBAS_FIELDS},
+    {SBP_MSG_EPHEMERIS_GLO, 112, SBP_EPHEMERIS_GLO_FIELDS},
+    {SBP_MSG_IONO, 70, SBP_IONO_FIELDS},
+    {SBP_MSG_SV_CONFIGURATION_GPS, 10, SBP_SV_CONFIGURATION_GPS_FIELDS},
+    {SBP_MSG_GROUP_DELAY, 14, SBP_GROUP_DELAY_FIELDS},
     {SBP_MSG_SETTINGS_SAVE, 0, SBP_SETTINGS_SAVE_FIELDS},
     {SBP_MSG_SETTINGS_READ_BY_INDEX_REQ, 2, SBP_READ_BY_INDEX_REQ_FIELDS},
     {SBP_MSG_SETTINGS_READ_BY_INDEX_DONE, 0, SBP_READ_BY_INDEX_DONE_FIELDS},
@@ -534,13 +670,17 @@ static const struct {
 };
 
 static void fields_have_room(void) {
-    const uint8_t payload[34] = {0};
+    const uint8_t payload[SBP_PAYLOAD_MOST] = {0};
     for (size_t i = 0; i < sizeof kinds / sizeof *kinds; i++) {
+        const uint16_t kind = kinds[i].kind;
+        const size_t length = kinds[i].length, most = SBP_FIELDS_MOST;
         uint64_t row[SBP_FIELDS_MOST];
-        SAME("sbp_read", sbp_read(kinds[i].kind, payload, kinds[i].length, row, kinds[i].fields), SBP_OK);
+        SAME("sbp_read", sbp_read(kind, payload, length, row, kinds[i].fields), SBP_OK);
         if (kinds[i].fields > 0) {
-            SAME("sbp_read with less", sbp_read(kinds[i].kind, payload, kinds[i].length, row, kinds[i].fields - 1), SBP_NO_ROOM);
+            SAME("sbp_read with less", sbp_read(kind, payload, length, row, kinds[i].fields - 1), SBP_NO_ROOM);
+            SAME("sbp_read of a byte less", sbp_read(kind, payload, length - 1, row, most), SBP_WRONG_LENGTH);
         }
+        SAME("sbp_read of a byte more", sbp_read(kind, payload, length + 1, row, most), kind == SBP_MSG_LOG ? SBP_OK : SBP_WRONG_LENGTH);
     }
 }
 

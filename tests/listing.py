@@ -16,6 +16,10 @@ import logs
 import make
 import twin
 
+# 003, section 6.3: the lengths of the ephemerides and of what goes with them; and types that have no reading
+ORBITS = {0x0081: 185, 0x0082: 112, 0x0083: 112, 0x0090: 70, 0x0091: 10, 0x0092: 14}
+UNREAD = 0x0047, 0x0080, 0x00A0, 0x00A4, 0x00A5, 0x00A7, 0x00AE
+
 RUN = [os.path.join(ROOT, "tools", "run"), "sbplist"]
 
 
@@ -51,6 +55,8 @@ def cases():
     yield "ten senders", ten, None
     yield "unknown and malformed", b"".join(twin.frame(k, 9, bytes(n)) for k in (0x48, 0x49, 0x4A, 0x100, 0x200, 0x401) for n in (0, 7, 11, 24, 32, 255)), None
     yield "LOGs: text, and zeros after it", logs.CAPTURE, None
+    yield "ephemerides: their lengths and one off", b"".join(twin.frame(k, 9, bytes(n + off)) for k, n in ORBITS.items() for off in (-1, 0, 1)), None
+    yield "types that stay without a reading", b"".join(twin.frame(k, 9, bytes(n)) for k in UNREAD for n in (0, 70, 112, 185)), None
     yield "a megabyte, 997 bytes at a time", (sample + bytes(100)) * 200, 997
 
 

@@ -30,7 +30,7 @@ extern "C" {
 
 /* This header's version; sbp_version tells the library's in the same form. */
 #define SBP_VERSION_MAJOR 0
-#define SBP_VERSION_MINOR 9
+#define SBP_VERSION_MINOR 10
 #define SBP_VERSION_PATCH 0
 #define SBP_VERSION (10000 * SBP_VERSION_MAJOR + 100 * SBP_VERSION_MINOR + SBP_VERSION_PATCH)
 
@@ -38,6 +38,12 @@ extern "C" {
 #define SBP_MSG_BASE_POS_LLH 0x0044
 #define SBP_MSG_BASE_POS_ECEF 0x0048
 #define SBP_MSG_OBS 0x0049
+#define SBP_MSG_EPHEMERIS_GPS 0x0081
+#define SBP_MSG_EPHEMERIS_SBAS 0x0082
+#define SBP_MSG_EPHEMERIS_GLO 0x0083
+#define SBP_MSG_IONO 0x0090
+#define SBP_MSG_SV_CONFIGURATION_GPS 0x0091
+#define SBP_MSG_GROUP_DELAY 0x0092
 #define SBP_MSG_SETTINGS_SAVE 0x00A1
 #define SBP_MSG_SETTINGS_READ_BY_INDEX_REQ 0x00A2
 #define SBP_MSG_SETTINGS_READ_BY_INDEX_DONE 0x00A6
@@ -104,6 +110,12 @@ extern "C" {
 #define SBP_BASE_POS_LLH_FIELDS 3
 #define SBP_BASE_POS_ECEF_FIELDS 3
 #define SBP_OBS_FIELDS 4
+#define SBP_EPHEMERIS_GPS_FIELDS 32
+#define SBP_EPHEMERIS_SBAS_FIELDS 20
+#define SBP_EPHEMERIS_GLO_FIELDS 20
+#define SBP_IONO_FIELDS 10
+#define SBP_SV_CONFIGURATION_GPS_FIELDS 3
+#define SBP_GROUP_DELAY_FIELDS 7
 #define SBP_SETTINGS_SAVE_FIELDS 0
 #define SBP_READ_BY_INDEX_REQ_FIELDS 1
 #define SBP_READ_BY_INDEX_DONE_FIELDS 0
@@ -119,7 +131,13 @@ extern "C" {
 #define SBP_LOG_FIELDS 3
 #define SBP_STARTUP_FIELDS 1
 #define SBP_HEARTBEAT_FIELDS 1
-#define SBP_FIELDS_MOST 8
+#define SBP_FIELDS_MOST 32
+
+/* How many of these a part takes that several messages have. */
+#define SBP_TIME_OF_WEEK_FIELDS 2
+#define SBP_SATELLITE_FIELDS 3
+#define SBP_EPHEMERIS_COMMON_FIELDS 9
+#define SBP_MOTION_FIELDS 9
 
 /* Of OBS: the numbers of the header that sbp_write_obs takes, and those of one observation. */
 #define SBP_OBS_HEAD 3
@@ -578,8 +596,24 @@ static inline void sbp_obs_row(const struct sbp_obs *m, uint64_t row[SBP_OBS_FIE
     memcpy(row, fields, sizeof fields);
 }
 
+/* A satellite's number in its constellation; constellation, band and code of its signal. */
+struct sbp_satellite {
+    uint16_t sat;
+    uint8_t code, reserved;
+};
+
+static inline struct sbp_satellite sbp_satellite_of(const uint64_t row[SBP_SATELLITE_FIELDS]) {
+    const struct sbp_satellite m = {(uint16_t)row[0], (uint8_t)row[1], (uint8_t)row[2]};
+    return m;
+}
+
+static inline void sbp_satellite_row(const struct sbp_satellite *m, uint64_t row[SBP_SATELLITE_FIELDS]) {
+    const uint64_t fields[SBP_SATELLITE_FIELDS] = {m->sat, m->code, m->reserved};
+    memcpy(row, fields, sizeof fields);
+}
+
 /* One observation, of sbp_observation and for sbp_write_obs: pseudorange P in 2 cm, carrier phase L in cycles and 1/256 cycle, cn0 in 1/4 dB Hz;
- * lock changes where the satellite was lost in between; sid is the satellite and its signal. */
+ * lock changes where the satellite was lost in between. */
 struct sbp_observation_row {
     uint32_t P;
     struct {
@@ -588,25 +622,212 @@ struct sbp_observation_row {
     } L;
     uint8_t cn0;
     uint16_t lock;
-    struct {
-        uint16_t sat;
-        uint8_t code, reserved;
-    } sid;
+    struct sbp_satellite sid;
 };
 
 static inline struct sbp_observation_row sbp_observation_row_of(const uint64_t row[SBP_OBSERVATION_FIELDS]) {
     const struct sbp_observation_row m = {
-        (uint32_t)row[0], {sbp_signed(row[1]), (uint8_t)row[2]}, (uint8_t)row[3], (uint16_t)row[4],
-        {(uint16_t)row[5], (uint8_t)row[6], (uint8_t)row[7]},
+        (uint32_t)row[0], {sbp_signed(row[1]), (uint8_t)row[2]}, (uint8_t)row[3], (uint16_t)row[4], sbp_satellite_of(row + 5),
     };
     return m;
 }
 
 static inline void sbp_observation_row_row(const struct sbp_observation_row *m, uint64_t row[SBP_OBSERVATION_FIELDS]) {
-    const uint64_t fields[SBP_OBSERVATION_FIELDS] = {
-        m->P, sbp_extended(m->L.i), m->L.f, m->cn0, m->lock, m->sid.sat, m->sid.code, m->sid.reserved,
-    };
+    const uint64_t fields[] = {m->P, sbp_extended(m->L.i), m->L.f, m->cn0, m->lock};
     memcpy(row, fields, sizeof fields);
+    sbp_satellite_row(&m->sid, row + 5);
+}
+
+/* A time by GPS's clock. */
+struct sbp_time_of_week {
+    uint32_t tow;
+    uint16_t wn;
+};
+
+static inline struct sbp_time_of_week sbp_time_of_week_of(const uint64_t row[SBP_TIME_OF_WEEK_FIELDS]) {
+    const struct sbp_time_of_week m = {(uint32_t)row[0], (uint16_t)row[1]};
+    return m;
+}
+
+static inline void sbp_time_of_week_row(const struct sbp_time_of_week *m, uint64_t row[SBP_TIME_OF_WEEK_FIELDS]) {
+    row[0] = m->tow;
+    row[1] = m->wn;
+}
+
+/* What every ephemeris begins with: its satellite; toe, the time that it is for; ura, the user range accuracy, in m; fit_interval in s; valid: 1
+ * where it is valid, else 0; health: of GPS as in ICD-GPS-200, 20.3.3.3.1.4, of others 0 where the satellite is healthy. */
+struct sbp_ephemeris_common {
+    struct sbp_satellite sid;
+    struct sbp_time_of_week toe;
+    double ura;
+    uint32_t fit_interval;
+    uint8_t valid, health;
+};
+
+static inline struct sbp_ephemeris_common sbp_ephemeris_common_of(const uint64_t row[SBP_EPHEMERIS_COMMON_FIELDS]) {
+    const struct sbp_ephemeris_common m = {
+        sbp_satellite_of(row), sbp_time_of_week_of(row + 3), sbp_double(row[5]), (uint32_t)row[6], (uint8_t)row[7], (uint8_t)row[8],
+    };
+    return m;
+}
+
+static inline void sbp_ephemeris_common_row(const struct sbp_ephemeris_common *m, uint64_t row[SBP_EPHEMERIS_COMMON_FIELDS]) {
+    const uint64_t after_toe[] = {sbp_bits(m->ura), m->fit_interval, m->valid, m->health};
+    sbp_satellite_row(&m->sid, row);
+    sbp_time_of_week_row(&m->toe, row + 3);
+    memcpy(row + 5, after_toe, sizeof after_toe);
+}
+
+/* Position in m, velocity in m/s, acceleration in m/s^2. */
+struct sbp_motion {
+    double pos[3], vel[3], acc[3];
+};
+
+/* A double's number is its bits, so that a run of them is copied as it is. */
+static inline struct sbp_motion sbp_motion_of(const uint64_t row[SBP_MOTION_FIELDS]) {
+    struct sbp_motion m;
+    memcpy(m.pos, row, sizeof m.pos);
+    memcpy(m.vel, row + 3, sizeof m.vel);
+    memcpy(m.acc, row + 6, sizeof m.acc);
+    return m;
+}
+
+static inline void sbp_motion_row(const struct sbp_motion *m, uint64_t row[SBP_MOTION_FIELDS]) {
+    memcpy(row, m->pos, sizeof m->pos);
+    memcpy(row + 3, m->vel, sizeof m->vel);
+    memcpy(row + 6, m->acc, sizeof m->acc);
+}
+
+/* The orbit of a GPS satellite by ICD-GPS-200, table 20-III: group delay tgd in s; amplitudes of harmonic corrections to the radius (c_rs, c_rc) in
+ * m, to the argument of latitude (c_uc, c_us) and the inclination (c_ic, c_is) in rad; m0, omega0, w and inc in rad; dn, omegadot and inc_dot
+ * in rad/s; sqrta in m^(1/2). Its clock: af0 in s, af1 in s/s, af2 in s/s^2 from toc on. Issues of data: iode, iodc. */
+struct sbp_ephemeris_gps {
+    struct sbp_ephemeris_common common;
+    double tgd, c_rs, c_rc, c_uc, c_us, c_ic, c_is, dn, m0, ecc, sqrta, omega0, omegadot, w, inc, inc_dot, af0, af1, af2;
+    struct sbp_time_of_week toc;
+    uint8_t iode;
+    uint16_t iodc;
+};
+
+static inline struct sbp_ephemeris_gps sbp_ephemeris_gps_of(const uint64_t row[SBP_EPHEMERIS_GPS_FIELDS]) {
+    const struct sbp_ephemeris_gps m = {
+        sbp_ephemeris_common_of(row),
+        sbp_double(row[9]), sbp_double(row[10]), sbp_double(row[11]), sbp_double(row[12]), sbp_double(row[13]),
+        sbp_double(row[14]), sbp_double(row[15]), sbp_double(row[16]), sbp_double(row[17]), sbp_double(row[18]),
+        sbp_double(row[19]), sbp_double(row[20]), sbp_double(row[21]), sbp_double(row[22]), sbp_double(row[23]),
+        sbp_double(row[24]), sbp_double(row[25]), sbp_double(row[26]), sbp_double(row[27]),
+        sbp_time_of_week_of(row + 28), (uint8_t)row[30], (uint16_t)row[31],
+    };
+    return m;
+}
+
+static inline void sbp_ephemeris_gps_row(const struct sbp_ephemeris_gps *m, uint64_t row[SBP_EPHEMERIS_GPS_FIELDS]) {
+    const uint64_t orbit[] = {
+        sbp_bits(m->tgd), sbp_bits(m->c_rs), sbp_bits(m->c_rc), sbp_bits(m->c_uc), sbp_bits(m->c_us),
+        sbp_bits(m->c_ic), sbp_bits(m->c_is), sbp_bits(m->dn), sbp_bits(m->m0), sbp_bits(m->ecc),
+        sbp_bits(m->sqrta), sbp_bits(m->omega0), sbp_bits(m->omegadot), sbp_bits(m->w), sbp_bits(m->inc),
+        sbp_bits(m->inc_dot), sbp_bits(m->af0), sbp_bits(m->af1), sbp_bits(m->af2),
+    };
+    sbp_ephemeris_common_row(&m->common, row);
+    memcpy(row + 9, orbit, sizeof orbit);
+    sbp_time_of_week_row(&m->toc, row + 28);
+    row[30] = m->iode;
+    row[31] = m->iodc;
+}
+
+/* The orbit of an SBAS satellite at toe; its clock against SBAS's network time: a_gf0 in s, a_gf1 in s/s. */
+struct sbp_ephemeris_sbas {
+    struct sbp_ephemeris_common common;
+    struct sbp_motion motion;
+    double a_gf0, a_gf1;
+};
+
+static inline struct sbp_ephemeris_sbas sbp_ephemeris_sbas_of(const uint64_t row[SBP_EPHEMERIS_SBAS_FIELDS]) {
+    const struct sbp_ephemeris_sbas m = {sbp_ephemeris_common_of(row), sbp_motion_of(row + 9), sbp_double(row[18]), sbp_double(row[19])};
+    return m;
+}
+
+static inline void sbp_ephemeris_sbas_row(const struct sbp_ephemeris_sbas *m, uint64_t row[SBP_EPHEMERIS_SBAS_FIELDS]) {
+    sbp_ephemeris_common_row(&m->common, row);
+    sbp_motion_row(&m->motion, row + 9);
+    row[18] = sbp_bits(m->a_gf0);
+    row[19] = sbp_bits(m->a_gf1);
+}
+
+/* The orbit of a GLONASS satellite in PZ-90.02; gamma, by how much of the nominal its frequency is off; tau in s, the correction to its time. */
+struct sbp_ephemeris_glo {
+    struct sbp_ephemeris_common common;
+    double gamma, tau;
+    struct sbp_motion motion;
+};
+
+static inline struct sbp_ephemeris_glo sbp_ephemeris_glo_of(const uint64_t row[SBP_EPHEMERIS_GLO_FIELDS]) {
+    const struct sbp_ephemeris_glo m = {sbp_ephemeris_common_of(row), sbp_double(row[9]), sbp_double(row[10]), sbp_motion_of(row + 11)};
+    return m;
+}
+
+static inline void sbp_ephemeris_glo_row(const struct sbp_ephemeris_glo *m, uint64_t row[SBP_EPHEMERIS_GLO_FIELDS]) {
+    sbp_ephemeris_common_row(&m->common, row);
+    row[9] = sbp_bits(m->gamma);
+    row[10] = sbp_bits(m->tau);
+    sbp_motion_row(&m->motion, row + 11);
+}
+
+/* The delay in the ionosphere by ICD-GPS-200, 20.3.3.5.1.7: a0 to a3 and b0 to b3, the one of index i in s/semicircle^i. */
+struct sbp_iono {
+    struct sbp_time_of_week t_nmct;
+    double a[4], b[4];
+};
+
+static inline struct sbp_iono sbp_iono_of(const uint64_t row[SBP_IONO_FIELDS]) {
+    struct sbp_iono m;
+    m.t_nmct = sbp_time_of_week_of(row);
+    memcpy(m.a, row + 2, sizeof m.a);
+    memcpy(m.b, row + 6, sizeof m.b);
+    return m;
+}
+
+static inline void sbp_iono_row(const struct sbp_iono *m, uint64_t row[SBP_IONO_FIELDS]) {
+    sbp_time_of_week_row(&m->t_nmct, row);
+    memcpy(row + 2, m->a, sizeof m->a);
+    memcpy(row + 6, m->b, sizeof m->b);
+}
+
+/* l2c_mask: which satellites send L2C, number 1 in the lowest bit, 32 in the highest. */
+struct sbp_sv_configuration_gps {
+    struct sbp_time_of_week t_nmct;
+    uint32_t l2c_mask;
+};
+
+static inline struct sbp_sv_configuration_gps sbp_sv_configuration_gps_of(const uint64_t row[SBP_SV_CONFIGURATION_GPS_FIELDS]) {
+    const struct sbp_sv_configuration_gps m = {sbp_time_of_week_of(row), (uint32_t)row[2]};
+    return m;
+}
+
+static inline void sbp_sv_configuration_gps_row(const struct sbp_sv_configuration_gps *m, uint64_t row[SBP_SV_CONFIGURATION_GPS_FIELDS]) {
+    sbp_time_of_week_row(&m->t_nmct, row);
+    row[2] = m->l2c_mask;
+}
+
+/* Group delays of the satellite prn in 2^-35 s; bits of valid say which hold, the lowest that of tgd, then in order. */
+struct sbp_group_delay {
+    struct sbp_time_of_week t_op;
+    uint8_t prn, valid;
+    int16_t tgd, isc_l1ca, isc_l2c;
+};
+
+static inline struct sbp_group_delay sbp_group_delay_of(const uint64_t row[SBP_GROUP_DELAY_FIELDS]) {
+    const struct sbp_group_delay m = {
+        sbp_time_of_week_of(row), (uint8_t)row[2], (uint8_t)row[3],
+        (int16_t)sbp_signed(row[4]), (int16_t)sbp_signed(row[5]), (int16_t)sbp_signed(row[6]),
+    };
+    return m;
+}
+
+static inline void sbp_group_delay_row(const struct sbp_group_delay *m, uint64_t row[SBP_GROUP_DELAY_FIELDS]) {
+    const uint64_t after_t_op[] = {m->prn, m->valid, sbp_extended(m->tgd), sbp_extended(m->isc_l1ca), sbp_extended(m->isc_l2c)};
+    sbp_time_of_week_row(&m->t_op, row);
+    memcpy(row + 2, after_t_op, sizeof after_t_op);
 }
 
 /* LOG's level (0 emergency, 1 alert, 2 critical, 3 error, 4 warning, 5 notice, 6 info, 7 debug), the length of its text, and how many zeros

@@ -21,6 +21,8 @@ def edges():
     yield "malformed ones first", twin.frame(twin.OBS, 1, b"") + captures.many_senders(8)
     kinds = (0x48, 0x49, 0x4A, 0x100, 0x200, 0x401)
     yield "unknown and malformed", b"".join(twin.frame(k, 9, bytes(n)) for k in kinds for n in (0, 7, 11, 24, 32, 255))
+    orbits = (0x47, 0x80, 0x81, 0x82, 0x83, 0x90, 0x91, 0x92)
+    yield "orbits, and old ones", b"".join(twin.frame(k, 9, bytes(n + one)) for k in orbits for n in (10, 14, 70, 112, 185) for one in (-1, 0, 1))
     yield "LOGs: text, and zeros after it", logs.CAPTURE
 
 

@@ -19,7 +19,8 @@ class Number(str):
 
 
 def digits(text):
-    return decimal.Decimal(text).as_tuple()
+    """How many a number has; two with as few may have the same bits, and languages choose differently."""
+    return len(decimal.Decimal(text).normalize().as_tuple().digits)
 
 
 def double(value):
@@ -49,6 +50,27 @@ def observation(one):
     return packed("IiBBHHBB", [one["P"], one["L"]["i"], one["L"]["f"], one["cn0"], one["lock"], sid["sat"], sid["code"], sid["reserved"]])
 
 
+def leaves(name, value):
+    """What a value holds, by dotted names."""
+    if isinstance(value, dict):
+        for key, inner in value.items():
+            yield from leaves("%s.%s" % (name, key), inner)
+    elif isinstance(value, list):
+        for i, inner in enumerate(value):
+            yield from leaves("%s[%d]" % (name, i), inner)
+    else:
+        yield name, value
+
+
+def fields_of(told):
+    """The fields of a message that is neither OBS nor LOG, which stand under 003's names."""
+    names = messages.FIELDS[told["msg_type"]][1]
+    found = [leaf for key in messages.keys(names) for leaf in leaves(key, told[key])]
+    if [name for name, _ in found] != names.split():
+        raise ValueError("fields %s" % [name for name, _ in found])
+    return [value for _, value in found]
+
+
 def text_of(told):
     return told["text"].encode("utf-8", "surrogateescape")
 
@@ -66,7 +88,7 @@ def fields_packed(told):
         if 0 in text:
             raise ValueError("a zero in the text")
         return packed("B", [told["level"]]) + text + bytes(told["padding"])
-    return packed(twin.MESSAGES[twin.NAMES[kind]][1], [told[name] for name in messages.FIELDS[kind][1].split()])
+    return packed(twin.MESSAGES[twin.NAMES[kind]][1], fields_of(told))
 
 
 def row(form, values):
@@ -89,7 +111,7 @@ def writers_line(line):
         return line_of("O", told, row("IHB", [*header["t"].values(), header["n_obs"]]), [n for one in seen for n in row("IiBBHHBB", one)])
     if kind == 0x0401:
         return line_of("L", told, ["%d" % n for n in (told["level"], told["padding"], *text_of(told))])
-    return line_of("W", told, row(twin.MESSAGES[twin.NAMES[kind]][1], [told[name] for name in messages.FIELDS[kind][1].split()]))
+    return line_of("W", told, row(twin.MESSAGES[twin.NAMES[kind]][1], fields_of(told)))
 
 
 def written_again(lines):
@@ -113,7 +135,7 @@ def told_of(line):
 def wanted_of(data, at, kind, payload):
     answer = twin.answer(kind, payload)
     name, fields = messages.FIELDS.get(kind, ("UNKNOWN", ""))
-    keys = FRAME + (fields.split() if answer == 0 else [])
+    keys = FRAME + (messages.keys(fields) if answer == 0 else [])
     return keys, at, answer, name, data[at:at + len(payload) + 8], payload if answer == 0 else None
 
 

@@ -85,7 +85,7 @@ def told():
         version = re.search('^version = "(.*)"', about.read(), re.M).group(1)
     yield "versions", common.run("--version"), (b"sbp %s (library %s)\n" % (version.encode(), version.encode()), b"", 0)
     asked = {(): "list json epochs", ("list",): "F E T",
-             ("json",): "offset answer preamble msg_type msg_name sender length payload crc padding UNKNOWN",
+             ("json",): "offset answer preamble msg_type msg_name sender length payload crc padding common pos vel acc UNKNOWN",
              ("epochs",): "sender epochs first_wn first_tow last_wn last_tow observations no_epoch"}
     for command, words in asked.items():
         out, said, status = common.run(*command, "--help")

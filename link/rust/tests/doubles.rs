@@ -3,27 +3,10 @@
 #[macro_use]
 mod common;
 
-use common::{Noise, frame};
+use common::{Noise, PATTERNS, frame};
 use yaqtumeer::*;
 
-const PATTERNS: [u64; 14] = [
-    0x0000_0000_0000_0000, // zero
-    0x8000_0000_0000_0000, // minus zero
-    0x0000_0000_0000_0001, // the least subnormal
-    0x800f_ffff_ffff_ffff,
-    0x7fef_ffff_ffff_ffff, // the greatest
-    0x7ff0_0000_0000_0000, // infinity
-    0xfff0_0000_0000_0000,
-    0x7ff0_0000_0000_0001, // NaNs that signal
-    0xfff7_ffff_ffff_ffff,
-    0x7ff4_0123_4567_89ab,
-    0x7ff8_0000_0000_0000, // and that don't
-    0xfff8_0000_0000_0000,
-    0x7ff8_0123_4567_89ab,
-    0xffff_ffff_ffff_ffff,
-];
-
-/// Three doubles at an offset of a payload, in every message that has them.
+/// Three doubles at an offset of a payload, in every message that has three.
 fn three(bits: [u64; 3]) {
     let doubles = bits.map(u64::to_le_bytes).concat();
     let around =

@@ -1,52 +1,11 @@
-//! Every message both ways, field by field, with values of which no two bytes
-//! are alike; the bytes are those of the published layouts.
+//! Every message but the orbits both ways, field by field, with values of which
+//! no two bytes are alike; the bytes are those of the published layouts.
 
 #[macro_use]
 mod common;
 
 use common::{frame, writes};
 use yaqtumeer::*;
-
-const SENDER: u16 = 0x9876;
-
-/// What holds of a message, its payload, its row and itself as any message.
-macro_rules! message {
-    ($message:expr, $name:ident = $kind:literal, $published:literal, $payload:expr, $row:expr) => {{
-        let (message, payload) = ($message, &$payload[..]);
-        let row = $row.map(|n: u64| n).to_vec();
-        same!("KIND", $name::KIND, $kind);
-        same!("NAME", $name::NAME, $published);
-        same!(
-            "read",
-            $name::read(payload).map(|m| m.row().to_vec()),
-            Ok(row.clone())
-        );
-        same!("row", message.row().to_vec(), row);
-        let written = frame($kind, SENDER, payload);
-        writes($published, &written, |out| message.write(Some(SENDER), out));
-        same!("frame", message.frame(Some(SENDER)), Ok(written.clone()));
-        let unnamed = frame($kind, 0x42, payload);
-        writes($published, &unnamed, |out| message.write(None, out));
-        same!("frame", message.frame(None), Ok(unnamed.clone()));
-
-        let any = Message::from(message);
-        same!("variant", matches!(any, Message::$name(_)), true);
-        same!(
-            "Message::read",
-            Message::read($kind, payload).map(|m| m.row()),
-            Ok(row.clone())
-        );
-        same!("Message::kind", any.kind(), $kind);
-        same!("Message::name", any.name(), $published);
-        same!("Message::row", any.row(), row);
-        writes($published, &written, |out| any.write(Some(SENDER), out));
-        same!("Message::frame", any.frame(Some(SENDER)), Ok(written));
-        writes($published, &unnamed, |out| any.write(None, out));
-        same!("Message::frame", any.frame(None), Ok(unnamed));
-        same!("answer", answer($kind, payload), Ok(()));
-        same!("KINDS", Message::KINDS.contains(&$kind), true);
-    }};
-}
 
 /// A message without a tail: its payload, its fields, the numbers in its row.
 macro_rules! plain {

@@ -150,7 +150,7 @@ fn versions() {
         version(),
         Version {
             major: 0,
-            minor: 9,
+            minor: 10,
             patch: 0
         }
     );

@@ -48,7 +48,8 @@ Prints an object a line for each frame, with the keys in this order:
   crc
   and, where the answer is 0, the payload's fields by the specification's names:
   MSG_OBS as header (t, n_obs) and obs, MSG_LOG as level, text (which ends before its
-  first zero) and padding (how many zeros are after it)
+  first zero) and padding (how many zeros are after it); common.sid.sat and its like
+  as objects in objects, pos, vel and acc as arrays of three
 
 A msg_type that has no reading here has the msg_name \"UNKNOWN\". A double is the shortest
 number that comes back to the same bits; one that is no number (NaN, infinities) is a

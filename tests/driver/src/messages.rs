@@ -4,7 +4,7 @@ use std::io::{self, Read};
 
 use yaqtumeer::{LONGEST_FRAME, Log, Message, Observation, Refusal};
 
-use crate::fields::{obs_of, observation_row, of_row, row_of};
+use crate::fields::{numbers_of, obs_of, of_row, row_of};
 use crate::talk::{Out, Reply, Request};
 
 pub fn read(request: &mut Request<impl Read>, reply: &mut Reply) -> io::Result<()> {
@@ -24,7 +24,7 @@ pub fn observation(request: &mut Request<impl Read>, reply: &mut Reply) -> io::R
     let (kind, index) = (request.u16()?, request.u64()? as usize);
     request.count()?;
     let read = Observation::read(kind, &request.bytes()?, index);
-    let row = read.as_ref().map_or(Vec::new(), observation_row);
+    let row = read.as_ref().map_or(Vec::new(), numbers_of);
     reply.answer(&read, true);
     reply.hash_numbers(&row);
     Ok(())

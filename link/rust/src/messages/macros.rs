@@ -1,6 +1,7 @@
 //! A message's fields, formats and order are said once, where its struct is.
 
-/// A struct that crosses as a row of numbers: its fields, and both ways.
+/// A struct that crosses as a row of numbers: its fields, which may be such
+/// structs themselves, and both ways.
 macro_rules! rowed {
     (
         $(#[$about:meta])*
@@ -13,7 +14,7 @@ macro_rules! rowed {
         }
 
         impl $name {
-            /// How many fields it has.
+            /// How many fields it has, those of a part counted one by one.
             ///
             /// ```
             #[doc = concat!("use yaqtumeer::", stringify!($name), ";")]
@@ -21,7 +22,7 @@ macro_rules! rowed {
             #[doc = concat!("let row = ", stringify!($name), "::default().row();")]
             #[doc = concat!("assert_eq!(row.len(), ", stringify!($name), "::FIELDS);")]
             /// ```
-            pub const FIELDS: usize = <[&str]>::len(&[$(stringify!($field)),*]);
+            pub const FIELDS: usize = 0 $(+ <$format as crate::rows::Part>::NUMBERS)*;
 
             /// Its fields in order, a number each: unsigned as they are, signed
             /// sign-extended, doubles as their bit pattern. Equal rows are equal
@@ -32,12 +33,21 @@ macro_rules! rowed {
             #[doc = concat!("assert_eq!(row, [0; yaqtumeer::", stringify!($name), "::FIELDS]);")]
             /// ```
             pub fn row(&self) -> [u64; Self::FIELDS] {
-                [$(crate::rows::Field::number(self.$field)),*]
+                crate::rows::row_of(*self)
+            }
+        }
+
+        // some have no fields
+        #[allow(unused_variables)]
+        impl crate::rows::Part for $name {
+            const NUMBERS: usize = $name::FIELDS;
+
+            fn put(self, row: &mut std::slice::IterMut<u64>) {
+                $(crate::rows::Part::put(self.$field, row);)*
             }
 
-            fn of_row(row: [u64; Self::FIELDS]) -> $name {
-                let [$($field),*] = row;
-                $name { $($field: crate::rows::Field::of($field)),* }
+            fn take(row: &mut std::slice::Iter<u64>) -> $name {
+                $name { $($field: crate::rows::Part::take(row)),* }
             }
         }
     };
@@ -67,7 +77,8 @@ macro_rules! message {
             #[doc = concat!("assert_eq!(", stringify!($name), "::read(&[0; 99]), Err(Refusal::WrongLength));")]
             /// ```
             pub fn read(payload: &[u8]) -> Result<$name, crate::Refusal> {
-                crate::rows::read($name::KIND, payload).map($name::of_row)
+                let row: [u64; Self::FIELDS] = crate::rows::read($name::KIND, payload)?;
+                Ok(crate::rows::of_row(row))
             }
 
             /// Writes it as a frame at the buffer's start, and says the frame's
@@ -78,9 +89,9 @@ macro_rules! message {
             /// written.
             ///
             /// ```
-            #[doc = concat!("use yaqtumeer::{", stringify!($name), ", Refusal};")]
+            #[doc = concat!("use yaqtumeer::{", stringify!($name), ", LONGEST_FRAME, Refusal};")]
             ///
-            /// let mut out = [0; 64];
+            /// let mut out = [0; LONGEST_FRAME];
             #[doc = concat!("let size = ", stringify!($name), "::default().write(Some(7), &mut out).unwrap();")]
             /// assert_eq!((out[0], out[3]), (0x55, 7));
             /// let short = &mut out[..size - 1];

@@ -5,12 +5,14 @@ mod macros;
 mod logging;
 mod navigation;
 mod observation;
+mod orbits;
 mod settings;
 mod system;
 
 pub use logging::*;
 pub use navigation::*;
 pub use observation::*;
+pub use orbits::*;
 pub use settings::*;
 pub use system::*;
 
@@ -48,7 +50,7 @@ macro_rules! messages {
             /// ```
             /// use yaqtumeer::{Message, PosLlh};
             ///
-            /// assert_eq!(Message::KINDS.len(), 18);
+            /// assert_eq!(Message::KINDS.len(), 24);
             /// assert!(Message::KINDS.contains(&PosLlh::KIND));
             /// ```
             pub const KINDS: [u16; [$($name::KIND),*].len()] = [$($name::KIND),*];
@@ -148,7 +150,8 @@ macro_rules! messages {
 
 messages! {
     GpsTime Dops PosEcef PosLlh BaselineEcef VelEcef BaselineNed VelNed BaselineHeading
-    BasePosLlh BasePosEcef Obs Log SettingsSave ReadByIndexDone ReadByIndexReq Startup Heartbeat
+    BasePosLlh BasePosEcef Obs EphemerisGps EphemerisSbas EphemerisGlo Iono SvConfigurationGps
+    GroupDelay Log SettingsSave ReadByIndexDone ReadByIndexReq Startup Heartbeat
 }
 
 impl Message {

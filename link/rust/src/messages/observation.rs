@@ -63,7 +63,7 @@ impl Observation {
                 row.len(),
             )
         };
-        answered(told).map(|()| Observation::of_row(row))
+        answered(told).map(|()| rows::of_row(row))
     }
 
     /// Its carrier phase in 1/256 cycle.

@@ -1,6 +1,6 @@
 //! What the tests share: comparisons that say what differs, frames put together
 //! byte by byte without the library, lent buffers between guard bytes.
-#![allow(dead_code)] // each test takes what it needs
+#![allow(dead_code, unused_macros)] // each test takes what it needs
 
 use yaqtumeer::Refusal;
 
@@ -13,6 +13,66 @@ macro_rules! same {
         }
     }};
 }
+
+/// What holds of a message, its payload, its row and itself as any message.
+macro_rules! message {
+    ($message:expr, $name:ident = $kind:literal, $published:literal, $payload:expr, $row:expr) => {{
+        use $crate::common::{SENDER, frame, writes};
+        let (message, payload) = ($message, &$payload[..]);
+        let row: Vec<u64> = $row.to_vec();
+        same!("KIND", $name::KIND, $kind);
+        same!("NAME", $name::NAME, $published);
+        same!(
+            "read",
+            $name::read(payload).map(|m| m.row().to_vec()),
+            Ok(row.clone())
+        );
+        same!("row", message.row().to_vec(), row);
+        let written = frame($kind, SENDER, payload);
+        writes($published, &written, |out| message.write(Some(SENDER), out));
+        same!("frame", message.frame(Some(SENDER)), Ok(written.clone()));
+        let unnamed = frame($kind, 0x42, payload);
+        writes($published, &unnamed, |out| message.write(None, out));
+        same!("frame", message.frame(None), Ok(unnamed.clone()));
+
+        let any = Message::from(message);
+        same!("variant", matches!(any, Message::$name(_)), true);
+        same!(
+            "Message::read",
+            Message::read($kind, payload).map(|m| m.row()),
+            Ok(row.clone())
+        );
+        same!("Message::kind", any.kind(), $kind);
+        same!("Message::name", any.name(), $published);
+        same!("Message::row", any.row(), row);
+        writes($published, &written, |out| any.write(Some(SENDER), out));
+        same!("Message::frame", any.frame(Some(SENDER)), Ok(written));
+        writes($published, &unnamed, |out| any.write(None, out));
+        same!("Message::frame", any.frame(None), Ok(unnamed));
+        same!("answer", answer($kind, payload), Ok(()));
+        same!("KINDS", Message::KINDS.contains(&$kind), true);
+    }};
+}
+
+pub const SENDER: u16 = 0x9876;
+
+/// Bits of doubles that are easily lost.
+pub const PATTERNS: [u64; 14] = [
+    0x0000_0000_0000_0000, // zero
+    0x8000_0000_0000_0000, // minus zero
+    0x0000_0000_0000_0001, // the least subnormal
+    0x800f_ffff_ffff_ffff,
+    0x7fef_ffff_ffff_ffff, // the greatest
+    0x7ff0_0000_0000_0000, // infinity
+    0xfff0_0000_0000_0000,
+    0x7ff0_0000_0000_0001, // NaNs that signal
+    0xfff7_ffff_ffff_ffff,
+    0x7ff4_0123_4567_89ab,
+    0x7ff8_0000_0000_0000, // and that don't
+    0xfff8_0000_0000_0000,
+    0x7ff8_0123_4567_89ab,
+    0xffff_ffff_ffff_ffff,
+];
 
 pub const GUARD: u8 = 0xee;
 const GUARDS: usize = 64;

@@ -2,30 +2,24 @@
 
 use super::{push_key, push_number, text};
 use crate::number;
-use yaqtumeer::{Log, Message, Obs, Observation};
+use yaqtumeer::{EphemerisCommon, Log, Message, Obs, Observation, Satellite, TimeOfWeek};
 
 /// A field's value in JSON.
 trait Value {
     fn push(&self, text: &mut Vec<u8>);
 }
 
-macro_rules! unsigned {
+macro_rules! integers {
     ($($format:ty)*) => {$(
         impl Value for $format {
             fn push(&self, text: &mut Vec<u8>) {
-                number::push(text, *self);
+                number::push_signed(text, *self);
             }
         }
     )*};
 }
 
-unsigned!(u8 u16 u32);
-
-impl Value for i32 {
-    fn push(&self, text: &mut Vec<u8>) {
-        number::push_signed(text, *self);
-    }
-}
+integers!(u8 u16 u32 i16 i32);
 
 impl Value for f64 {
     fn push(&self, text: &mut Vec<u8>) {
@@ -33,8 +27,61 @@ impl Value for f64 {
     }
 }
 
+impl<V: Value> Value for [V] {
+    fn push(&self, text: &mut Vec<u8>) {
+        text.push(b'[');
+        for (i, one) in self.iter().enumerate() {
+            if i > 0 {
+                text.push(b',');
+            }
+            one.push(text);
+        }
+        text.push(b']');
+    }
+}
+
+/// Values with what stands before each of them, and what stands last.
+macro_rules! interleaved {
+    ($text:ident: $($before:literal $value:expr),*; $last:literal) => {{
+        $(
+            $text.extend_from_slice($before);
+            $value.push($text);
+        )*
+        $text.extend_from_slice($last);
+    }};
+}
+
+impl Value for TimeOfWeek {
+    fn push(&self, text: &mut Vec<u8>) {
+        interleaved!(text: br#"{"tow":"# self.tow, br#","wn":"# self.wn; b"}");
+    }
+}
+
+impl Value for Satellite {
+    fn push(&self, text: &mut Vec<u8>) {
+        interleaved!(text: br#"{"sat":"# self.sat, br#","code":"# self.code, br#","reserved":"# self.reserved; b"}");
+    }
+}
+
+impl Value for EphemerisCommon {
+    fn push(&self, text: &mut Vec<u8>) {
+        interleaved!(text: br#"{"sid":"# self.sid, br#","toe":"# self.toe, br#","ura":"# self.ura; b"");
+        interleaved!(text: br#","fit_interval":"# self.fit_interval, br#","valid":"# self.valid, br#","health":"# self.health; b"}");
+    }
+}
+
+/// Where a message has a field: under its key, or where the line below says.
+macro_rules! place {
+    ($message:ident $key:ident) => {
+        $message.$key
+    };
+    ($message:ident $key:ident $($place:tt)+) => {
+        $message.$($place)+
+    };
+}
+
 macro_rules! messages {
-    ($($message:ident: $($field:ident)*;)*) => {
+    ($($message:ident: $($key:ident $(($($place:tt)+))?)*;)*) => {
         /// What a type is called, if it has a reading.
         pub fn name(kind: u16) -> Option<&'static str> {
             match kind {
@@ -50,8 +97,8 @@ macro_rules! messages {
         pub fn push(text: &mut Vec<u8>, message: &Message) {
             match message {
                 $(Message::$message(m) => {$(
-                    push_key(text, stringify!($field));
-                    m.$field.push(text);
+                    push_key(text, stringify!($key));
+                    place!(m $key $($($place)+)?).push(text);
                 )*})*
                 Message::Obs(m) => push_obs(text, m),
                 Message::Log(m) => push_log(text, m),
@@ -72,6 +119,12 @@ messages! {
     BaselineHeading: tow heading n_sats flags;
     BasePosLlh: lat lon height;
     BasePosEcef: x y z;
+    EphemerisGps: common tgd c_rs c_rc c_uc c_us c_ic c_is dn m0 ecc sqrta omega0 omegadot w inc inc_dot af0 af1 af2 toc iode iodc;
+    EphemerisSbas: common pos(motion.pos) vel(motion.vel) acc(motion.acc) a_gf0 a_gf1;
+    EphemerisGlo: common gamma tau pos(motion.pos) vel(motion.vel) acc(motion.acc);
+    Iono: t_nmct a0(a[0]) a1(a[1]) a2(a[2]) a3(a[3]) b0(b[0]) b1(b[1]) b2(b[2]) b3(b[3]);
+    SvConfigurationGps: t_nmct l2c_mask;
+    GroupDelay: t_op prn valid tgd isc_l1ca isc_l2c;
     SettingsSave: ;
     ReadByIndexDone: ;
     ReadByIndexReq: index;
@@ -86,29 +139,15 @@ fn push_log(text: &mut Vec<u8>, log: &Log) {
     push_number(text, "padding", log.padding as u64);
 }
 
-/// Values with what stands before each of them, and what stands last.
-macro_rules! interleaved {
-    ($text:ident: $($before:literal $value:expr),*; $last:literal) => {{
-        $(
-            $text.extend_from_slice($before);
-            $value.push($text);
-        )*
-        $text.extend_from_slice($last);
-    }};
-}
-
 fn push_obs(text: &mut Vec<u8>, m: &Obs) {
-    interleaved!(text: br#","header":{"t":{"tow":"# m.tow, br#","wn":"# m.wn, br#"},"n_obs":"# m.n_obs; br#"},"obs":["#);
-    for (i, one) in m.observations.iter().enumerate() {
-        if i > 0 {
-            text.push(b',');
-        }
-        push_observation(text, one);
-    }
-    text.push(b']');
+    let (tow, wn) = (m.tow, m.wn);
+    interleaved!(text: br#","header":{"t":"# TimeOfWeek { tow, wn }, br#","n_obs":"# m.n_obs, br#"},"obs":"# m.observations[..]; b"");
 }
 
-fn push_observation(text: &mut Vec<u8>, o: &Observation) {
-    interleaved!(text: br#"{"P":"# o.p, br#","L":{"i":"# o.l_i, br#","f":"# o.l_f, br#"},"cn0":"# o.cn0, br#","lock":"# o.lock; b"");
-    interleaved!(text: br#","sid":{"sat":"# o.sat, br#","code":"# o.code, br#","reserved":"# o.reserved; b"}}");
+impl Value for Observation {
+    fn push(&self, text: &mut Vec<u8>) {
+        let (sat, code, reserved) = (self.sat, self.code, self.reserved);
+        interleaved!(text: br#"{"P":"# self.p, br#","L":{"i":"# self.l_i, br#","f":"# self.l_f, br#"},"cn0":"# self.cn0; b"");
+        interleaved!(text: br#","lock":"# self.lock, br#","sid":"# Satellite { sat, code, reserved }; b"}");
+    }
 }
