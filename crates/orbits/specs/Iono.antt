@@ -24,7 +24,7 @@ cubic = record {
 abbrev pub iono : Description Iono
 iono =
     message 0x0090
-    (named (both timeOfWeek (both cubic cubic)) (λ r. (r .«t_nmct», (r .a, r .b))) (λ a. record { «t_nmct» = a .0; a = a .1 .0; b = a .1 .1 }) (λ a. refl) (λ r. refl))
+    (named (both timeOfWeek (both cubic cubic)) (λ r. (r .«t_nmct», (r .a, r .b))) (λ v. record { «t_nmct» = v .0; a = v .1 .0; b = v .1 .1 }) (λ a. refl) (λ r. refl))
 
 abbrev pub answerOf : IonoRead → Answer Iono
 answerOf (Record r) = given r

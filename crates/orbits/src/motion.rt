@@ -17,9 +17,9 @@ pub struct Motion {
     pub acc: Vector,
 }
 
-// Three doubles at an offset within a frame.
+// A motion begins within a frame, below 256, and its vectors below 512.
 fn take_vector(s: &[u8], at: usize) -> Vector
-    requires { ⌜ at < 256 ⌝ }
+    requires { ⌜ at < 512 ⌝ }
     ensures { λ r. ⌜ r ≡ takenAt vector (now (s .entry)) at ⌝ }
 {
     let y = at + 8;
@@ -32,7 +32,7 @@ fn take_vector(s: &[u8], at: usize) -> Vector
 }
 
 fn put_vector(buf: &mut [u8], at: usize, r: Vector)
-    requires { ⌜ at < 256 ⌝ }
+    requires { ⌜ at < 512 ⌝ }
     ensures { λ _. ⌜ now (buf .exit) ≡ putAt vector r (now (buf .entry)) at ⌝ }
 {
     let y = at + 8;
@@ -43,7 +43,7 @@ fn put_vector(buf: &mut [u8], at: usize, r: Vector)
 }
 
 pub(crate) fn take(s: &[u8], at: usize) -> Motion
-    requires { ⌜ at < 100 ⌝ }
+    requires { ⌜ at < 256 ⌝ }
     ensures { λ r. ⌜ r ≡ takenAt motion (now (s .entry)) at ⌝ }
 {
     let vel = at + 24;
@@ -56,7 +56,7 @@ pub(crate) fn take(s: &[u8], at: usize) -> Motion
 }
 
 pub(crate) fn put(buf: &mut [u8], at: usize, r: Motion)
-    requires { ⌜ at < 100 ⌝ }
+    requires { ⌜ at < 256 ⌝ }
     ensures { λ _. ⌜ now (buf .exit) ≡ putAt motion r (now (buf .entry)) at ⌝ }
 {
     let vel = at + 24;
