@@ -1,5 +1,6 @@
 pub mod Formats
 pub mod Steps
+pub mod Packed
 pub mod Rows
 pub mod Extended
 pub mod Cut
