@@ -39,6 +39,12 @@ unfolding entryFor
 no-entry [] kind h = (h, refl)
 no-entry (e ∷ es) kind h = let rest = no-entry es kind h in (rest .0 .0, rw (ne-eqb kind (e .kind) (rest .0 .1)) (rest .1))
 
+-- and where it is none of the first, its entry is among the rest
+pub past : {P : Type 0} (front rest : List Entry) (kind : ℕ) → Absent P (map (λ (e : Entry). e .kind) front) kind → P × (entryFor (front ++ rest) kind ≡ entryFor rest kind)
+unfolding entryFor
+past [] rest kind h = (h, refl)
+past (e ∷ es) rest kind h = let r = past es rest kind h in (r .0 .0, rw (ne-eqb kind (e .kind) (r .0 .1)) (r .1))
+
 -- no entry has that type
 abbrev lacks : List Entry → ℕ → Bool
 lacks [] kind = true

@@ -19,6 +19,7 @@ use Rattle.payloads.specs.declared.check.Check.the-variants.{Unknown, Le
 -- each type with its length; ns or flags stand at an offset, and the fix mode goes up to the last; of LOG nothing but zeros stands after the text
 abbrev pub document : List (ℕ × Check)
 document =
+    (0x0049, Obs) ∷
     (0x0100, Ns 11 6) ∷
     (0x0206, Length 14) ∷
     (0x0200, Fix 32 31 2) ∷
@@ -41,7 +42,6 @@ document =
     (0x00a2, Length 2) ∷
     (0xff00, Length 4) ∷
     (0xffff, Length 4) ∷
-    (0x0049, Obs) ∷
     (0x0401, Log) ∷
     []
 

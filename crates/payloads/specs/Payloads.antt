@@ -55,9 +55,9 @@ pub record Described : Type 1 where
 abbrev pub under : {R : Type 0} → Description R → (R → Message) → Described
 under {R} d name = record { Of = R; description = d; name = name }
 
--- every message; of an OBS the code shows the header and how many observations follow, of a LOG the level and how long text and padding are
-abbrev pub messages : List Described
-messages =
+-- every message but OBS; of a LOG the code shows the level and how long text and padding are
+abbrev pub others : List Described
+others =
     under gpsTime (λ r. M.GpsTime r) ∷
     under dops (λ r. M.Dops r) ∷
     under posEcef (λ r. M.PosEcef r) ∷
@@ -80,9 +80,12 @@ messages =
     under readByIndexReq (λ r. M.ReadByIndexReq r) ∷
     under startup (λ r. M.Startup r) ∷
     under heartbeat (λ r. M.Heartbeat r) ∷
-    under (obs first) (λ r. M.Obs (observation.shown r)) ∷
     under log (λ r. M.Log (system.shown r)) ∷
     []
+
+-- every message; of an OBS the code shows the header and how many observations follow
+abbrev pub messages : List Described
+messages = under (obs first) (λ r. M.Obs (observation.shown r)) ∷ others
 
 -- ---- the table
 
@@ -108,6 +111,10 @@ table = map entryOf messages
 unfoldable pub entryFor : List Entry → ℕ → Entry
 entryFor [] kind = noEntry kind
 entryFor (e ∷ es) kind = cond (eqb kind (e .kind)) e (entryFor es kind)
+
+-- what a payload of a type other than OBS holds
+abbrev pub recordIn : ℕ → List ℕ → Message
+recordIn kind s = entryFor (map entryOf others) kind .holds s
 
 -- what a type's payloads are made of, and that as digits; of a type without a reading nothing
 abbrev pub layoutFor : ℕ → Layout

@@ -17,6 +17,7 @@ pub fn check_of(kind: u16) -> Check
     ensures { λ r. ⌜ r ≡ checkFor kind ⌝ }
 {
     match kind {
+        0x0049 => Check::Obs,
         0x0100 => Check::Ns(11, 6),
         0x0206 => Check::Length(14),
         0x0200 => Check::Fix(32, 31, 2),
@@ -39,7 +40,6 @@ pub fn check_of(kind: u16) -> Check
         0x00a2 => Check::Length(2),
         0xff00 => Check::Length(4),
         0xffff => Check::Length(4),
-        0x0049 => Check::Obs,
         0x0401 => Check::Log,
         _ => Check::Unknown,
     }

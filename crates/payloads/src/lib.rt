@@ -7,6 +7,7 @@ ghost use Rattle.payloads.specs.Payloads.{readFor, answerFor, readingAns
 ghost use Rattle.wire.specs.Refusals.{mapped};
 
 mod check;
+mod record;
 mod shape;
 
 use observation::ObsRead;
@@ -71,34 +72,7 @@ pub fn read(kind: u16, payload: &[u8]) -> Reading
         return Reading::Refused(n);
     }
     match kind {
-        0x0100 => Reading::Record(Message::GpsTime(navigation::take_gps_time(payload))),
-        0x0206 => Reading::Record(Message::Dops(navigation::take_dops(payload))),
-        0x0200 => Reading::Record(Message::PosEcef(navigation::take_pos_ecef(payload))),
-        0x0201 => Reading::Record(Message::PosLlh(navigation::take_pos_llh(payload))),
-        0x0202 => Reading::Record(Message::BaselineEcef(navigation::take_ecef(payload))),
-        0x0204 => Reading::Record(Message::VelEcef(navigation::take_ecef(payload))),
-        0x0203 => Reading::Record(Message::BaselineNed(navigation::take_ned(payload))),
-        0x0205 => Reading::Record(Message::VelNed(navigation::take_ned(payload))),
-        0x0207 => Reading::Record(Message::BaselineHeading(navigation::take_baseline_heading(
-            payload,
-        ))),
-        0x0044 => Reading::Record(Message::BasePosLlh(observation::take_base_pos_llh(payload))),
-        0x0048 => Reading::Record(Message::BasePosEcef(observation::take_base_pos_ecef(payload))),
-        0x0081 => Reading::Record(Message::EphemerisGps(orbits::take_ephemeris_gps(payload))),
-        0x0082 => Reading::Record(Message::EphemerisSbas(orbits::take_ephemeris_sbas(payload))),
-        0x0083 => Reading::Record(Message::EphemerisGlo(orbits::take_ephemeris_glo(payload))),
-        0x0090 => Reading::Record(Message::Iono(orbits::take_iono(payload))),
-        0x0091 => Reading::Record(Message::SvConfigurationGps(orbits::take_sv_configuration_gps(
-            payload,
-        ))),
-        0x0092 => Reading::Record(Message::GroupDelay(orbits::take_group_delay(payload))),
-        0x00a1 => Reading::Record(Message::SettingsSave),
-        0x00a6 => Reading::Record(Message::ReadByIndexDone),
-        0x00a2 => Reading::Record(Message::ReadByIndexReq(system::take_read_by_index_req(payload))),
-        0xff00 => Reading::Record(Message::Startup(system::take_startup(payload))),
-        0xffff => Reading::Record(Message::Heartbeat(system::take_heartbeat(payload))),
         0x0049 => obs(payload),
-        0x0401 => Reading::Record(Message::Log(system::take_log(payload))),
-        _ => Reading::Refused(21),
+        _ => Reading::Record(record::record_in(kind, payload)),
     }
 }

@@ -27,6 +27,7 @@ pub fn shape_of(kind: u16) -> Shape
     ensures { λ r. ⌜ r ≡ shapeFor kind ⌝ }
 {
     match kind {
+        0x0049 => digits(0x124, 0, 0x112211c4),
         0x0100 => digits(0x1c42, 0, 0),
         0x0206 => digits(0x222224, 0, 0),
         0x0200 => digits(0x1128884, 0, 0),
@@ -49,7 +50,6 @@ pub fn shape_of(kind: u16) -> Shape
         0x00a2 => digits(0x2, 0, 0),
         0xff00 => digits(0x4, 0, 0),
         0xffff => digits(0x4, 0, 0),
-        0x0049 => digits(0x124, 0, 0x112211c4),
         0x0401 => digits(0x1, 0, 0xf),
         _ => digits(0, 0, 0),
     }

@@ -1,182 +1,30 @@
--- `payloads::read` meets its contract: each type by its entry, any other by having none.
-use mathlib.Core.Path.{refl, ap}
+-- `payloads::read` meets its contract: a refusal by its number, an OBS by its own reader, any other type by the record that it holds.
 use borrow.Author.Needs.{needs}
-use Rattle.payloads.specs.Payloads.{entryFor}
-use Rattle.payloads.specs.declared.Message.the-variants as M
 use Rattle.payloads.proofs.Entries as typed
-use Rattle.payloads.proofs.Agreed.{refuses, gives, at-kind, at-none}
+use Rattle.payloads.proofs.Agreed.{refuses, gives-record, at-kind}
 use Rattle.payloads.proofs.read.Statement.{statement}
 use Rattle.payloads.proofs.read.Tie as tie
 
 answer-requires : tie.Need-answer-requires
 answer-requires c κs = search needs
 
-take-gps-time-requires : tie.Need-take-gps-time-requires
-take-gps-time-requires c κs = search needs
-
-take-dops-requires : tie.Need-take-dops-requires
-take-dops-requires c κs = search needs
-
-take-pos-ecef-requires : tie.Need-take-pos-ecef-requires
-take-pos-ecef-requires c κs = search needs
-
-take-pos-llh-requires : tie.Need-take-pos-llh-requires
-take-pos-llh-requires c κs = search needs
-
-take-ecef-requires : tie.Need-take-ecef-requires
-take-ecef-requires c κs = search needs
-
-take-ecef-requires-2 : tie.Need-take-ecef-requires-2
-take-ecef-requires-2 c κs = search needs
-
-take-ned-requires : tie.Need-take-ned-requires
-take-ned-requires c κs = search needs
-
-take-ned-requires-2 : tie.Need-take-ned-requires-2
-take-ned-requires-2 c κs = search needs
-
-take-baseline-heading-requires : tie.Need-take-baseline-heading-requires
-take-baseline-heading-requires c κs = search needs
-
-take-base-pos-llh-requires : tie.Need-take-base-pos-llh-requires
-take-base-pos-llh-requires c κs = search needs
-
-take-base-pos-ecef-requires : tie.Need-take-base-pos-ecef-requires
-take-base-pos-ecef-requires c κs = search needs
-
-take-ephemeris-gps-requires : tie.Need-take-ephemeris-gps-requires
-take-ephemeris-gps-requires c κs = search needs
-
-take-ephemeris-sbas-requires : tie.Need-take-ephemeris-sbas-requires
-take-ephemeris-sbas-requires c κs = search needs
-
-take-ephemeris-glo-requires : tie.Need-take-ephemeris-glo-requires
-take-ephemeris-glo-requires c κs = search needs
-
-take-iono-requires : tie.Need-take-iono-requires
-take-iono-requires c κs = search needs
-
-take-sv-configuration-gps-requires : tie.Need-take-sv-configuration-gps-requires
-take-sv-configuration-gps-requires c κs = search needs
-
-take-group-delay-requires : tie.Need-take-group-delay-requires
-take-group-delay-requires c κs = search needs
-
-take-read-by-index-req-requires : tie.Need-take-read-by-index-req-requires
-take-read-by-index-req-requires c κs = search needs
-
-take-startup-requires : tie.Need-take-startup-requires
-take-startup-requires c κs = search needs
-
-take-heartbeat-requires : tie.Need-take-heartbeat-requires
-take-heartbeat-requires c κs = search needs
-
 obs-requires : tie.Need-obs-requires
 obs-requires c κs = search needs
 
-take-log-requires : tie.Need-take-log-requires
-take-log-requires c κs = search needs
+record-in-requires : tie.Need-record-in-requires
+record-in-requires c κs = search needs
 
 returns : tie.Need-returns
 returns c = let a = c .before .before .before .args in refuses (a .kind) (a .payload .now) (c .before .answer .ensures) (c .if1 .taken)
 
 returns-2 : tie.Need-returns-2
-unfolding entryFor
-returns-2 c = let w = c .before .before in let a = w .before .before .before .args in gives (a .kind) (a .payload .now) (w .before .answer .ensures) (w .if1 .left) (c .before .match .keys1) (ap (λ r. M.GpsTime r) (c .take-gps-time .ensures))
+returns-2 c = let a = c .before .before .before .before .before .args in at-kind (a .kind) (a .payload .now) (typed.obs-read (a .payload .now)) (c .obs .ensures) (c .before .match .keys1)
 
 returns-3 : tie.Need-returns-3
-unfolding entryFor
-returns-3 c = let w = c .before .before in let a = w .before .before .before .args in gives (a .kind) (a .payload .now) (w .before .answer .ensures) (w .if1 .left) (c .before .match .keys2) (ap (λ r. M.Dops r) (c .take-dops .ensures))
-
-returns-4 : tie.Need-returns-4
-unfolding entryFor
-returns-4 c = let w = c .before .before in let a = w .before .before .before .args in gives (a .kind) (a .payload .now) (w .before .answer .ensures) (w .if1 .left) (c .before .match .keys3) (ap (λ r. M.PosEcef r) (c .take-pos-ecef .ensures))
-
-returns-5 : tie.Need-returns-5
-unfolding entryFor
-returns-5 c = let w = c .before .before in let a = w .before .before .before .args in gives (a .kind) (a .payload .now) (w .before .answer .ensures) (w .if1 .left) (c .before .match .keys4) (ap (λ r. M.PosLlh r) (c .take-pos-llh .ensures))
-
-returns-6 : tie.Need-returns-6
-unfolding entryFor
-returns-6 c = let w = c .before .before in let a = w .before .before .before .args in gives (a .kind) (a .payload .now) (w .before .answer .ensures) (w .if1 .left) (c .before .match .keys5) (ap (λ r. M.BaselineEcef r) (c .take-ecef .ensures))
-
-returns-7 : tie.Need-returns-7
-unfolding entryFor
-returns-7 c = let w = c .before .before in let a = w .before .before .before .args in gives (a .kind) (a .payload .now) (w .before .answer .ensures) (w .if1 .left) (c .before .match .keys6) (ap (λ r. M.VelEcef r) (c .take-ecef2 .ensures))
-
-returns-8 : tie.Need-returns-8
-unfolding entryFor
-returns-8 c = let w = c .before .before in let a = w .before .before .before .args in gives (a .kind) (a .payload .now) (w .before .answer .ensures) (w .if1 .left) (c .before .match .keys7) (ap (λ r. M.BaselineNed r) (c .take-ned .ensures))
-
-returns-9 : tie.Need-returns-9
-unfolding entryFor
-returns-9 c = let w = c .before .before in let a = w .before .before .before .args in gives (a .kind) (a .payload .now) (w .before .answer .ensures) (w .if1 .left) (c .before .match .keys8) (ap (λ r. M.VelNed r) (c .take-ned2 .ensures))
-
-returns-10 : tie.Need-returns-10
-unfolding entryFor
-returns-10 c = let w = c .before .before in let a = w .before .before .before .args in gives (a .kind) (a .payload .now) (w .before .answer .ensures) (w .if1 .left) (c .before .match .keys9) (ap (λ r. M.BaselineHeading r) (c .take-baseline-heading .ensures))
-
-returns-11 : tie.Need-returns-11
-unfolding entryFor
-returns-11 c = let w = c .before .before in let a = w .before .before .before .args in gives (a .kind) (a .payload .now) (w .before .answer .ensures) (w .if1 .left) (c .before .match .keys10) (ap (λ r. M.BasePosLlh r) (c .take-base-pos-llh .ensures))
-
-returns-12 : tie.Need-returns-12
-unfolding entryFor
-returns-12 c = let w = c .before .before in let a = w .before .before .before .args in gives (a .kind) (a .payload .now) (w .before .answer .ensures) (w .if1 .left) (c .before .match .keys11) (ap (λ r. M.BasePosEcef r) (c .take-base-pos-ecef .ensures))
-
-returns-13 : tie.Need-returns-13
-unfolding entryFor
-returns-13 c = let w = c .before .before in let a = w .before .before .before .args in gives (a .kind) (a .payload .now) (w .before .answer .ensures) (w .if1 .left) (c .before .match .keys12) (ap (λ r. M.EphemerisGps r) (c .take-ephemeris-gps .ensures))
-
-returns-14 : tie.Need-returns-14
-unfolding entryFor
-returns-14 c = let w = c .before .before in let a = w .before .before .before .args in gives (a .kind) (a .payload .now) (w .before .answer .ensures) (w .if1 .left) (c .before .match .keys13) (ap (λ r. M.EphemerisSbas r) (c .take-ephemeris-sbas .ensures))
-
-returns-15 : tie.Need-returns-15
-unfolding entryFor
-returns-15 c = let w = c .before .before in let a = w .before .before .before .args in gives (a .kind) (a .payload .now) (w .before .answer .ensures) (w .if1 .left) (c .before .match .keys14) (ap (λ r. M.EphemerisGlo r) (c .take-ephemeris-glo .ensures))
-
-returns-16 : tie.Need-returns-16
-unfolding entryFor
-returns-16 c = let w = c .before .before in let a = w .before .before .before .args in gives (a .kind) (a .payload .now) (w .before .answer .ensures) (w .if1 .left) (c .before .match .keys15) (ap (λ r. M.Iono r) (c .take-iono .ensures))
-
-returns-17 : tie.Need-returns-17
-unfolding entryFor
-returns-17 c = let w = c .before .before in let a = w .before .before .before .args in gives (a .kind) (a .payload .now) (w .before .answer .ensures) (w .if1 .left) (c .before .match .keys16) (ap (λ r. M.SvConfigurationGps r) (c .take-sv-configuration-gps .ensures))
-
-returns-18 : tie.Need-returns-18
-unfolding entryFor
-returns-18 c = let w = c .before .before in let a = w .before .before .before .args in gives (a .kind) (a .payload .now) (w .before .answer .ensures) (w .if1 .left) (c .before .match .keys17) (ap (λ r. M.GroupDelay r) (c .take-group-delay .ensures))
-
-returns-19 : tie.Need-returns-19
-unfolding entryFor
-returns-19 c = let w = c .before in let a = w .before .before .before .args in gives (a .kind) (a .payload .now) (w .before .answer .ensures) (w .if1 .left) (c .match .keys18) refl
-
-returns-20 : tie.Need-returns-20
-unfolding entryFor
-returns-20 c = let w = c .before in let a = w .before .before .before .args in gives (a .kind) (a .payload .now) (w .before .answer .ensures) (w .if1 .left) (c .match .keys19) refl
-
-returns-21 : tie.Need-returns-21
-unfolding entryFor
-returns-21 c = let w = c .before .before in let a = w .before .before .before .args in gives (a .kind) (a .payload .now) (w .before .answer .ensures) (w .if1 .left) (c .before .match .keys20) (ap (λ r. M.ReadByIndexReq r) (c .take-read-by-index-req .ensures))
-
-returns-22 : tie.Need-returns-22
-unfolding entryFor
-returns-22 c = let w = c .before .before in let a = w .before .before .before .args in gives (a .kind) (a .payload .now) (w .before .answer .ensures) (w .if1 .left) (c .before .match .keys21) (ap (λ r. M.Startup r) (c .take-startup .ensures))
-
-returns-23 : tie.Need-returns-23
-unfolding entryFor
-returns-23 c = let w = c .before .before in let a = w .before .before .before .args in gives (a .kind) (a .payload .now) (w .before .answer .ensures) (w .if1 .left) (c .before .match .keys22) (ap (λ r. M.Heartbeat r) (c .take-heartbeat .ensures))
-
-returns-24 : tie.Need-returns-24
-returns-24 c = let a = c .before .before .before .before .before .args in at-kind (a .kind) (a .payload .now) (typed.obs-read (a .payload .now)) (c .obs .ensures) (c .before .match .keys23)
-
-returns-25 : tie.Need-returns-25
-unfolding entryFor
-returns-25 c = let w = c .before .before in let a = w .before .before .before .args in gives (a .kind) (a .payload .now) (w .before .answer .ensures) (w .if1 .left) (c .before .match .keys24) (ap (λ r. M.Log r) (c .take-log .ensures))
-
-returns-26 : tie.Need-returns-26
-returns-26 c = let a = c .before .before .before .before .args in at-none (a .kind) (a .payload .now) (c .match .rest)
+returns-3 c =
+    let w = c .before .before in
+    let a = w .before .before .before .args in
+    gives-record (a .kind) (a .payload .now) (w .before .answer .ensures) (w .if1 .left) (c .before .match .rest) (c .record-in .ensures)
 
 pub read-spec : {M : Type 1} → statement M
-read-spec = tie.close (tie.spec answer-requires returns take-gps-time-requires take-dops-requires take-pos-ecef-requires take-pos-llh-requires take-ecef-requires take-ecef-requires-2 take-ned-requires take-ned-requires-2 take-baseline-heading-requires take-base-pos-llh-requires take-base-pos-ecef-requires take-ephemeris-gps-requires take-ephemeris-sbas-requires take-ephemeris-glo-requires take-iono-requires take-sv-configuration-gps-requires take-group-delay-requires take-read-by-index-req-requires take-startup-requires take-heartbeat-requires obs-requires take-log-requires returns-2 returns-3 returns-4 returns-5 returns-6 returns-7 returns-8 returns-9 returns-10 returns-11 returns-12 returns-13 returns-14 returns-15 returns-16 returns-17 returns-18 returns-19 returns-20 returns-21 returns-22 returns-23 returns-24 returns-25 returns-26)
+read-spec = tie.close (tie.spec answer-requires returns obs-requires record-in-requires returns-2 returns-3)
