@@ -16,6 +16,16 @@ FIELDS = dict(tow=416300400, x=-4145, y=-5905, z=6384, accuracy=0, n_sats=5, fla
 def checksums():
     for name, data in ("nothing", b""), ("123456789", b"123456789"), ("example-frame", EXAMPLE):
         yield "crc %s %04x" % (name, binascii.crc_hqx(data, 0))
+    head = b"\x55" + EXAMPLE[:5]
+    for name, header, payload in ("example-frame", head, EXAMPLE[5:]), ("no-header", b"", EXAMPLE[5:]), ("no-payload", head, b""):
+        yield "crc-apart %s %04x" % (name, binascii.crc_hqx(header[1:] + payload, 0))
+    text, sizes = b"123456789", (0, 1, 255)
+    cuts = [(text[:at], text[at:]) for at in range(10)] + [(mixed(3, 37, n), mixed(9, 41, m)) for n in sizes for m in sizes]
+    for start in 0, 1, 65535:
+        yield "crc-from %d %04x" % (start, binascii.crc_hqx(text, start))
+        for first, second in cuts:
+            whole = binascii.crc_hqx(first + second, start)
+            yield "crc-parts %d %d %d %04x %04x %04x" % (start, len(first), len(second), binascii.crc_hqx(first, start), whole, whole)
 
 
 def numbers():

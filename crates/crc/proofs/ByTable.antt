@@ -1,7 +1,7 @@
 -- A table's rule at each entry, and by a table of that rule the CRC.
 -- Assumes nothing.
 use mathlib.Core.Path.{_≡_, refl, sym, ap, ap₂, _∙_}
-use mathlib.Core.List.{List, [], _∷_}
+use mathlib.Core.List.{List, [], _∷_, _++_}
 use Prim.Native.Nat.{ℕ, zero, suc, _+_, _*_, _/_, _%_, _<_}
 use native.Mathlib.Nat.{add-zero, le-of-suc-le-suc, not-suc-le-zero}
 use native.Mathlib.Omega.{arith}
@@ -12,7 +12,8 @@ use lib.Pow as Pow
 use Rattle.crc.specs.Crc.{bitSteps, byteStep, crcFrom}
 use Rattle.crc.specs.Table.{tabulated, Rule, byteBy, crcBy}
 use Rattle.crc.proofs.Split.{split}
-use Rattle.crc.proofs.Fold.{byteStep-fits}
+use Rattle.crc.proofs.Fold.{byteStep-fits, crcFrom-fits}
+use Rattle.crc.proofs.Joined.{joined}
 
 pub tabulated-at : {A : Type 0} (f : ℕ → A) (n k : ℕ) (d : A) → k < n → getD (tabulated f n) k d ≡ f k
 unfolding tabulated
@@ -46,3 +47,12 @@ module _ (t : List ℕ) (rule : Rule t) where
   crc-by-table c [] hc bytes = refl
   crc-by-table c (b ∷ s) hc bytes =
       ap (λ (x : ℕ). crcBy t x s) (byte-by-table c b hc (bytes 0)) ∙ crc-by-table (byteStep c b) s (byteStep-fits c b) (λ i. bytes (suc i))
+
+  -- of two parts, the second begun at what the first came to: of both joined
+  pub crc-by-parts : (c : ℕ) (s u : List ℕ) {m r : ℕ} → c < 65536 → ((i : ℕ) → getD s i 0 < 256) → ((i : ℕ) → getD u i 0 < 256)
+      → m ≡ crcBy t c s → r ≡ crcBy t m u → r ≡ crcFrom c (s ++ u)
+  crc-by-parts c s u hc first second p q =
+      q
+      ∙ ap (λ (x : ℕ). crcBy t x u) (p ∙ crc-by-table c s hc first)
+      ∙ crc-by-table (crcFrom c s) u (crcFrom-fits c s hc) second
+      ∙ sym (joined c s u)

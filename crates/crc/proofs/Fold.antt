@@ -33,10 +33,10 @@ crcFrom-fits c (b ∷ s) h = crcFrom-fits (byteStep c b) s (byteStep-fits c b)
 -- ---- the loop by a table: the register's halves are carried with the next two bytes added, which past the end are 0
 
 -- c is the register once i bytes are taken
-pub record Carried (t s : List ℕ) (upper lower i : ℕ) : Type 0 where
+pub record Carried (t : List ℕ) (start : ℕ) (s : List ℕ) (upper lower i : ℕ) : Type 0 where
   pub c : ℕ
   pub inside : i ≤ length s
-  pub rest : crcBy t c (drop i s) ≡ crcBy t 0 s
+  pub rest : crcBy t c (drop i s) ≡ crcBy t start s
   pub uppers : upper ≡ bitXor (c / 256) (getD s i 0)
   pub lowers : lower ≡ bitXor (c % 256) (getD s (i + 1) 0)
   pub upper-fits : upper < 256
@@ -53,12 +53,12 @@ half-low c e = let none : c % 256 * 256 % 256 ≡ 0 = omega arith in xor-mod (c 
 pub none-later : (s : List ℕ) (i : ℕ) → length s ≤ i → 0 ≡ getD s i 0
 none-later s i h = sym (List·getD-eq-default s 0 h)
 
-module _ (t s : List ℕ) where
-  pub carried-none : {u l : ℕ} → (u ≡ getD s 0 0) × (u < 256) → (l ≡ getD s 1 0) × (l < 256) → Carried t s u l 0
-  carried-none hu hl = record { c = 0; inside = zero-le; rest = refl; uppers = hu .0; lowers = hl .0; upper-fits = hu .1; lower-fits = hl .1 }
+module _ (t : List ℕ) (start : ℕ) (s : List ℕ) where
+  pub carried-none : {u l : ℕ} → (u ≡ bitXor (start / 256) (getD s 0 0)) × (u < 256) → (l ≡ bitXor (start % 256) (getD s 1 0)) × (l < 256) → Carried t start s u l 0
+  carried-none hu hl = record { c = start; inside = zero-le; rest = refl; uppers = hu .0; lowers = hl .0; upper-fits = hu .1; lower-fits = hl .1 }
 
-  pub carried-more : {u l i v m : ℕ} → Carried t s u l i → i < length s → (v ≡ bitXor l (getD t u 0 / 256)) × (v < 256) → (m ≡ bitXor (getD t u 0 % 256) (getD s (i + 2) 0)) × (m < 256)
-      → Carried t s v m (i + 1)
+  pub carried-more : {u l i v m : ℕ} → Carried t start s u l i → i < length s → (v ≡ bitXor l (getD t u 0 / 256)) × (v < 256) → (m ≡ bitXor (getD t u 0 % 256) (getD s (i + 2) 0)) × (m < 256)
+      → Carried t start s v m (i + 1)
   unfolding crcBy
   carried-more {u} {l} {i} h more hv hm =
       let e = getD t u 0 in
@@ -77,7 +77,7 @@ module _ (t s : List ℕ) where
       }
 
   -- past the last byte the halves are the register's own
-  pub carried-all : {u l i : ℕ} → Carried t s u l i → length s ≤ i → u * 256 + l ≡ crcBy t 0 s
+  pub carried-all : {u l i : ℕ} → Carried t start s u l i → length s ≤ i → u * 256 + l ≡ crcBy t start s
   unfolding crcBy
   carried-all {u} {l} {i} h all =
       let up : u ≡ h .c / 256 = h .uppers ∙ ap (bitXor (h .c / 256)) (sym (none-later s i all)) ∙ xor-zero-r (h .c / 256) in

@@ -1,7 +1,9 @@
-// The CRC of a frame. Read specs/Crc.antt first: the single-bit step, eight of them for a byte, a fold over the bytes.
+// The CRC, which goes on from a given value: a frame's starts at 0. Read specs/Crc.antt first: the single-bit step, eight of them for a byte, a
+// fold over the bytes.
 // The code takes a byte at a time from a constant table, specs/Table.antt; `entries` states the table's rule, proved over all of it.
 // A constant is built anew wherever it is named: who sums many frames makes the table once and lends it to `crc_by`.
 ghost use mathlib.Core.Path.{_≡_};
+ghost use mathlib.Core.List.{_++_};
 ghost use Prim.Native.Nat.{_/_, _%_, _<_};
 ghost use lib.Bits.{bitXor};
 ghost use lib.ListN.{getD};
@@ -275,14 +277,15 @@ pub fn entries() -> [u16; 256]
     TABLE
 }
 
-// A byte of s; past the end 0.
-fn byte(s: &[u8], i: usize) -> usize
-    ensures { λ r. ⌜ (r ≡ getD (now (s .entry)) i 0) × (r < 256) ⌝ }
+// A half of the register with the byte that it meets added; past the end nothing is.
+fn met(half: usize, s: &[u8], i: usize) -> usize
+    requires { ⌜ half < 256 ⌝ }
+    ensures { λ r. ⌜ (r ≡ bitXor half (getD (now (s .entry)) i 0)) × (r < 256) ⌝ }
 {
     if i < s.len() {
-        return s[i] as usize;
+        return half ^ (s[i] as usize);
     }
-    0
+    half
 }
 
 // The register after a byte is the entry that the byte picked with the old lower half added to its upper one. So what the next byte picks in
@@ -302,14 +305,14 @@ fn waits(entry: u16, b: usize) -> usize
     (entry as usize % 256) ^ b
 }
 
-// What a table makes of s, begun at 0. By `entries` it is the CRC.
-pub fn crc_by(table: &[u16; 256], s: &[u8]) -> u16
-    ensures { λ r. ⌜ r ≡ crcBy (now (table .entry)) 0 (now (s .entry)) ⌝ }
+// What a table makes of s, begun at start. By `entries` it is the CRC.
+pub fn crc_by(table: &[u16; 256], start: u16, s: &[u8]) -> u16
+    ensures { λ r. ⌜ r ≡ crcBy (now (table .entry)) start (now (s .entry)) ⌝ }
 {
     // the register's halves with the next two bytes added, so that from one look-up to the next there is one addition; in a usize they take
     // fewer moves than in a u8
-    let mut upper = byte(s, 0);
-    let mut lower = byte(s, 1);
+    let mut upper = met(start as usize / 256, s, 0);
+    let mut lower = met(start as usize % 256, s, 1);
     let mut i = 0;
     // a byte is known to be there, but for the last two
     while 2 < s.len() - i {
@@ -327,10 +330,19 @@ pub fn crc_by(table: &[u16; 256], s: &[u8]) -> u16
     (upper * 256 + lower) as u16
 }
 
-// The CRC of s, begun at 0.
-pub fn crc(s: &[u8]) -> u16
-    ensures { λ r. ⌜ r ≡ crcFrom 0 (now (s .entry)) ⌝ }
+// The CRC of s, begun at start: 0, or what the bytes before s came to.
+pub fn crc(start: u16, s: &[u8]) -> u16
+    ensures { λ r. ⌜ r ≡ crcFrom start (now (s .entry)) ⌝ }
 {
     let table = entries();
-    crc_by(&table, s)
+    crc_by(&table, start, s)
+}
+
+// The CRC of two parts that lie apart, as if they stood joined.
+pub fn crc_apart(start: u16, first: &[u8], second: &[u8]) -> u16
+    ensures { λ r. ⌜ r ≡ crcFrom start (now (first .entry) ++ now (second .entry)) ⌝ }
+{
+    let table = entries();
+    let between = crc_by(&table, start, first);
+    crc_by(&table, between, second)
 }

@@ -2,6 +2,7 @@ pub mod ProofOf1
 pub mod ProofOf2
 pub mod ProofOf3
 pub mod ProofOfExported
+pub mod ProofOfParts
 pub mod AllHold
 pub mod ShutOut
 pub mod Nobody

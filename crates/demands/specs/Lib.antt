@@ -3,6 +3,7 @@ pub mod Demand2
 pub mod Demand3
 pub mod RowsBack
 pub mod Exported
+pub mod InParts
 pub mod Examples
 pub mod Idle
 pub mod Handed

@@ -64,6 +64,7 @@ module _ {M : Type 1} (𝓤 : URA M) (H : Heap 𝓤) (A : Atoms 𝓤) (mem : Mem
     pub entries : Determined 𝓤 crc.entries.ended (crc.entries.clauses 𝓤 H A mem run)
     pub crc-by : Determined 𝓤 crc.crc_by.ended (crc.crc_by.clauses 𝓤 H A mem run)
     pub crc : Determined 𝓤 crc.crc.ended (crc.crc.clauses 𝓤 H A mem run)
+    pub crc-apart : Determined 𝓤 crc.crc_apart.ended (crc.crc_apart.clauses 𝓤 H A mem run)
 
   pub record Text : Type 1 where
     pub put-line : Determined 𝓤 text.put_line.ended (text.put_line.clauses 𝓤 H A mem run)
@@ -81,6 +82,7 @@ module _ {M : Type 1} (𝓤 : URA M) (H : Heap 𝓤) (A : Atoms 𝓤) (mem : Mem
     pub next : Determined 𝓤 frames.cursor.Cursor.next.ended (frames.cursor.Cursor.next.clauses 𝓤 H A mem run)
     pub counts : Determined 𝓤 frames.cursor.Cursor.counts.ended (frames.cursor.Cursor.counts.clauses 𝓤 H A mem run)
     pub totals : Determined 𝓤 frames.totals.ended (frames.totals.clauses 𝓤 H A mem run)
+    pub frame-crc : Determined 𝓤 frames.frame_crc.ended (frames.frame_crc.clauses 𝓤 H A mem run)
     pub step-at : Determined 𝓤 frames.step_at.ended (frames.step_at.clauses 𝓤 H A mem run)
     -- a part of what was lent: what it holds
     pub payload : DeterminedAs 𝓤 frames.payload.ended (frames.payload.clauses 𝓤 H A mem run) (λ κs. List ℕ) (λ κs r. now r)
@@ -239,6 +241,7 @@ module _ {M : Type 1} (𝓤 : URA M) (H : Heap 𝓤) (A : Atoms 𝓤) (mem : Mem
 
   pub record Exports : Type 1 where
     pub sbp-crc : Determined 𝓤 exports.sbp_crc.ended (exports.sbp_crc.clauses 𝓤 H A mem run)
+    pub sbp-frame-crc : Determined 𝓤 exports.sbp_frame_crc.ended (exports.sbp_frame_crc.clauses 𝓤 H A mem run)
     pub sbp-answer : Determined 𝓤 exports.sbp_answer.ended (exports.sbp_answer.clauses 𝓤 H A mem run)
     pub sbp-totals : Determined 𝓤 exports.sbp_totals.ended (exports.sbp_totals.clauses 𝓤 H A mem run)
     pub sbp-feed : Determined 𝓤 exports.sbp_feed.ended (exports.sbp_feed.clauses 𝓤 H A mem run)

@@ -18,6 +18,7 @@ mod writing;
 
 pub use answering::sbp_answer;
 pub use answering::sbp_crc;
+pub use answering::sbp_frame_crc;
 pub use beating::sbp_external_antenna;
 pub use beating::sbp_io_error;
 pub use beating::sbp_nap_error;

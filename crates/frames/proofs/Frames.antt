@@ -47,7 +47,7 @@ part s k n {a} {e} p q = go (leb k (length s)) refl
 -- ---- numbers and the bytes that they came from
 
 -- two parts of s that follow one another
-join : (a b : ℕ) (s : List ℕ) (k m : ℕ) {x y : List ℕ} → m ≡ k + a → x ≡ take a (drop k s) → y ≡ take b (drop m s) → x ++ y ≡ take (a + b) (drop k s)
+pub join : (a b : ℕ) (s : List ℕ) (k m : ℕ) {x y : List ℕ} → m ≡ k + a → x ≡ take a (drop k s) → y ≡ take b (drop m s) → x ++ y ≡ take (a + b) (drop k s)
 join a b s k m n p q =
     ap₂ (λ (x y : List ℕ). x ++ y) p (q ∙ ap (λ (i : ℕ). take b (drop i s)) n) ∙ rw (← drop-drop) (sym (take-add a b (drop k s)))
 

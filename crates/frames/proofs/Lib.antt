@@ -1,5 +1,6 @@
 pub mod Steps
 pub mod Frames
+pub mod SumsApart
 pub mod Readings
 pub mod Tiling
 pub mod GoingOn

@@ -1,12 +1,15 @@
 // Frames: found in a lent capture by document 01's five lines, and written into a lent buffer.
 // Read specs/Frame.antt (a frame's bytes), specs/Decides.antt (the five lines), specs/Step.antt (the same as a function), specs/Reading.antt
-// (whole readings and their counts), specs/Cursors.antt, then specs/Writer.antt and specs/Faithful.antt. specs/Junk.antt serves speed alone.
+// (whole readings and their counts), specs/Cursors.antt, then specs/Writer.antt and specs/Faithful.antt; specs/Apart.antt, a frame in two buffers.
+// specs/Junk.antt serves speed alone.
 // write_frame and plan are entry points, refused by number; the others are inner parts: total, and seal is whole or nothing.
+mod apart;
 mod cursor;
 mod junk;
 mod step;
 mod write;
 
+pub use apart::frame_crc;
 pub use cursor::Counts;
 pub use cursor::Cursor;
 pub use cursor::Next;

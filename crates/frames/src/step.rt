@@ -43,7 +43,7 @@ pub(crate) fn step_by(table: &[u16; 256], s: &[u8], at: usize) -> Step
     }
     let first = at + 1;
     let end = at + n + 6;
-    if crc::crc_by(table, &s[first..end]) != wire::read_u16(s, end) {
+    if crc::crc_by(table, 0, &s[first..end]) != wire::read_u16(s, end) {
         return Step::Bad;
     }
     Step::Found(Frame {
@@ -62,7 +62,7 @@ pub fn step_at(s: &[u8], at: usize) -> Step
 }
 
 // n bytes on from a position, or the end where that comes first.
-fn onward(at: usize, n: usize, size: usize) -> usize
+pub(crate) fn onward(at: usize, n: usize, size: usize) -> usize
     ensures { λ r. ⌜ r ≡ min (at + n) size ⌝ }
 {
     if size <= at {

@@ -69,7 +69,7 @@ pub fn seal(buf: &mut [u8], kind: u16, sender: Sender, n: usize)
     if let Written::Bytes(_) = plan(n, buf.len()) {
         put_head(buf, kind, sender_number(sender), n as u8);
         let end = n + 6;
-        let sum = crc::crc(&buf[1..end]);
+        let sum = crc::crc(0, &buf[1..end]);
         wire::store_u16(buf, end, sum);
     }
 }

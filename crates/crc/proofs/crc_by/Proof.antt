@@ -12,27 +12,27 @@ use Rattle.crc.proofs.crc_by.Statement.{statement}
 use Rattle.crc.proofs.crc_by.Tie as tie
 
 abbrev Inv-loop : tie.InvT-loop
-Inv-loop table s upper₀ lower₀ i₀ upper lower i = Carried table s upper lower i
+Inv-loop table start s upper₀ lower₀ i₀ upper lower i = Carried table start s upper lower i
 
 abbrev μ-loop : tie.MeasureT-loop
-μ-loop table s upper₀ lower₀ i₀ upper lower i = length s - i
+μ-loop table start s upper₀ lower₀ i₀ upper lower i = length s - i
 
 abbrev Inv-loop2 : tie.InvT-loop2
-Inv-loop2 table s upper₀ lower₀ i₀ upper lower i = (length s ≤ i + 2) × Carried table s upper lower i
+Inv-loop2 table start s upper₀ lower₀ i₀ upper lower i = (length s ≤ i + 2) × Carried table start s upper lower i
 
 abbrev μ-loop2 : tie.MeasureT-loop2
-μ-loop2 table s upper₀ lower₀ i₀ upper lower i = length s - i
+μ-loop2 table start s upper₀ lower₀ i₀ upper lower i = length s - i
 
-byte-requires : tie.Need-byte-requires Inv-loop μ-loop Inv-loop2 μ-loop2
-byte-requires c κs = search needs
+met-requires : tie.Need-met-requires Inv-loop μ-loop Inv-loop2 μ-loop2
+met-requires c κs = search needs
 
-byte-requires-2 : tie.Need-byte-requires-2 Inv-loop μ-loop Inv-loop2 μ-loop2
-byte-requires-2 c κs = search needs
+met-requires-2 : tie.Need-met-requires-2 Inv-loop μ-loop Inv-loop2 μ-loop2
+met-requires-2 c κs = search needs
 
 loop-holds : tie.Need-loop-holds Inv-loop μ-loop Inv-loop2 μ-loop2
 loop-holds c =
     let a = c .before .before .before .args in
-    carried-none (a .table .now) (a .s .now) (c .before .byte .ensures) (c .byte2 .ensures)
+    carried-none (a .table .now) (a .start) (a .s .now) (c .before .met .ensures) (c .met2 .ensures)
 
 sub-loop : tie.Need-sub-loop Inv-loop μ-loop Inv-loop2 μ-loop2
 sub-loop c = c .loop .inv .inside
@@ -68,7 +68,7 @@ loop-again : tie.Need-loop-again Inv-loop μ-loop Inv-loop2 μ-loop2
 loop-again c =
     let a = c .before .before .before .before .before .before .before .before .before .args in
     let at = c .before .before .before .before .before .loop in
-    carried-more (a .table .now) (a .s .now) (at .inv) (omega (arith, c .before .before .before .before .loop-test .taken)) (c .before .before .picked .ensures) (c .waits .ensures)
+    carried-more (a .table .now) (a .start) (a .s .now) (at .inv) (omega (arith, c .before .before .before .before .loop-test .taken)) (c .before .before .picked .ensures) (c .waits .ensures)
 
 loop2-holds : tie.Need-loop2-holds Inv-loop μ-loop Inv-loop2 μ-loop2
 loop2-holds c = (omega (arith, c .loop-test .left), c .before .loop .inv)
@@ -97,7 +97,7 @@ loop2-again c =
     let at = c .before .before .before .before .loop2 in
     let none = none-later (a .s .now) (at .i + 2) (at .inv .0) in (
       omega (arith, at .inv .0),
-      carried-more (a .table .now) (a .s .now) (at .inv .1) (c .before .before .before .loop2-test .taken) (c .before .picked2 .ensures)
+      carried-more (a .table .now) (a .start) (a .s .now) (at .inv .1) (c .before .before .before .loop2-test .taken) (c .before .picked2 .ensures)
           (c .waits2 .ensures .0 ∙ ap (bitXor (getD (a .table .now) (at .upper) 0 % 256)) none, c .waits2 .ensures .1),
     )
 
@@ -111,7 +111,7 @@ cast-result : tie.Need-cast-result Inv-loop μ-loop Inv-loop2 μ-loop2
 cast-result c = omega (arith, c .before .loop2 .inv .1 .upper-fits, c .before .loop2 .inv .1 .lower-fits)
 
 returns : tie.Need-returns Inv-loop μ-loop Inv-loop2 μ-loop2
-returns c = let a = c .before .before .before .before .before .before .before .args in carried-all (a .table .now) (a .s .now) (c .before .loop2 .inv .1) (c .loop2-test .left)
+returns c = let a = c .before .before .before .before .before .before .before .args in carried-all (a .table .now) (a .start) (a .s .now) (c .before .loop2 .inv .1) (c .loop2-test .left)
 
 pub crc-by-spec : {M : Type 1} → statement M
 crc-by-spec =
@@ -121,8 +121,8 @@ crc-by-spec =
     μ-loop
     Inv-loop2
     μ-loop2
-    byte-requires
-    byte-requires-2
+    met-requires
+    met-requires-2
     loop-holds
     sub-loop
     mul-entry
