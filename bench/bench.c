@@ -21,8 +21,8 @@
 #include "captures.h"
 
 /* bench/twin.rs, which says what they do. */
-uint16_t rust_crc(const uint8_t *bytes, size_t n);
-uint16_t rust_crc_sliced(const uint8_t *bytes, size_t n);
+uint16_t rust_crc(uint16_t start, const uint8_t *bytes, size_t n);
+uint16_t rust_crc_sliced(uint16_t start, const uint8_t *bytes, size_t n);
 void rust_closed(const uint8_t *capture, size_t n, uint64_t counts[4]);
 void rust_closed_sliced(const uint8_t *capture, size_t n, uint64_t counts[4]);
 struct rust_collator *rust_collator(const uint16_t *roster, size_t n);
@@ -62,10 +62,10 @@ static double median(double *all, int rounds) {
 
 /* ---- what is timed, over the capture */
 
-static void our_crc(void) { told[0] = sbp_crc(capture, length); }
-static void twins_crc(void) { told[0] = twin_crc(capture, length); }
-static void rusts_crc(void) { told[0] = rust_crc(capture, length); }
-static void sliced_crc(void) { told[0] = rust_crc_sliced(capture, length); }
+static void our_crc(void) { told[0] = sbp_crc(0, capture, length); }
+static void twins_crc(void) { told[0] = twin_crc(0, capture, length); }
+static void rusts_crc(void) { told[0] = rust_crc(0, capture, length); }
+static void sliced_crc(void) { told[0] = rust_crc_sliced(0, capture, length); }
 
 /* Frame by frame: frame bytes, junk, bad, short. */
 static void our_reading(void) {

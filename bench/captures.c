@@ -36,7 +36,7 @@ static size_t put_frame(size_t at, uint16_t kind, uint16_t sender, uint8_t size,
         }
         memset(f + 2 + size, 0, 4); /* padding */
     }
-    uint16_t sum = twin_crc(f + 1, size + 5u);
+    uint16_t sum = twin_crc(0, f + 1, size + 5u);
     f[size + 6] = (uint8_t)sum, f[size + 7] = (uint8_t)(sum >> 8);
     return at + size + 8;
 }

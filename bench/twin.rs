@@ -20,15 +20,15 @@ unsafe fn lent<'a>(bytes: *const u8, n: usize) -> &'a [u8] {
 /// # Safety
 /// The caller keeps: `n` bytes are at `bytes` for the length of the call.
 #[no_mangle]
-pub unsafe extern "C" fn rust_crc(bytes: *const u8, n: usize) -> u16 {
-    crc_table(unsafe { lent(bytes, n) })
+pub unsafe extern "C" fn rust_crc(start: u16, bytes: *const u8, n: usize) -> u16 {
+    crc_table(start, unsafe { lent(bytes, n) })
 }
 
 /// # Safety
 /// The caller keeps: `n` bytes are at `bytes` for the length of the call.
 #[no_mangle]
-pub unsafe extern "C" fn rust_crc_sliced(bytes: *const u8, n: usize) -> u16 {
-    crc_sliced(unsafe { lent(bytes, n) })
+pub unsafe extern "C" fn rust_crc_sliced(start: u16, bytes: *const u8, n: usize) -> u16 {
+    crc_sliced(start, unsafe { lent(bytes, n) })
 }
 
 /// # Safety

@@ -37,22 +37,44 @@ static void check_lengths(void)
 #undef MESSAGE
 }
 
+/* The rule itself, bit by bit, from a start on. */
+static unsigned plain_crc(unsigned crc, const uint8_t *bytes, size_t length)
+{
+    for (size_t i = 0; i < length; i++) {
+        crc ^= (unsigned)bytes[i] << 8;
+        for (int bit = 0; bit < 8; bit++)
+            crc = crc & 0x8000 ? crc << 1 ^ 0x11021 : crc << 1;
+    }
+    return crc;
+}
+
+static void check_crc(void)
+{
+    const uint8_t nine[] = "123456789";
+    check(sbp_crc(0, nine, 9) == 0x31C3, "CRC of 123456789");
+    check(sbp_crc(65535, nine, 9) == 0x29B1, "the same from 65535");
+
+    for (int b = 0; b < 256; b++) {
+        uint8_t byte = (uint8_t)b;
+        check(sbp_crc(0, &byte, 1) == plain_crc(0, &byte, 1), "table entry");
+    }
+
+    /* A part, and the rest begun at its CRC. */
+    const uint16_t starts[] = {0, 1, 65535};
+    for (size_t s = 0; s < 3; s++)
+        for (size_t cut = 0; cut <= 9; cut++) {
+            uint16_t first = sbp_crc(starts[s], nine, cut);
+            check(first == plain_crc(starts[s], nine, cut), "CRC of a part");
+            check(sbp_crc(first, nine + cut, 9 - cut) ==
+                      plain_crc(starts[s], nine, 9),
+                  "CRC that goes on");
+        }
+}
+
 int main(void)
 {
     check_lengths();
-
-    const uint8_t nine[] = "123456789";
-    check(sbp_crc(nine, 0) == 0, "CRC of nothing");
-    check(sbp_crc(nine, 9) == 0x31C3, "CRC of 123456789");
-
-    /* The table's rule, bit by bit. */
-    for (int b = 0; b < 256; b++) {
-        uint8_t byte = (uint8_t)b;
-        unsigned crc = (unsigned)b << 8;
-        for (int bit = 0; bit < 8; bit++)
-            crc = crc & 0x8000 ? crc << 1 ^ 0x11021 : crc << 1;
-        check(sbp_crc(&byte, 1) == crc, "table entry");
-    }
+    check_crc();
 
     /* A letter after zeros. */
     uint8_t log[256] = {0};

@@ -45,11 +45,13 @@ static const uint16_t table[256] = {
 
 /* Instead of the register it carries the index of the next look-up, and what
  * is mixed into the one after: one exclusive or waits between two look-ups. */
-uint16_t sbp_crc(const uint8_t *bytes, size_t length)
+uint16_t sbp_crc(uint16_t start, const uint8_t *bytes, size_t length)
 {
+    uint32_t high = start >> 8, low = start & 0xff;
     if (length < 2)
-        return length == 0 ? 0 : table[bytes[0]];
-    uint32_t index = bytes[0], after = bytes[1];
+        return length == 0 ? start
+                           : (uint16_t)(low << 8 ^ table[high ^ bytes[0]]);
+    uint32_t index = high ^ bytes[0], after = low ^ bytes[1];
     for (size_t i = 2; i < length; i++) {
         uint32_t entry = table[index];
         index = after ^ entry >> 8;
@@ -91,7 +93,7 @@ static inline size_t next_frame(const uint8_t *capture, size_t length,
         }
         size_t size = (size_t)here[5] + AROUND;
         /* Type through payload; the preamble is not in it. */
-        if (sbp_crc(here + 1, size - 3) != get16(here + size - 2)) {
+        if (sbp_crc(0, here + 1, size - 3) != get16(here + size - 2)) {
             counts->bad++;
             at++;
             continue;

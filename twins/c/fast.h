@@ -1,5 +1,5 @@
 /* SBP 1.1 frames (document 003) under the rules of document 01 and of requests
- * P1 and P2: CRC, closed reading, epochs, and the listing of a capture. No
+ * P1 to P3: CRC, closed reading, epochs, and the listing of a capture. No
  * memory is allocated. */
 #ifndef FAST_H
 #define FAST_H
@@ -50,7 +50,8 @@ struct sbp_epoch {
 /* What feeding answers when it does not refuse. */
 enum { SBP_TAKEN = 0, SBP_EPOCH = 1 };
 
-uint16_t sbp_crc(const uint8_t *bytes, size_t length);
+/* Begun at a start: 0, or the CRC of the bytes that come before. */
+uint16_t sbp_crc(uint16_t start, const uint8_t *bytes, size_t length);
 
 /* Closed reading: gives the number of frames and fills the counts. */
 size_t sbp_read_closed(const uint8_t *capture, size_t length,

@@ -239,7 +239,7 @@ static uint8_t *put_header(uint8_t *out, uint16_t kind, uint32_t sender,
 /* The CRC of type through payload, after a payload of n bytes. */
 static uint8_t seal(uint8_t *out, size_t n, uint64_t *size)
 {
-    put(out + HEADER + n, sbp_crc(out + 1, HEADER - 1 + n), 2);
+    put(out + HEADER + n, sbp_crc(0, out + 1, HEADER - 1 + n), 2);
     *size = n + AROUND;
     return 0;
 }

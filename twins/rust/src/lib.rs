@@ -1,5 +1,5 @@
 //! A second, independent reading of SBP 1.1 (document 003) under the rules of
-//! document 01 and of requests P1 and P2. Written to be obvious, so that another
+//! document 01 and of requests P1 to P3. Written to be obvious, so that another
 //! implementation can be compared with it; `fast` is the one module written for
 //! speed.
 

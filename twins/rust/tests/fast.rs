@@ -15,12 +15,35 @@ fn crcs_agree() {
     let mut rng = Rng::new(4);
     for length in 0..600 {
         let bytes = rng.bytes(length);
-        let expected = crc(&bytes);
-        assert_eq!(crc_table(&bytes), expected);
-        assert_eq!(crc_sliced(&bytes), expected);
+        for start in [0, 1, 65535, rng.word() as u16] {
+            let expected = crc(start, &bytes);
+            assert_eq!(crc_table(start, &bytes), expected);
+            assert_eq!(crc_sliced(start, &bytes), expected);
+        }
     }
-    assert_eq!(crc_table(b"123456789"), 0x31C3);
-    assert_eq!(crc_sliced(b"123456789"), 0x31C3);
+}
+
+/// The CRC of two parts joined is that of the second begun at the first's.
+#[test]
+fn crcs_go_on() {
+    let bytes = Rng::new(6).bytes(255);
+    let parts = [&[], &bytes[..1], &bytes];
+    for crc in [crc, crc_table, crc_sliced] {
+        for cut in 0..=9 {
+            let (first, second) = b"123456789".split_at(cut);
+            // The published values from these two starts.
+            assert_eq!(crc(crc(0, first), second), 0x31C3, "cut at {cut}");
+            assert_eq!(crc(crc(65535, first), second), 0x29B1, "cut at {cut}");
+        }
+        for start in [0, 1, 65535] {
+            for first in parts {
+                for second in parts {
+                    let joined = [first, second].concat();
+                    assert_eq!(crc(crc(start, first), second), crc(start, &joined));
+                }
+            }
+        }
+    }
 }
 
 #[test]

@@ -1,6 +1,6 @@
 //! The worked examples of document 01, each one.
 
-use twin::crc::crc;
+use twin::crc::{crc, frame_crc};
 use twin::epochs::{Collator, Epoch, Outcome};
 use twin::frames::{closed, open, step, Counts, Step};
 use twin::messages::*;
@@ -13,10 +13,21 @@ const EXAMPLE: [u8; 28] = [
 
 #[test]
 fn crc_values() {
-    assert_eq!(crc(b""), 0);
-    assert_eq!(crc(b"123456789"), 0x31C3);
+    assert_eq!(crc(0, b""), 0);
+    assert_eq!(crc(0, b"123456789"), 0x31C3);
     // The published value of 003's example frame.
-    assert_eq!(crc(&EXAMPLE[1..26]), 0x9443);
+    assert_eq!(crc(0, &EXAMPLE[1..26]), 0x9443);
+}
+
+/// The same frame in two buffers (P3), whatever stands for the preamble.
+#[test]
+fn frame_crc_values() {
+    let mut header = EXAMPLE[..6].to_vec();
+    assert_eq!(frame_crc(&header, &EXAMPLE[6..26]), 0x9443);
+    header[0] = 0;
+    assert_eq!(frame_crc(&header, &EXAMPLE[6..26]), 0x9443);
+    assert_eq!(frame_crc(&EXAMPLE[..26], &[]), 0x9443);
+    assert_eq!(frame_crc(&[], &EXAMPLE[1..26]), 0x9443);
 }
 
 #[test]

@@ -46,12 +46,13 @@ fn run(mut register: u16, bytes: &[u8]) -> u16 {
 /// index of the next look-up, and what is mixed into the one after: one
 /// exclusive or waits between two look-ups.
 #[inline]
-pub fn crc_table(bytes: &[u8]) -> u16 {
+pub fn crc_table(start: u16, bytes: &[u8]) -> u16 {
     let &[first, second, ref rest @ ..] = bytes else {
-        return run(0, bytes);
+        return run(start, bytes);
     };
+    let [high, low] = start.to_be_bytes();
     // Both stay below 256. Kept wide they need no cutting on the way.
-    let (mut index, mut after) = (usize::from(first), usize::from(second));
+    let (mut index, mut after) = (usize::from(first ^ high), usize::from(second ^ low));
     for &byte in rest {
         let entry = TABLES[0][index];
         index = after ^ usize::from(entry >> 8);
@@ -63,8 +64,8 @@ pub fn crc_table(bytes: &[u8]) -> u16 {
 
 /// Slicing by eight: the eight look-ups of a block do not wait on each other.
 #[inline]
-pub fn crc_sliced(bytes: &[u8]) -> u16 {
-    let mut register = 0u16;
+pub fn crc_sliced(start: u16, bytes: &[u8]) -> u16 {
+    let mut register = start;
     let (blocks, rest) = bytes.as_chunks::<8>();
     for &[b0, b1, b2, b3, b4, b5, b6, b7] in blocks {
         register = TABLES[7][((register >> 8) as u8 ^ b0) as usize]

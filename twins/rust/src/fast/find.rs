@@ -24,7 +24,7 @@ pub(super) struct Finder<'a, F> {
     pub counts: Counts,
 }
 
-impl<'a, F: Fn(&[u8]) -> u16> Finder<'a, F> {
+impl<'a, F: Fn(u16, &[u8]) -> u16> Finder<'a, F> {
     pub fn new(crc: F, capture: &'a [u8]) -> Finder<'a, F> {
         Finder {
             crc,
@@ -51,7 +51,7 @@ impl<'a, F: Fn(&[u8]) -> u16> Finder<'a, F> {
             let size = usize::from(n) + 8;
             if let Some(frame) = rest.get(..size) {
                 let (body, stated) = frame.split_at(size - 2);
-                if (self.crc)(&body[1..]) == u16::from_le_bytes([stated[0], stated[1]]) {
+                if (self.crc)(0, &body[1..]) == u16::from_le_bytes([stated[0], stated[1]]) {
                     let offset = self.p;
                     self.p += size;
                     self.counts.frames += 1;
@@ -109,7 +109,7 @@ fn junk_run(bytes: &[u8]) -> usize {
 }
 
 /// Counts of a closed reading; `crc` is `crc_table` or `crc_sliced`.
-pub fn closed(crc: impl Fn(&[u8]) -> u16, capture: &[u8]) -> Counts {
+pub fn closed(crc: impl Fn(u16, &[u8]) -> u16, capture: &[u8]) -> Counts {
     let mut finder = Finder::new(crc, capture);
     while finder.next().is_some() {}
     finder.counts

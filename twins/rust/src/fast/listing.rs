@@ -7,7 +7,7 @@ use super::find::Finder;
 
 /// Replaces `out` by the listing of `capture`; `crc` is `crc_table` or
 /// `crc_sliced`.
-pub fn listing_into(crc: impl Fn(&[u8]) -> u16, capture: &[u8], out: &mut Vec<u8>) {
+pub fn listing_into(crc: impl Fn(u16, &[u8]) -> u16, capture: &[u8], out: &mut Vec<u8>) {
     out.clear();
     if capture.len() > 65536 {
         out.extend_from_slice(b"R 11\n");

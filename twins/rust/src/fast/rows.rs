@@ -117,7 +117,7 @@ fn read_log(payload: &[u8], row: &mut [u64]) -> Result<(), u8> {
 /// The frame of a row at the start of `out`, and its size; or 21, 22, 23, 32.
 /// `crc` is `crc_table` or `crc_sliced`.
 pub fn write_row(
-    crc: impl Fn(&[u8]) -> u16,
+    crc: impl Fn(u16, &[u8]) -> u16,
     out: &mut [u8],
     msg_type: u16,
     sender: Option<u16>,
@@ -141,7 +141,7 @@ pub fn write_row(
     for (&number, field) in row.iter().zip(format.fields) {
         at += field.put(number, &mut out[at..]);
     }
-    let sum = crc(&out[1..at]);
+    let sum = crc(0, &out[1..at]);
     out[at..].copy_from_slice(&sum.to_le_bytes());
     Ok(size)
 }

@@ -55,7 +55,7 @@ pub fn step(capture: &[u8], p: usize) -> Step<'_> {
     }
     // The preamble is left out of the CRC.
     let stated = u16::from_le_bytes([rest[n + 6], rest[n + 7]]);
-    if crc(&rest[1..n + 6]) != stated {
+    if crc(0, &rest[1..n + 6]) != stated {
         return Step::Bad;
     }
     Step::Frame(Frame {

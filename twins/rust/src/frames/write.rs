@@ -26,7 +26,7 @@ pub fn write(
     out[3..5].copy_from_slice(&sender.to_le_bytes());
     out[5] = n;
     out[6..size - 2].copy_from_slice(payload);
-    let sum = crc(&out[1..size - 2]);
+    let sum = crc(0, &out[1..size - 2]);
     out[size - 2..size].copy_from_slice(&sum.to_le_bytes());
     Ok(size)
 }

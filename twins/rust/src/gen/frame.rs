@@ -13,7 +13,7 @@ pub fn frame(msg_type: u16, sender: u16, payload: &[u8]) -> Vec<u8> {
     bytes.extend_from_slice(&sender.to_le_bytes());
     bytes.push(payload.len() as u8);
     bytes.extend_from_slice(payload);
-    let sum = crc_sliced(&bytes[1..]);
+    let sum = crc_sliced(0, &bytes[1..]);
     bytes.extend_from_slice(&sum.to_le_bytes());
     bytes
 }

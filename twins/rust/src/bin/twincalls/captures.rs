@@ -1,6 +1,6 @@
 //! CRC, answers, frames, counts and listings.
 
-use twin::crc::crc;
+use twin::crc::{crc, frame_crc};
 use twin::frames::{closed, step, Step};
 use twin::gen::{Rng, TYPES};
 use twin::listing::{listing, MAX_INPUT};
@@ -16,6 +16,7 @@ const TOTALS: usize = 32;
 pub fn ask(asked: &mut Asked, rng: &mut Rng, bytes: &[u8]) {
     for _ in 0..6 {
         ask_crc(asked, rng);
+        ask_frame_crc(asked, rng);
         ask_answer(asked, rng);
         ask_next(asked, rng, bytes);
     }
@@ -24,10 +25,29 @@ pub fn ask(asked: &mut Asked, rng: &mut Rng, bytes: &[u8]) {
 }
 
 fn ask_crc(asked: &mut Asked, rng: &mut Rng) {
+    let any = rng.word() as u16;
+    let start = rng.pick(&[0, 1, 65535, any]);
     let size = rng.below(300);
     let bytes = rng.bytes(size);
-    let question = Question::new("crc", b'c').bytes(&bytes);
-    asked.call(question, 0, &told(&crc(&bytes).to_le_bytes(), &[]));
+    let question = Question::new("crc", b'c')
+        .put(&start.to_le_bytes())
+        .bytes(&bytes);
+    asked.call(question, 0, &told(&crc(start, &bytes).to_le_bytes(), &[]));
+}
+
+/// Any header goes, so at times it is not of six bytes.
+fn ask_frame_crc(asked: &mut Asked, rng: &mut Rng) {
+    let any = rng.below(9);
+    let size = rng.pick(&[6, 6, 6, any]);
+    let header = rng.bytes(size);
+    let any = rng.below(256);
+    let size = rng.pick(&[0, 255, any, any]);
+    let payload = rng.bytes(size);
+    let question = Question::new("frame_crc", b'C')
+        .bytes(&header)
+        .bytes(&payload);
+    let sum = frame_crc(&header, &payload);
+    asked.call(question, 0, &told(&sum.to_le_bytes(), &[]));
 }
 
 fn ask_answer(asked: &mut Asked, rng: &mut Rng) {

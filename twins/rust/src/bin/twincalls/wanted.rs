@@ -10,8 +10,9 @@ use crate::asked::{Asked, Side};
 
 type Wanted = (&'static str, &'static [u8]);
 
-const OF_BOTH: [Wanted; 9] = [
+const OF_BOTH: [Wanted; 10] = [
     ("crc", &[0]),
+    ("frame_crc", &[0]),
     ("answer", &[0, 21, 22, 23]),
     ("write_log", &[0, 23, 31, 32]),
     ("write_frame", &[0, 31, 32]),
