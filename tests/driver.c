@@ -87,8 +87,14 @@ static uint64_t *numbers(struct block *b) { return (uint64_t *)(void *)b->at; }
 /* ---- frames and listings */
 
 static void crc(void) {
+    uint16_t start = (uint16_t)number(2);
     struct block *bytes = given(1);
-    reply(sbp_crc(bytes->at, bytes->n), 2);
+    reply(sbp_crc(start, bytes->at, bytes->n), 2);
+}
+
+static void frame_crc(void) {
+    struct block *header = given(1), *payload = given(1);
+    reply(sbp_frame_crc(header->at, header->n, payload->at, payload->n), 2);
 }
 
 static void answer(void) {
@@ -232,6 +238,7 @@ int main(void) {
         lent = 0;
         switch (number(1)) {
         case 'c': crc(); break;
+        case 'C': frame_crc(); break;
         case 'a': answer(); break;
         case 'n': next(); break;
         case 't': totals(); break;

@@ -1,6 +1,6 @@
-/* Calls every inline function of sbp.h, looks at every name in it and holds its sizes, and what it says of LOG's text, to the library. What is not
- * as it should be is a line 'differs: ..'; the last line is 'N passed, M failed'. No two bytes of a row are alike, so that a field from another
- * place, of another width or without its sign shows.
+/* Calls every inline function of sbp.h, looks at every name in it and holds its sizes, and what it says of LOG's text and of the CRC, to the
+ * library. What is not as it should be is a line 'differs: ..'; the last line is 'N passed, M failed'. No two bytes of a row are alike, so that a
+ * field from another place, of another width or without its sign shows.
  * usage: inline (tests/header.sh builds and runs it) */
 #include <inttypes.h>
 #include <stdio.h>
@@ -810,6 +810,20 @@ static void logs_refused(void) {
     }
 }
 
+/* ---- the CRC in parts: the published values from two starts, and 003's example frame in two buffers */
+
+static void crcs(void) {
+    const uint8_t text[] = "123456789";
+    const uint8_t header[] = {0x55, 0x02, 0x02, 0xcc, 0x04, 0x14};
+    const uint8_t payload[] = {0x70, 0x3d, 0xd0, 0x18, 0xcf, 0xef, 0xff, 0xff, 0xef, 0xe8, 0xff, 0xff, 0xf0, 0x18, 0, 0, 0, 0, 5, 0};
+    for (size_t at = 0; at <= 9; at++) {
+        SAME("a CRC from 0, in two parts", sbp_crc(sbp_crc(0, text, at), text + at, 9 - at), 0x31C3);
+        SAME("a CRC from 65535, in two parts", sbp_crc(sbp_crc(65535, text, at), text + at, 9 - at), 0x29B1);
+    }
+    SAME("a frame's CRC", sbp_frame_crc(header, sizeof header, payload, sizeof payload), 0x9443);
+    SAME("a frame's CRC in parts", sbp_crc(sbp_crc(0, header + 1, 5), payload, sizeof payload), 0x9443);
+}
+
 int main(void) {
     messages_both_ways();
     found();
@@ -832,6 +846,7 @@ int main(void) {
     frames_have_room();
     logs_written();
     logs_refused();
+    crcs();
     printf("%u passed, %u failed\n", passed, failed);
     return failed != 0;
 }

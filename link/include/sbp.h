@@ -30,7 +30,7 @@ extern "C" {
 
 /* This header's version; sbp_version tells the library's in the same form. */
 #define SBP_VERSION_MAJOR 0
-#define SBP_VERSION_MINOR 10
+#define SBP_VERSION_MINOR 11
 #define SBP_VERSION_PATCH 0
 #define SBP_VERSION (10000 * SBP_VERSION_MAJOR + 100 * SBP_VERSION_MINOR + SBP_VERSION_PATCH)
 
@@ -148,9 +148,16 @@ extern "C" {
 /* The version of the library that is linked: 10000 * major + 100 * minor + patch. */
 uint32_t sbp_version(void);
 
-/* The CRC of n bytes, from a start of 0. A frame's is that of all between the 0x55 and the CRC.
+/* The CRC of n bytes, begun at start: 0, or what the bytes before them came to. So it may be taken in parts, empty ones too:
+ * sbp_crc(sbp_crc(0, a, m), b, n) is that of m bytes at a and then n at b. A frame's is that of all between the 0x55 and the CRC, begun at 0.
  * The caller keeps: n bytes are at bytes. */
-uint16_t sbp_crc(const uint8_t *bytes, size_t n);
+uint16_t sbp_crc(uint16_t start, const uint8_t *bytes, size_t n);
+
+/* The CRC of a frame whose header and payload lie in two buffers, which is to be the frame's last two bytes: that of the header but for its first
+ * byte, and then of the payload. A frame's header is six bytes: the 0x55, type, sender and length. Any lengths are taken as they are, and no byte
+ * is compared.
+ * The caller keeps: header_n bytes are at header, and n at payload. */
+uint16_t sbp_frame_crc(const uint8_t *header, size_t header_n, const uint8_t *payload, size_t n);
 
 /* The next frame of a capture from a position on. Bytes other than 0x55 are passed over as junk; a 0x55 whose frame does not fit its CRC is
  * passed over as bad, that byte alone, for a frame may begin in what follows. Where the capture ends before the frame does: in closed reading

@@ -54,11 +54,38 @@ pub use version::{Version, version};
 pub use writing::{LONGEST_FRAME, write_frame};
 
 /// The CRC that frames end with, of the bytes from type through payload:
-/// polynomial x^16 + x^12 + x^5 + 1, highest bit first, from a start of 0.
+/// polynomial x^16 + x^12 + x^5 + 1, highest bit first. It begins at `start`: 0,
+/// or what the bytes before these came to, so that it may be taken in parts,
+/// empty ones too.
 ///
 /// ```
-/// assert_eq!(yaqtumeer::crc(b"123456789"), 0x31c3);
+/// use yaqtumeer::crc;
+///
+/// assert_eq!(crc(0, b"123456789"), 0x31c3);
+/// assert_eq!(crc(crc(0, b"1234"), b"56789"), 0x31c3);
 /// ```
-pub fn crc(bytes: &[u8]) -> u16 {
-    unsafe { raw::sbp_crc(bytes.as_ptr(), bytes.len()) }
+pub fn crc(start: u16, bytes: &[u8]) -> u16 {
+    unsafe { raw::sbp_crc(start, bytes.as_ptr(), bytes.len()) }
+}
+
+/// The CRC of a frame whose header and payload lie in two buffers. The header is
+/// six bytes, 0x55, type, sender and length, of which the CRC leaves out the
+/// first. Any lengths are taken as they are, and no byte is compared.
+///
+/// ```
+/// use yaqtumeer::{Frames, frame_crc};
+///
+/// let capture = [0x55, 0xa2, 0, 0x42, 0, 2, 7, 0, 0x79, 0x20];
+/// let frame = Frames::closed(&capture).next().unwrap();
+/// assert_eq!(frame_crc(&capture[..6], &capture[6..8]), frame.crc);
+/// ```
+pub fn frame_crc(header: &[u8], payload: &[u8]) -> u16 {
+    unsafe {
+        raw::sbp_frame_crc(
+            header.as_ptr(),
+            header.len(),
+            payload.as_ptr(),
+            payload.len(),
+        )
+    }
 }

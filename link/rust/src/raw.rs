@@ -5,7 +5,8 @@
 const _: () = assert!(usize::BITS == 64, "the library is for 64-bit processors");
 
 unsafe extern "C" {
-    pub fn sbp_crc(bytes: *const u8, n: usize) -> u16;
+    pub fn sbp_crc(start: u16, bytes: *const u8, n: usize) -> u16;
+    pub fn sbp_frame_crc(header: *const u8, header_n: usize, payload: *const u8, n: usize) -> u16;
     pub fn sbp_answer(kind: u16, payload: *const u8, n: usize) -> u8;
     pub fn sbp_next(
         capture: *const u8,

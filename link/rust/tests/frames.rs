@@ -39,7 +39,7 @@ fn expected(capture: &[u8], opened: bool) -> Reading {
                 break;
             }
             reading.counts.short += 1;
-        } else if crc(&rest[1..size - 2]) != two(size - 2) {
+        } else if crc(0, &rest[1..size - 2]) != two(size - 2) {
             reading.counts.bad += 1;
         } else {
             let payload = rest[6..size - 2].to_vec();
@@ -164,7 +164,7 @@ fn a_frame_field_by_field() {
         found.payload.as_ptr(),
         capture[8..].as_ptr()
     );
-    same!("crc", found.crc, crc(&capture[3..11]));
+    same!("crc", found.crc, crc(0, &capture[3..11]));
     same!("size", found.size(), 11);
     same!("answer", found.answer(), Err(Refusal::UnknownType));
     same!("message", found.message(), Err(Refusal::UnknownType));

@@ -49,13 +49,60 @@ fn senders() {
 
 #[test]
 fn crcs() {
-    same!("of nothing", crc(b""), 0);
-    same!("the published check", crc(b"123456789"), 0x31c3);
+    same!("of nothing", crc(0, b""), 0);
+    same!("the published check", crc(0, b"123456789"), 0x31c3);
     let mut noise = Noise(0x5eed_0005);
     for n in 0..300 {
-        let bytes = noise.bytes(n);
-        same!(format!("of {n} bytes"), crc(&bytes), bit_by_bit(&bytes));
+        let (start, bytes) = (noise.number() as u16, noise.bytes(n));
+        let told = crc(start, &bytes);
+        same!(
+            format!("of {n} bytes from {start}"),
+            told,
+            bit_by_bit(start, &bytes)
+        );
     }
+}
+
+#[test]
+fn crcs_of_parts() {
+    let mut noise = Noise(0x5eed_0006);
+    let text = b"123456789".to_vec();
+    let mut cuts: Vec<(Vec<u8>, Vec<u8>)> = (0..=9)
+        .map(|at| (text[..at].to_vec(), text[at..].to_vec()))
+        .collect();
+    for (n, m) in [0, 1, 255]
+        .into_iter()
+        .flat_map(|n| [(n, 0), (n, 1), (n, 255)])
+    {
+        cuts.push((noise.bytes(n), noise.bytes(m)));
+    }
+    for start in [0, 1, 65535] {
+        for (first, second) in &cuts {
+            let whole = bit_by_bit(start, &[first.clone(), second.clone()].concat());
+            let what = format!("of {} and {} bytes from {start}", first.len(), second.len());
+            same!(what, crc(crc(start, first), second), whole);
+        }
+    }
+}
+
+#[test]
+fn crcs_of_frames_in_two_buffers() {
+    let mut noise = Noise(0x5eed_0007);
+    for n in 0..=255 {
+        let whole = frame(
+            noise.number() as u16,
+            noise.number() as u16,
+            &noise.bytes(n),
+        );
+        let (header, payload, sent) = (&whole[..6], &whole[6..n + 6], &whole[n + 6..]);
+        same!(
+            format!("of {n} bytes"),
+            frame_crc(header, payload).to_le_bytes()[..],
+            *sent
+        );
+    }
+    same!("without a header", frame_crc(b"", b"123456789"), 0x31c3);
+    same!("of a preamble", frame_crc(b"U", b"123456789"), 0x31c3);
 }
 
 #[test]

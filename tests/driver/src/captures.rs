@@ -2,12 +2,20 @@
 
 use std::io::{self, Read};
 
-use yaqtumeer::{Frames, crc as crc_of};
+use yaqtumeer::{Frames, crc as crc_of, frame_crc as frame_crc_of};
 
 use crate::talk::{Reply, Request, number};
 
 pub fn crc(request: &mut Request<impl Read>, reply: &mut Reply) -> io::Result<()> {
-    reply.put(&crc_of(&request.bytes()?).to_le_bytes());
+    let start = request.u16()?;
+    reply.put(&crc_of(start, &request.bytes()?).to_le_bytes());
+    reply.put(&[1]);
+    Ok(())
+}
+
+pub fn frame_crc(request: &mut Request<impl Read>, reply: &mut Reply) -> io::Result<()> {
+    let (header, payload) = (request.bytes()?, request.bytes()?);
+    reply.put(&frame_crc_of(&header, &payload).to_le_bytes());
     reply.put(&[1]);
     Ok(())
 }

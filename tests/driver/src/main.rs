@@ -23,6 +23,7 @@ fn main() -> io::Result<()> {
         let mut reply = Reply::default();
         match letter {
             b'c' => captures::crc(&mut request, &mut reply)?,
+            b'C' => captures::frame_crc(&mut request, &mut reply)?,
             b'a' => captures::answer(&mut request, &mut reply)?,
             b'n' => captures::next(&mut request, &mut reply)?,
             b't' => captures::totals(&mut request, &mut reply)?,

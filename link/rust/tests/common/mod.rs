@@ -78,8 +78,8 @@ pub const GUARD: u8 = 0xee;
 const GUARDS: usize = 64;
 
 /// The CRC bit by bit.
-pub fn crc(bytes: &[u8]) -> u16 {
-    bytes.iter().fold(0, |crc, &byte| {
+pub fn crc(start: u16, bytes: &[u8]) -> u16 {
+    bytes.iter().fold(start, |crc, &byte| {
         (0..8).fold(crc ^ u16::from(byte) << 8, |crc, _| {
             if crc & 0x8000 == 0 {
                 crc << 1
@@ -96,7 +96,7 @@ pub fn frame(kind: u16, sender: u16, payload: &[u8]) -> Vec<u8> {
     out.extend(sender.to_le_bytes());
     out.push(payload.len() as u8);
     out.extend(payload);
-    out.extend(crc(&out[1..]).to_le_bytes());
+    out.extend(crc(0, &out[1..]).to_le_bytes());
     out
 }
 
