@@ -15,7 +15,7 @@ pub record GoesOn : Type 0 where
   pub two : (c : ℕ) (s t : List ℕ) → crcFrom c (s ++ t) ≡ crcFrom (crcFrom c s) t
   pub any-number : (c : ℕ) (parts : List (List ℕ)) → crcFrom c (flatten parts) ≡ foldl crcFrom c parts
 
--- a call of a CRC function: where it was to begin, the bytes that it was lent, what it answered
+-- a call of a CRC function: where it was to begin, the bytes that it was lent and for how long, what it answered
 pub record Call : Type 0 where
   pub lives : Lfts 1
   pub start : ℕ
