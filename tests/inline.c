@@ -558,10 +558,10 @@ static void fields(void) {
 
 static void version(void) {
     NAME(SBP_VERSION_MAJOR, 0);
-    NAME(SBP_VERSION_MINOR, 10);
+    NAME(SBP_VERSION_MINOR, 11);
     NAME(SBP_VERSION_PATCH, 0);
-    NAME(SBP_VERSION, 1000);
-    SAME("sbp_version()", sbp_version(), 1000);
+    NAME(SBP_VERSION, 1100);
+    SAME("sbp_version()", sbp_version(), 1100);
 }
 
 static const struct {

@@ -11,12 +11,9 @@ use ghost.Atoms.{Atoms}
 use contract.Monad.{Fun, fact, fact-use, factI}
 use denote.Ref.{now}
 use Rattle.crc.specs.Crc.{crcFrom}
-use Rattle.crc.specs.Parts.{GoesOn, Call, Chained, AllEnded, CallsGoOn}
+use Rattle.crc.specs.Calls.{Call, Chained, AllEnded, CallsGoOn}
 use Rattle.crc.proofs.crc as crc
-use Rattle.crc.proofs.Joined.{joined, all-joined}
-
-pub goes-on : GoesOn
-goes-on = record { two = joined; any-number = all-joined }
+use Rattle.crc.proofs.Joined.{all-joined}
 
 -- the bytes that calls were lent
 abbrev lent : List Call → List (List ℕ)

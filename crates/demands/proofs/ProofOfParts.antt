@@ -6,7 +6,8 @@ use prog.Memory.{Memory}
 use prog.Routine.{Routine}
 use ghost.Atoms.{Atoms}
 use contract.Monad.{Fun}
-use Rattle.crc.proofs.Calls.{goes-on, sums-go-on, calls-go-on}
+use Rattle.crc.proofs.Joined.{goes-on}
+use Rattle.crc.proofs.Calls.{sums-go-on, calls-go-on}
 use Rattle.frames.proofs.SumsApart.{same-apart}
 use Rattle.demands.specs.InParts.{InParts}
 

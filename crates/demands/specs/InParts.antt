@@ -7,7 +7,8 @@ use prog.Memory.{Memory}
 use prog.Routine.{Routine}
 use ghost.Atoms.{Atoms}
 use contract.Monad.{Fun}
-use Rattle.crc.specs.Parts.{GoesOn, Call, CallsGoOn}
+use Rattle.crc.specs.Parts.{GoesOn}
+use Rattle.crc.specs.Calls.{Call, CallsGoOn}
 use Rattle.crc.proofs as crc
 use Rattle.frames.specs.Apart.{SameApart}
 use Rattle.exports.proofs as exports

@@ -75,9 +75,11 @@ pub fn crc(start: u16, bytes: &[u8]) -> u16 {
 /// ```
 /// use yaqtumeer::{Frames, frame_crc};
 ///
-/// let capture = [0x55, 0xa2, 0, 0x42, 0, 2, 7, 0, 0x79, 0x20];
-/// let frame = Frames::closed(&capture).next().unwrap();
-/// assert_eq!(frame_crc(&capture[..6], &capture[6..8]), frame.crc);
+/// let (header, payload, sent) = ([0x55, 0xa2, 0, 0x42, 0, 2], [7, 0], [0xf0, 0x07]);
+/// assert_eq!(frame_crc(&header, &payload), u16::from_le_bytes(sent));
+///
+/// let capture = [&header[..], &payload, &sent].concat();
+/// assert_eq!(Frames::closed(&capture).count(), 1);
 /// ```
 pub fn frame_crc(header: &[u8], payload: &[u8]) -> u16 {
     unsafe {

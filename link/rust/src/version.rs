@@ -7,7 +7,7 @@ use crate::raw;
 /// A version: printed as `0.11.0`.
 ///
 /// ```
-/// let version = yaqtumeer::Version { major: 0, minor: 10, patch: 0 };
+/// let version = yaqtumeer::Version { major: 0, minor: 11, patch: 0 };
 /// assert_eq!(version.to_string(), "0.11.0");
 /// ```
 #[derive(Clone, Copy, Debug, PartialEq, Eq, PartialOrd, Ord, Hash)]

@@ -197,7 +197,7 @@ fn versions() {
         version(),
         Version {
             major: 0,
-            minor: 10,
+            minor: 11,
             patch: 0
         }
     );
