@@ -4,6 +4,8 @@ pub mod Decides
 pub mod Apart
 pub mod Reading
 pub mod Cursors
+pub mod Stays
+pub mod Watching
 pub mod Junk
 pub mod Writer
 pub mod Faithful
