@@ -3,7 +3,10 @@ pub mod ProofOf2
 pub mod ProofOf3
 pub mod ProofOfExported
 pub mod ProofOfParts
+pub mod ProofOfStays
 pub mod AllHold
+pub mod ShortAtTheEnd
+pub mod RowsGoOn
 pub mod ShutOut
 pub mod Nobody
 pub mod AllHanded

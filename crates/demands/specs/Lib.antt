@@ -4,6 +4,9 @@ pub mod Demand3
 pub mod RowsBack
 pub mod Exported
 pub mod InParts
+pub mod Swallowed
+pub mod RowsStay
+pub mod Stays
 pub mod Examples
 pub mod Idle
 pub mod Handed

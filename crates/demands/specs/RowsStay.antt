@@ -1,0 +1,42 @@
+-- Document 02, P4, of `sbp_next`, which C and Rust link: it takes a position and stores a row (exports' Found.antt). Assumes nothing.
+use Prim.Native.Nat.{ℕ, _+_, _^_, _≤_, _<_}
+use mathlib.Core.Path.{_≡_}
+use mathlib.Core.Bool.{true}
+use mathlib.Core.List.{List}
+use lib.ListN.{length, take, drop}
+use Rattle.frames.specs.Cursors.{nextOf}
+use Rattle.frames.specs.Stays.{Leads}
+use Rattle.frames.specs.declared.cursor.Next as Next
+use Rattle.exports.specs.Found.{startAt, foundIn, numberIn, nextAnswer, nextStored}
+use Rattle.exports.specs.declared.reading.FoundRow.{FoundRow}
+
+-- what a call in open reading finds from a position on, and its row
+abbrev pub foundFrom : List ℕ → ℕ → Next.Next
+foundFrom s at = nextOf s (startAt at true)
+
+abbrev pub rowFrom : List ℕ → ℕ → FoundRow
+rowFrom s at = foundIn (foundFrom s at)
+
+-- the row of a call that found no frame and that of a call from there on make up the row of one call: it shows what the later shows, and its counts
+-- are those of both
+pub record Together (early later one : FoundRow) : Type 0 where
+  pub at : later .at ≡ one .at
+  pub next : later .next ≡ one .next
+  pub needed : later .needed ≡ one .needed
+  pub junk : early .junk + later .junk ≡ one .junk
+  pub bad : early .bad + later .bad ≡ one .bad
+  pub short : early .short + later .short ≡ one .short
+  pub kind : later .kind ≡ one .kind
+  pub sender : later .sender ≡ one .sender
+  pub length : later .length ≡ one .length
+
+pub record RowsStay : Type 0 where
+  -- a frame that was shown of s is shown of t, by the same number and the same bytes in the lent buffer
+  pub frame-stays : (s t : List ℕ) → Leads s t → length t < 2 ^ 64 → (at : ℕ) (buf : List ℕ) → nextAnswer s at true (length buf) ≡ 0
+      → (nextAnswer t at true (length buf) ≡ 0) × (nextStored t at true buf ≡ nextStored s at true buf)
+  -- with the same payload, from its position and length
+  pub payload-stays : (s t : List ℕ) → Leads s t → length t < 2 ^ 64 → (at : ℕ) → numberIn (foundFrom s at) ≡ 0
+      → take (rowFrom s at .length) (drop (rowFrom s at .at + 6) t) ≡ take (rowFrom s at .length) (drop (rowFrom s at .at + 6) s)
+  -- where none was shown, a call on t from the position that was shown goes on to what a call on t from the first position finds
+  pub goes-on : (s t : List ℕ) → Leads s t → length t < 2 ^ 64 → (at : ℕ) → at ≤ length s → (numberIn (foundFrom s at) ≡ 0 → ⊥)
+      → (numberIn (foundFrom t (rowFrom s at .next)) ≡ numberIn (foundFrom t at)) × Together (rowFrom s at) (rowFrom t (rowFrom s at .next)) (rowFrom t at)
