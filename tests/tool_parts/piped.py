@@ -4,6 +4,8 @@ import tempfile
 
 import captures
 import common
+import pages
+import twin
 
 MOST_MEMORY = 8 << 20
 
@@ -33,6 +35,17 @@ def first_line(command, data):
         return line, program.stdout.read()
 
 
+def grown(command, data, more):
+    """What it prints where more comes only once it has printed a line."""
+    with common.started(command) as program:
+        program.stdin.write(data)
+        program.stdin.flush()
+        line = common.line_of(program)
+        program.stdin.write(more)
+        program.stdin.close()
+        return line + program.stdout.read()
+
+
 def memory(command, data):
     """The most memory that it had by the time it has read all but what a pipe holds."""
     with common.started(command, stdout=subprocess.DEVNULL) as program:
@@ -56,6 +69,9 @@ def cases():
     for command in ("list", "json"):
         lines = common.run(command, data=frame)[0].splitlines(True)
         yield "%s gives a frame as it comes" % command, first_line(command, frame), (lines[0], b"".join(lines[1:]))
+    early, late = pages.captures()
+    blank = twin.frame(0, 0, b"")
+    yield "list shows nothing that a frame swallows later", grown("list", blank + early, late[len(early):]), twin.lines(blank + late).encode()
     for command in ("list", "json", "epochs"):
         peak = memory(command, sample * 4000)
         yield "%s of a long capture takes little memory (%d bytes)" % (command, peak), peak < MOST_MEMORY, True
