@@ -6,6 +6,7 @@ pub mod ProofOfParts
 pub mod ProofOfStays
 pub mod AllHold
 pub mod ShortAtTheEnd
+pub mod CountsAhead
 pub mod RowsGoOn
 pub mod ShutOut
 pub mod Nobody

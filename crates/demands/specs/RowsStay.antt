@@ -11,11 +11,11 @@ use Rattle.exports.specs.Found.{startAt, foundIn, numberIn, nextAnswer, nextSto
 use Rattle.exports.specs.declared.reading.FoundRow.{FoundRow}
 
 -- what a call in open reading finds from a position on, and its row
-abbrev pub foundFrom : List ℕ → ℕ → Next.Next
-foundFrom s at = nextOf s (startAt at true)
+abbrev pub openNext : List ℕ → ℕ → Next.Next
+openNext s at = nextOf s (startAt at true)
 
-abbrev pub rowFrom : List ℕ → ℕ → FoundRow
-rowFrom s at = foundIn (foundFrom s at)
+abbrev pub openRow : List ℕ → ℕ → FoundRow
+openRow s at = foundIn (openNext s at)
 
 -- the row of a call that found no frame and that of a call from there on make up the row of one call: it shows what the later shows, and its counts
 -- are those of both
@@ -35,8 +35,8 @@ pub record RowsStay : Type 0 where
   pub frame-stays : (s t : List ℕ) → Leads s t → length t < 2 ^ 64 → (at : ℕ) (buf : List ℕ) → nextAnswer s at true (length buf) ≡ 0
       → (nextAnswer t at true (length buf) ≡ 0) × (nextStored t at true buf ≡ nextStored s at true buf)
   -- with the same payload, from its position and length
-  pub payload-stays : (s t : List ℕ) → Leads s t → length t < 2 ^ 64 → (at : ℕ) → numberIn (foundFrom s at) ≡ 0
-      → take (rowFrom s at .length) (drop (rowFrom s at .at + 6) t) ≡ take (rowFrom s at .length) (drop (rowFrom s at .at + 6) s)
+  pub payload-stays : (s t : List ℕ) → Leads s t → length t < 2 ^ 64 → (at : ℕ) → numberIn (openNext s at) ≡ 0
+      → take (openRow s at .length) (drop (openRow s at .at + 6) t) ≡ take (openRow s at .length) (drop (openRow s at .at + 6) s)
   -- where none was shown, a call on t from the position that was shown goes on to what a call on t from the first position finds
-  pub goes-on : (s t : List ℕ) → Leads s t → length t < 2 ^ 64 → (at : ℕ) → at ≤ length s → (numberIn (foundFrom s at) ≡ 0 → ⊥)
-      → (numberIn (foundFrom t (rowFrom s at .next)) ≡ numberIn (foundFrom t at)) × Together (rowFrom s at) (rowFrom t (rowFrom s at .next)) (rowFrom t at)
+  pub goes-on : (s t : List ℕ) → Leads s t → length t < 2 ^ 64 → (at : ℕ) → at ≤ length s → (numberIn (openNext s at) ≡ 0 → ⊥)
+      → (numberIn (openNext t (openRow s at .next)) ≡ numberIn (openNext t at)) × Together (openRow s at) (openRow t (openRow s at .next)) (openRow t at)

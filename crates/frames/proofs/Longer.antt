@@ -1,8 +1,9 @@
--- A longer capture: a step of open reading is the same there, so its steps begin with those of the shorter one. Assumes nothing.
+-- A longer capture: a step of open reading is the same there, so its steps begin with those of the shorter one; and closed reading begins with
+-- them too. Assumes nothing.
 use mathlib.Core.Path.{_≡_, refl, sym, ap, ap₂, _∙_, subst, subst⁻¹}
 use mathlib.Core.Bool.{Bool, true, false, true≢false}
-use mathlib.Core.List.{List, [], _∷_, _++_}
-use Prim.Native.Nat.{ℕ, zero, suc, _+_, _-_, _≤_, _<_}
+use mathlib.Core.List.{List, [], _∷_, _++_, append-assoc}
+use Prim.Native.Nat.{ℕ, zero, suc, _+_, _≤_, _<_}
 use native.Mathlib.Omega.{arith}
 use lib.ListN.{length, getD, take, drop, length-append, length-drop, List·getD-append}
 use lib.Seq.{take-append-le, drop-append-le}
@@ -10,13 +11,14 @@ use Rattle.wire.specs.Number.{little, numberAt}
 use Rattle.crc.specs.Crc.{crcFrom}
 use Rattle.frames.specs.Step.{stepAt, passed, ends}
 use Rattle.frames.specs.Decides.{left, size, sum, sent, frame, Decides, finished, junk, headless, cut, bad, found}
-use Rattle.frames.specs.Reading.{Positioned, stops, steps, openSteps, positioned}
+use Rattle.frames.specs.Reading.{Positioned, stops, steps, closedSteps, openSteps, isShort, beforeShort}
 use Rattle.frames.specs.Stays.{Leads}
 use Rattle.frames.specs.declared.step.Step.{Step}
 use Rattle.frames.specs.declared.step.Step.the-variants.{Found}
 use Rattle.frames.specs.declared.step.Frame.{Frame}
 use Rattle.frames.proofs.Steps.{only, decided}
 use Rattle.frames.proofs.Readings.{steps-stop, steps-go, goes-on}
+use Rattle.frames.proofs.Tiling.{open-closed}
 
 module _ (s more : List ℕ) where
   abbrev longer : List ℕ
@@ -96,3 +98,22 @@ module _ (s more : List ℕ) where
 
   pub lead : Leads (openSteps s) (openSteps longer)
   lead = within (length s) 0 (omega arith)
+
+-- ---- closed reading begins with open reading
+
+leads-on : {A : Type 0} (xs ys zs : List A) → Leads xs ys → Leads ys zs → Leads xs zs
+leads-on {A = A} xs ys zs (r, e) (q, f) = (r ++ q, f ∙ ap (λ (l : List A). l ++ q) e ∙ append-assoc xs r q)
+
+before-short : (xs : List Positioned) → Leads (beforeShort xs) xs
+unfolding beforeShort
+before-short [] = ([], refl)
+before-short (x ∷ xs) = by (isShort (x .step)) refl (before-short xs)
+  where
+    by : (t : Bool) → isShort (x .step) ≡ t → Leads (beforeShort xs) xs → Leads (beforeShort (x ∷ xs)) (x ∷ xs)
+    by true e rest = (x ∷ xs, rw e)
+    by false e (rest, q) = (rest, ap (λ (l : List Positioned). x ∷ l) q ∙ rw e)
+
+pub lead-closed : (s more : List ℕ) → Leads (openSteps s) (closedSteps (s ++ more))
+lead-closed s more =
+    leads-on (openSteps s) (openSteps (s ++ more)) (closedSteps (s ++ more)) (lead s more)
+    (subst⁻¹ (λ (xs : List Positioned). Leads xs (closedSteps (s ++ more))) (open-closed (s ++ more)) (before-short (closedSteps (s ++ more))))

@@ -6,7 +6,7 @@ use Prim.Native.Nat.{ℕ, _+_, _^_, _<_}
 use native.Mathlib.Omega.{arith}
 use lib.ListN.{length, length-append}
 use Rattle.frames.specs.Step.{payloadIn}
-use Rattle.frames.specs.Reading.{stops, openSteps}
+use Rattle.frames.specs.Reading.{stops, closedSteps, openSteps}
 use Rattle.frames.specs.Cursors.{over, ended, nextOf, after, Led, start, more}
 use Rattle.frames.specs.Stays.{Leads, Stands, Stays}
 use Rattle.frames.specs.declared.step.Step.{Step}
@@ -17,7 +17,7 @@ use Rattle.frames.specs.declared.cursor.Next as Next
 use Rattle.frames.proofs.Frames.{found-at, found-fits}
 use Rattle.frames.proofs.GoingOn.{here, Answered, pass, end, passed-on, answered, next-given, next-kept}
 use Rattle.frames.proofs.NextAnswers.{led}
-use Rattle.frames.proofs.Longer.{same-part, same-step, lead}
+use Rattle.frames.proofs.Longer.{same-part, same-step, lead, lead-closed}
 
 -- ---- what an answer on s keeps on t
 
@@ -93,6 +93,7 @@ module _ (s t : List ℕ) (leads : Leads s t) (small : length t < 2 ^ 64) where
 pub stays : Stays
 stays = record {
   steps-lead = λ s t leads. subst⁻¹ (λ (u : List ℕ). Leads (openSteps s) (openSteps u)) (leads .1) (lead s (leads .0));
+  closed-begins = λ s t leads. subst⁻¹ (λ (u : List ℕ). Leads (openSteps s) (closedSteps u)) (leads .1) (lead-closed s (leads .0));
   answer-stands = λ s t leads small c m. lasting s t leads small c m .stands;
   frames-stay = λ s t leads small fs c l. kept s t leads small l;
 }
