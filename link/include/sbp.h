@@ -162,7 +162,8 @@ uint16_t sbp_frame_crc(const uint8_t *header, size_t header_n, const uint8_t *pa
 /* The next frame of a capture from a position on. Bytes other than 0x55 are passed over as junk; a 0x55 whose frame does not fit its CRC is
  * passed over as bad, that byte alone, for a frame may begin in what follows. Where the capture ends before the frame does: in closed reading
  * (opened false: the capture is complete) the byte is passed over as short, and in open reading (more may come) it stops and says how many
- * bytes are needed.
+ * bytes are needed. What open reading has shown stays: of a longer capture that begins with this one it shows the same frames first, and going on
+ * from next finds what starting over comes to. Closed reading of a capture that goes on may take frames back.
  * SBP_FRAME, SBP_END or SBP_NEEDS, and found[0 .. SBP_FOUND] has the row of sbp_found; or SBP_NO_ROOM: room is below SBP_FOUND.
  * The caller keeps: n bytes are at capture, and room bytes, that are no part of them, to write at found. at may be any number. */
 uint8_t sbp_next(const uint8_t *capture, size_t n, size_t at, bool opened, uint8_t *found, size_t room);

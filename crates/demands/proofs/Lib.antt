@@ -8,6 +8,7 @@ pub mod AllHold
 pub mod ShortAtTheEnd
 pub mod CountsAhead
 pub mod RowsGoOn
+pub mod RowCalls
 pub mod ShutOut
 pub mod Nobody
 pub mod AllHanded

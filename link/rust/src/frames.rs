@@ -102,6 +102,11 @@ pub fn answer(kind: u16, payload: &[u8]) -> Result<(), Refusal> {
 /// reading more may come, and a frame that has not come whole ends the
 /// iteration, with [`needs`](Frames::needs) telling how much to wait for.
 ///
+/// What open reading has handed out stays: of a longer capture that begins
+/// with this one it hands out the same frames first, and going on from
+/// [`position`](Frames::position) finds what starting over comes to. Closed
+/// reading of a capture that goes on may take frames back.
+///
 /// ```
 /// use yaqtumeer::{Frames, Heartbeat, totals};
 ///
