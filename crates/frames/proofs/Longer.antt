@@ -3,7 +3,7 @@
 use mathlib.Core.Path.{_≡_, refl, sym, ap, ap₂, _∙_, subst, subst⁻¹}
 use mathlib.Core.Bool.{Bool, true, false, true≢false}
 use mathlib.Core.List.{List, [], _∷_, _++_, append-assoc}
-use Prim.Native.Nat.{ℕ, zero, suc, _+_, _≤_, _<_}
+use Prim.Native.Nat.{ℕ, _+_, _≤_, _<_}
 use native.Mathlib.Omega.{arith}
 use lib.ListN.{length, getD, take, drop, length-append, length-drop, List·getD-append}
 use lib.Seq.{take-append-le, drop-append-le}
@@ -17,7 +17,7 @@ use Rattle.frames.specs.declared.step.Step.{Step}
 use Rattle.frames.specs.declared.step.Step.the-variants.{Found}
 use Rattle.frames.specs.declared.step.Frame.{Frame}
 use Rattle.frames.proofs.Steps.{only, decided}
-use Rattle.frames.proofs.Readings.{steps-stop, steps-go, goes-on}
+use Rattle.frames.proofs.Readings.{steps-stop, steps-go, by-steps}
 use Rattle.frames.proofs.Tiling.{open-closed}
 
 module _ (s more : List ℕ) where
@@ -76,28 +76,20 @@ module _ (s more : List ℕ) where
   abbrev Begins : ℕ → Type 0
   Begins p = Leads (steps true s p) (steps true longer p)
 
-  -- from a position on, if so from where its step ends
-  turn : (p : ℕ) → (p < ends s p → ends s p ≤ length s → Begins (ends s p)) → Begins p
-  turn p rest = by (stops true (stepAt s p)) refl
-    where
-      by : (t : Bool) → stops true (stepAt s p) ≡ t → Begins p
-      by true e = (steps true longer p, ap (λ (xs : List Positioned). xs ++ steps true longer p) (sym (steps-stop true s p e)))
-      by false e =
-          let step = same-step p e in
-          let on = goes-on true s p e in
-          let next = rest (on .0) (on .1) in (
-            next .0,
-            steps-go true longer p (ap (stops true) step ∙ e)
-                ∙ ap₂ (λ (x : Step) (xs : List Positioned). record { at = p; step = x } ∷ xs) step (ap (λ (x : Step). steps true longer (p + passed x)) step ∙ next .1)
-                ∙ ap (λ (xs : List Positioned). xs ++ next .0) (sym (steps-go true s p e)),
-          )
+  stopped : (p : ℕ) → stops true (stepAt s p) ≡ true → Begins p
+  stopped p e = (steps true longer p, ap (λ (xs : List Positioned). xs ++ steps true longer p) (sym (steps-stop true s p e)))
 
-  within : (n p : ℕ) → length s ≤ p + n → Begins p
-  within zero p h = turn p (λ further inside. absurd (omega arith))
-  within (suc n) p h = turn p (λ further inside. within n (ends s p) (omega arith))
+  gone-on : (p : ℕ) → stops true (stepAt s p) ≡ false → Begins (ends s p) → Begins p
+  gone-on p e (rest, q) =
+      let step = same-step p e in (
+        rest,
+        steps-go true longer p (ap (stops true) step ∙ e)
+            ∙ ap₂ (λ (x : Step) (xs : List Positioned). record { at = p; step = x } ∷ xs) step (ap (λ (x : Step). steps true longer (p + passed x)) step ∙ q)
+            ∙ ap (λ (xs : List Positioned). xs ++ rest) (sym (steps-go true s p e)),
+      )
 
   pub lead : Leads (openSteps s) (openSteps longer)
-  lead = within (length s) 0 (omega arith)
+  lead = by-steps true s Begins stopped gone-on 0
 
 -- ---- closed reading begins with open reading
 

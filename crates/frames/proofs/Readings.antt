@@ -62,3 +62,20 @@ module _ (opened : Bool) (s : List ℕ) where
   -- a step that a reading goes on by ends further on, and within the capture
   pub goes-on : (p : ℕ) → stops opened (stepAt s p) ≡ false → (p < ends s p) × (ends s p ≤ length s)
   goes-on p e = (omega (arith, passes-some opened (stepAt s p) e), within s p opened e)
+
+  -- what holds where the reading stops, and before a step where it holds after it, holds from every position on
+  module _ (C : ℕ → Type 0) (stop : (p : ℕ) → stops opened (stepAt s p) ≡ true → C p) (go : (p : ℕ) → stops opened (stepAt s p) ≡ false → C (ends s p) → C p) where
+    turn : (p : ℕ) → (p < ends s p → ends s p ≤ length s → C (ends s p)) → C p
+    turn p rest = by (stops opened (stepAt s p)) refl
+      where
+        by : (t : Bool) → stops opened (stepAt s p) ≡ t → C p
+        by true e = stop p e
+        by false e = let on = goes-on p e in go p e (rest (on .0) (on .1))
+
+    -- where no more than n bytes are left
+    with-left : (n p : ℕ) → length s ≤ p + n → C p
+    with-left zero p h = turn p (λ further inside. absurd (omega arith))
+    with-left (suc n) p h = turn p (λ further inside. with-left n (ends s p) (omega arith))
+
+    pub by-steps : (p : ℕ) → C p
+    by-steps p = with-left (length s) p (omega arith)

@@ -4,7 +4,7 @@
 use mathlib.Core.Path.{_≡_, refl, sym, ap, _∙_, subst, subst⁻¹}
 use mathlib.Core.Bool.{Bool, true, false, _||_}
 use mathlib.Core.List.{List, [], _∷_}
-use Prim.Native.Nat.{ℕ, zero, suc, _+_, _≤_, _<_}
+use Prim.Native.Nat.{ℕ, _+_, _≤_, _<_}
 use native.Mathlib.Omega.{arith}
 use lib.Dec.{ltb}
 use lib.ListN.{length}
@@ -15,7 +15,7 @@ use Rattle.frames.specs.declared.step.Step.{Step}
 use Rattle.frames.specs.declared.step.Step.the-variants.{Finished, Junk, Short, Bad, Found}
 use Rattle.frames.specs.declared.cursor.Counts.{Counts}
 use Rattle.frames.proofs.Steps.{at-end, past-end}
-use Rattle.frames.proofs.Readings.{steps-stop, steps-go, goes-on}
+use Rattle.frames.proofs.Readings.{steps-stop, steps-go, goes-on, by-steps}
 
 -- a step counts the bytes that it passes
 pub counted-sum : (x : Step) → sumOf (counted x) ≡ passed x
@@ -54,25 +54,21 @@ module _ (s : List ℕ) where
 
   -- ---- closed reading tiles
 
-  -- from a position to the end, if so from where its step ends
-  turn : (p : ℕ) → p ≤ length s → (p < ends s p → ends s p ≤ length s → Tiled s (ends s p) (length s) (steps false s (ends s p))) → Tiled s p (length s) (steps false s p)
-  turn p h rest = by (stops false (stepAt s p)) refl
+  tiled : (p : ℕ) → p ≤ length s → Tiled s p (length s) (steps false s p)
+  tiled = by-steps false s (λ p. p ≤ length s → Tiled s p (length s) (steps false s p)) stop go
     where
-      by : (t : Bool) → stops false (stepAt s p) ≡ t → Tiled s p (length s) (steps false s p)
-      by true e =
+      stop : (p : ℕ) → stops false (stepAt s p) ≡ true → p ≤ length s → Tiled s p (length s) (steps false s p)
+      stop p e h =
           let end : p ≡ length s = omega (arith, at-end s p e) in
           subst⁻¹ (Tiled s p (length s)) (steps-stop false s p e) (subst (λ (e : ℕ). Tiled s p e []) end done)
-      by false e =
-          let on = goes-on false s p e in
-          subst⁻¹ (Tiled s p (length s)) (steps-go false s p e) (then (omega (arith, on)) (rest (on .0) (on .1)))
 
-  -- where no more than n bytes are left
-  tiled : (n p : ℕ) → p ≤ length s → length s ≤ p + n → Tiled s p (length s) (steps false s p)
-  tiled zero p h l = turn p h (λ further within. absurd (omega arith))
-  tiled (suc n) p h l = turn p h (λ further within. tiled n (ends s p) within (omega arith))
+      go : (p : ℕ) → stops false (stepAt s p) ≡ false → (ends s p ≤ length s → Tiled s (ends s p) (length s) (steps false s (ends s p))) → p ≤ length s → Tiled s p (length s) (steps false s p)
+      go p e rest h =
+          let on = goes-on false s p e in
+          subst⁻¹ (Tiled s p (length s)) (steps-go false s p e) (then (omega (arith, on)) (rest (on .1)))
 
   pub closed-tiled : Tiled s 0 (length s) (closedSteps s)
-  closed-tiled = tiled (length s) 0 (omega arith) (omega arith)
+  closed-tiled = tiled 0 (omega arith)
 
   -- ---- no other steps tile the capture
 
