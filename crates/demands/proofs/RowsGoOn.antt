@@ -46,7 +46,7 @@ number-ahead k (Next.the-variants.Frame f c) = refl
 number-ahead k (Next.the-variants.End c) = refl
 number-ahead k (Next.the-variants.Needs n c) = refl
 
--- a row has the counts of the cursor that was handed back, and without a frame its position
+-- a row has the counts of the cursor that was handed back, and its position as `next`
 row-counts : (n : Next.Next) → (foundIn n .junk ≡ after n .junk) × (foundIn n .bad ≡ after n .bad) × (foundIn n .short ≡ after n .short)
 row-counts (Next.the-variants.Frame f c) = (refl, refl, refl)
 row-counts (Next.the-variants.End c) = (refl, refl, refl)
