@@ -14,14 +14,12 @@ import subprocess
 import sys
 import tempfile
 
+from edits import Wrong, edited, read, restore
+
 ROOT = os.path.dirname(os.path.dirname(os.path.abspath(__file__)))
 EDITS = os.path.join(ROOT, "tests", "wrong")
 BUILT = ("lib", "bin")
 SECONDS = 600
-
-
-class Wrong(Exception):
-    """An edit that cannot be tried."""
 
 
 def copied(folder):
@@ -37,27 +35,6 @@ def copied(folder):
         os.symlink(os.path.join(ROOT, "target", part), os.path.join(folder, "target", part))
 
 
-def read(name):
-    """An edit's test and its steps: (path, old, new)."""
-    path, old, test, steps = None, None, None, []
-    with open(os.path.join(EDITS, name + ".edit"), encoding="utf-8") as lines:
-        for line in lines.read().splitlines():
-            word, _, text = line.partition(": ")
-            if word == "file":
-                path = text
-            elif word == "old":
-                old = text
-            elif word == "new" and path and old:
-                steps.append((path, old, text))
-            elif word == "test":
-                test = text
-            else:
-                raise Wrong("no edit has the line '%s'" % line)
-    if not test or not steps:
-        raise Wrong("a test or an edit is missing")
-    return test, steps
-
-
 def run(folder, command):
     """Its exit status, or None where it did not end, and its output."""
     with subprocess.Popen(["bash", "-c", command], cwd=folder, stdin=subprocess.DEVNULL, stdout=subprocess.PIPE, stderr=subprocess.STDOUT,
@@ -70,38 +47,16 @@ def run(folder, command):
             return None, program.communicate()[0].decode(errors="replace")
 
 
-def write(path, text):
-    with open(path, "w", encoding="utf-8") as file:
-        file.write(text)
-
-
-def edited(folder, steps):
-    """Makes the edit, and hands back what puts all as it was."""
-    before = {}
-    for path, old, new in steps:
-        there = os.path.join(folder, path)
-        with open(there, encoding="utf-8") as file:
-            text = file.read()
-        before.setdefault(there, text)
-        if text.count(old) != 1:
-            for touched, was in before.items():
-                write(touched, was)
-            raise Wrong("'%s' is %d times in %s" % (old, text.count(old), path))
-        write(there, text.replace(old, new))
-    return before
-
-
 def refused(folder, name, sound):
     """Tries an edit; raises Wrong where its test does not refuse it. sound has what each test said without an edit."""
-    test, steps = read(name)
+    (test,), steps = read(os.path.join(EDITS, name + ".edit"), "test")
     if test not in sound:
         sound[test] = run(folder, test)
     if sound[test][0] != 0:
         raise Wrong("without it '%s' does not pass:\n%s" % (test, sound[test][1]))
     before = edited(folder, steps)
     status, said = run(folder, test)
-    for path, was in before.items():
-        write(path, was)
+    restore(before)
     if status is None:
         raise Wrong("'%s' does not end" % test)
     if status == 0:

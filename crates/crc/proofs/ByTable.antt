@@ -1,25 +1,19 @@
 -- A table's rule at each entry, and by a table of that rule the CRC.
--- Assumes nothing.
 use mathlib.Core.Path.{_≡_, refl, sym, ap, ap₂, _∙_}
 use mathlib.Core.List.{List, [], _∷_, _++_}
-use Prim.Native.Nat.{ℕ, zero, suc, _+_, _*_, _/_, _%_, _<_}
-use native.Mathlib.Nat.{add-zero, le-of-suc-le-suc, not-suc-le-zero}
+use Prim.Native.Nat.{ℕ, _+_, _*_, _/_, _%_, _<_}
+use native.Mathlib.Nat.{add-zero}
 use native.Mathlib.Omega.{arith}
 use lib.Bits.{bitXor, xor-block, xor-lt, xor-zero-r}
 use lib.Dec.{lit≤}
 use lib.ListN.{getD}
 use lib.Pow as Pow
+use Rattle.wire.proofs.Tables.{tabulated-at}
 use Rattle.crc.specs.Crc.{bitSteps, byteStep, crcFrom}
-use Rattle.crc.specs.Table.{tabulated, Rule, byteBy, crcBy}
+use Rattle.crc.specs.Table.{Rule, byteBy, crcBy}
 use Rattle.crc.proofs.Split.{split}
 use Rattle.crc.proofs.Fold.{byteStep-fits, crcFrom-fits}
 use Rattle.crc.proofs.Joined.{joined}
-
-pub tabulated-at : {A : Type 0} (f : ℕ → A) (n k : ℕ) (d : A) → k < n → getD (tabulated f n) k d ≡ f k
-unfolding tabulated
-tabulated-at f zero k d h = absurd (not-suc-le-zero h)
-tabulated-at f (suc n) zero d h = refl
-tabulated-at f (suc n) (suc k) d h = tabulated-at (λ j. f (suc j)) n k d (le-of-suc-le-suc h)
 
 -- the rule at an entry
 rule-at : (t : List ℕ) → Rule t → (k : ℕ) → k < 256 → getD t k 0 ≡ bitSteps 8 (k * 256)

@@ -1,4 +1,4 @@
--- Calls of `crc` go on, each from the answer of the one before, as its contract has them. Assumes nothing.
+-- Calls of `crc` go on, each from the answer of the one before, as its contract has them.
 use mathlib.Core.Path.{_≡_, sym, ap, _∙_}
 use mathlib.Core.List.{List, [], _∷_, map, flatten, foldl}
 use Prim.Native.Nat.{ℕ}

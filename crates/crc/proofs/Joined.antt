@@ -1,4 +1,4 @@
--- The CRC goes on: what the bytes so far came to is all that the next ones need. Assumes nothing.
+-- The CRC goes on: what the bytes so far came to is all that the next ones need.
 use mathlib.Core.Path.{_≡_, refl, _∙_}
 use mathlib.Core.List.{List, [], _∷_, _++_, flatten, foldl}
 use Prim.Native.Nat.{ℕ}

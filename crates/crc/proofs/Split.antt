@@ -1,5 +1,5 @@
 -- What n single-bit steps make of a register: its low part, of which nothing falls out, moves up, and the rest goes by itself.
--- One law over n and the split, `split`; the table of 256 cites it at 8 and 8. Assumes nothing.
+-- One law over n and the split, `split`; the table of 256 cites it at 8 and 8.
 use mathlib.Core.Path.{_≡_, refl, sym, ap, ap₂, _∙_}
 use Prim.Native.Nat.{ℕ, zero, suc, _+_, _*_, _/_, _%_, _^_, _≤_, _<_}
 use native.Mathlib.Nat.{zero-mul, mul-assoc, mul-comm, mul-one, pow-suc, lt-of-lt-of-le}

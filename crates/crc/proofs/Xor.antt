@@ -1,5 +1,4 @@
 -- Laws of xor that the library lacks: regrouping, and a factor that is a power of two.
--- Assumes nothing.
 use mathlib.Core.Path.{_≡_, refl, sym, ap, ap₂, _∙_}
 use Prim.Native.Nat.{ℕ, zero, suc, _*_, _/_, _%_, _^_, _<_}
 use native.Mathlib.Nat.{add-zero}

@@ -1,5 +1,5 @@
 -- The law of parts (Parts.antt) said of calls, as the contract of a CRC function has them: a contract that ignores the start, or resets at an empty
--- part, does not have it. Assumes nothing.
+-- part, does not have it.
 use Prim.Native.Nat.{ℕ}
 use mathlib.Core.Path.{_≡_}
 use mathlib.Core.List.{List, [], _∷_, map, flatten}

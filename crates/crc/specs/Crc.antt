@@ -1,5 +1,4 @@
 -- The CRC of document 01, "A frame": CCITT as XMODEM uses it, x^16 + x^12 + x^5 + 1, highest bit first, no final change.
--- Assumes nothing.
 use Prim.Native.Nat.{ℕ, zero, suc, _*_, _/_, _%_}
 use mathlib.Core.List.{List, [], _∷_}
 use lib.Bits.{bitXor}

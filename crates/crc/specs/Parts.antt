@@ -1,5 +1,5 @@
 -- Document 02, P3: "the CRC of two parts joined equals the CRC of the second begun at the CRC of the first, for empty parts too"; and of any
--- number of parts, from any start. Assumes nothing.
+-- number of parts, from any start.
 use Prim.Native.Nat.{ℕ}
 use mathlib.Core.Path.{_≡_}
 use mathlib.Core.List.{List, _++_, flatten, foldl}

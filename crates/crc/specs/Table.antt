@@ -1,16 +1,11 @@
 -- The same a byte at a time from a table of 256 numbers, whose rule is eight single-bit steps for each entry.
--- Assumes nothing.
 use mathlib.Core.Path.{_≡_}
-use Prim.Native.Nat.{ℕ, zero, suc, _*_, _/_, _%_}
+use Prim.Native.Nat.{ℕ, _*_, _/_, _%_}
 use mathlib.Core.List.{List, [], _∷_}
 use lib.Bits.{bitXor}
 use lib.ListN.{getD}
+use Rattle.wire.specs.Tabulated.{tabulated}
 use Rattle.crc.specs.Crc.{bitSteps}
-
--- f at 0, 1, .., n of them
-unfoldable pub tabulated : {A : Type 0} → (ℕ → A) → ℕ → List A
-tabulated f zero = []
-tabulated f (suc n) = f zero ∷ tabulated (λ k. f (suc k)) n
 
 -- entry i is what eight steps make of the register i * 256
 abbrev pub Rule : List ℕ → Type 0

@@ -1,4 +1,4 @@
--- Calls of `next` come to an end, with all frames of the reading handed out and its counts. Assumes nothing.
+-- Calls of `next` come to an end, with all frames of the reading handed out and its counts.
 use mathlib.Core.Path.{_≡_, refl, sym, ap, _∙_, subst}
 use mathlib.Core.Bool.{Bool}
 use mathlib.Core.List.{List, [], _∷_, _++_}

@@ -1,13 +1,13 @@
--- The worked examples hold, all of the table, by computation. Assumes nothing.
+-- The worked examples hold, all of the table, by computation.
 use mathlib.Core.Path.{refl}
 use Rattle.wire.specs.Number.{numberAt}
 use Rattle.crc.specs.Crc.{bitStep, bitSteps, byteStep, crcFrom}
 use Rattle.frames.specs.Step.{stepOf, payloadIn}
 use Rattle.frames.specs.Reading.{readFrom, countsOf}
 use Rattle.frames.specs.Cursors.{nextOf}
-use Rattle.navigation.specs.Range.{fixUpTo}
+use Rattle.flags.specs.Range.{fixUpTo}
 use Rattle.observation.specs.Edition.{isObs}
-use Rattle.observation.specs.Phase.{readPhase}
+use Rattle.phases.specs.Phase.{readPhase}
 use Rattle.payloads.specs.Payloads.{entryFor}
 use Rattle.packets.specs.Packet.{packetIn, shape, numbering}
 use Rattle.runs.specs.Run.{stepped}

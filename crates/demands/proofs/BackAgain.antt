@@ -1,5 +1,5 @@
 -- Numbers that were written come back, once for every message: its writer is the typed one, its frame is found, and the record read from it has
--- those numbers. Assumes nothing.
+-- those numbers.
 use mathlib.Core.Path.{_≡_, refl, sym, ap, _∙_, subst, subst⁻¹}
 use mathlib.Core.Bool.{true, false≢true, and-eq-true-iff}
 use mathlib.Core.List.{List}
@@ -8,14 +8,14 @@ use native.Mathlib.Omega.{arith}
 use lib.ListN.{length, getD}
 use lib.Seq.{take-all}
 use borrow.Author.Tests.{eqb-true}
-use Rattle.wire.specs.Refusals.{given, mapped, ordered}
-use Rattle.wire.specs.Field.{SettledRow}
-use Rattle.wire.specs.Layout.{Layout, run, then, bytes, text, rows, HeldBody, SettledBody, allowedBody, bodySize}
-use Rattle.wire.proofs.Ordered.{exactly-all}
-use Rattle.frames.specs.Faithful.{writeAnswer, frameWritten}
+use Rattle.refusals.specs.Refusals.{given, mapped, ordered}
+use Rattle.layouts.specs.Field.{SettledRow}
+use Rattle.layouts.specs.Layout.{Layout, run, then, bytes, text, rows, HeldBody, SettledBody, allowedBody, bodySize}
+use Rattle.refusals.proofs.Ordered.{exactly-all}
+use Rattle.frame_writer.specs.Faithful.{writeAnswer, frameWritten}
 use Rattle.frames.specs.Step.{stepAt, payloadIn}
 use Rattle.frames.specs.declared.step.Step.the-variants as Step
-use Rattle.frames.proofs.Promised.{faithful}
+use Rattle.frame_writer.proofs.Promised.{faithful}
 use Rattle.formats.specs.Wide.{narrowRow, fitsRow, wideBody, numberCount}
 use Rattle.formats.specs.Digits.{frontOf}
 use Rattle.formats.proofs.Narrow.{withinAll, held-narrow, settled-narrow, wide-narrow}

@@ -1,4 +1,4 @@
--- A capture of frames with noise between them holds these frames and no other. Assumes nothing.
+-- A capture of frames with noise between them holds these frames and no other.
 use mathlib.Core.Path.{_≡_, refl, sym, ap, ap₂, _∙_}
 use mathlib.Core.Bool.{false}
 use mathlib.Core.List.{List, [], _∷_, _++_, map, append-assoc}
@@ -12,9 +12,9 @@ use Rattle.frames.specs.Reading.{Positioned, stops, readFrom, framesOf}
 use Rattle.frames.specs.declared.step.Step.{Step}
 use Rattle.frames.specs.declared.step.Step.the-variants.{Junk}
 use Rattle.frames.proofs.Readings.{go-at}
-use Rattle.frames.proofs.Written.{length-frame}
-use Rattle.frames.proofs.WrittenRead.{payload-back-at}
-use Rattle.frames.proofs.WrittenStream.{past-written}
+use Rattle.frame_writer.proofs.Written.{length-frame}
+use Rattle.frame_writer.proofs.WrittenRead.{payload-back-at}
+use Rattle.frame_writer.proofs.WrittenStream.{past-written}
 use Rattle.epochs.specs.Epoch.{contentIn, contentsOf}
 use Rattle.demands.specs.Noise.{Piece, frame, noise, AllFit, captureOf, sentIn}
 

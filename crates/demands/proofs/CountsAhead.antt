@@ -1,5 +1,4 @@
 -- A call that begins with counts answers what it answers without them, with these in front; and what a call counts is no more than it goes on by.
--- Assumes nothing.
 use mathlib.Core.Path.{_≡_, refl, sym, ap, _∙_, subst}
 use mathlib.Core.Bool.{true, false}
 use mathlib.Core.List.{List}
@@ -17,7 +16,7 @@ use Rattle.frames.specs.declared.cursor.Cursor.{Cursor}
 use Rattle.frames.specs.declared.cursor.Next as Next
 use Rattle.frames.proofs.Tiling.{counted-sum}
 use Rattle.frames.proofs.GoingOn.{here, Answered, pass, end, passed-on, over-ends, over-further, answered, next-given, next-kept}
-use Rattle.exports.specs.Found.{startAt}
+use Rattle.frame_rows.specs.Found.{startAt}
 use Rattle.demands.specs.RowsStay.{openNext}
 
 abbrev pub ahead : Counts → Cursor → Cursor

@@ -1,11 +1,11 @@
--- A refused roster makes a collator that refuses every frame and never moves. Assumes nothing.
+-- A refused roster makes a collator that refuses every frame and never moves.
 use mathlib.Core.Path.{_≡_, refl, ap, _∙_}
 use mathlib.Core.Bool.{Bool, true, false, cond}
 use mathlib.Core.List.{List, [], _∷_}
 use mathlib.Core.Logic.{_⊎_, inl, inr}
 use Prim.Native.Nat.{ℕ}
 use lib.ListN.{length}
-use Rattle.wire.specs.Refusals.{refused, given, Answer, ordered}
+use Rattle.refusals.specs.Refusals.{refused, given, Answer, ordered}
 use Rattle.frames.specs.Frame.{Content}
 use Rattle.observation.specs.Edition.{first, fitting, isObs}
 use Rattle.packets.specs.Packet.{shape}

@@ -1,5 +1,4 @@
 -- Steps that are honest up to the first frame and junk from there on still add up to the capture's length, for every capture.
--- Assumes nothing.
 use mathlib.Core.Path.{_≡_, refl, _∙_}
 use mathlib.Core.Bool.{Bool, true, false, cond}
 use mathlib.Core.List.{List, [], _∷_}

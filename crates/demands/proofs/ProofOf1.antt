@@ -1,21 +1,21 @@
--- Demand 1 holds: each call is defined by its list, and the rest is citations. Assumes nothing.
+-- Demand 1 holds: each call is defined by its list, and the rest is citations.
 use mathlib.Core.Path.{refl, ap}
 use Prim.Native.Nat.{ℕ}
 use denote.Ref.{now}
-use Rattle.wire.specs.Description.{readAs}
-use Rattle.wire.proofs.Layouts.{bytes-nowhere}
-use Rattle.wire.proofs.Ordered.{exactly-first, exactly-all}
-use Rattle.frames.specs.Writer.{planned, withFrame}
-use Rattle.frames.specs.Faithful.{writeAnswer, writtenAs}
+use Rattle.layouts.specs.Description.{readAs}
+use Rattle.wire.proofs.Stored.{bytes-nowhere}
+use Rattle.refusals.proofs.Ordered.{exactly-first, exactly-all}
+use Rattle.frame_writer.specs.Writer.{planned, withFrame}
+use Rattle.frame_writer.specs.Faithful.{writeAnswer, writtenAs}
 use Rattle.observation.specs.Obs.{readEntry, readEntryOf, readObs}
 use Rattle.observation.specs.ObsWriter.{obsWriteAnswer, obsWritten}
-use Rattle.observation.specs.Phase.{readPhase}
-use Rattle.system.specs.Log.{readLog}
+use Rattle.phases.specs.Phase.{readPhase}
+use Rattle.logs.specs.Log.{readLog}
 use Rattle.obs_reader.specs.declared.ObsReader.{ObsReader}
 use Rattle.obs_reader.proofs.OneQuestion.{stays}
 use Rattle.epochs.specs.Collator.{forPlace, fedFrame, made}
 use Rattle.epochs.proofs.Feeding.{refused-keeps}
-use Rattle.epochs.proofs.Captures.{collated-refused}
+use Rattle.captures.proofs.Captures.{collated-refused}
 use Rattle.listing.specs.Listing.{listAnswer}
 use Rattle.demands.specs.Demand1.{RefusedByNumber, WritesNothing, MovesNoState, Demand1}
 use Rattle.demands.proofs.Nobody.{nobody-listed}

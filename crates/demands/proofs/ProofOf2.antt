@@ -1,4 +1,4 @@
--- Demand 2 holds, all of it by citations. Assumes nothing.
+-- Demand 2 holds, all of it by citations.
 use mathlib.Core.Path.{refl, sym, ap, _∙_, subst}
 use mathlib.Core.List.{List, []}
 use lib.ListN.{length, getD}
@@ -7,11 +7,11 @@ use Rattle.frames.specs.Decides.{Decides}
 use Rattle.frames.proofs.Steps.{only, decided}
 use Rattle.frames.proofs.Frames.{found-bytes}
 use Rattle.frames.proofs.Tiling.{closed-tiled, only-closed, open-closed, each-once, adds-up}
-use Rattle.frames.proofs.WrittenRead.{reads-back-at}
-use Rattle.frames.proofs.WrittenStream.{closed-stream, stream-payloads}
+use Rattle.frame_writer.proofs.WrittenRead.{reads-back-at}
+use Rattle.frame_writer.proofs.WrittenStream.{closed-stream, stream-payloads}
 use Rattle.observation.proofs.ObsThrough.{obs-faithful}
-use Rattle.observation.proofs.Phases.{phase-parts, parts-phase}
-use Rattle.system.proofs.Logs.{log-faithful}
+use Rattle.phases.proofs.Phases.{phase-parts, parts-phase}
+use Rattle.logs.proofs.Logs.{log-faithful}
 use Rattle.obs_reader.proofs.HandedOut.{whole-walk}
 use Rattle.obs_reader.proofs.Readers.{asked-times}
 use Rattle.payloads.proofs.Entries.{promised, obs-read, log-read}
@@ -20,7 +20,7 @@ use Rattle.epochs.specs.Epoch.{after, reportsOf, Epochs, contentsOf}
 use Rattle.epochs.specs.declared.collating.Report.{Report}
 use Rattle.epochs.proofs.Making.{seated}
 use Rattle.epochs.proofs.Collations.{epochs-in, only-epochs, epoch-outcome, epoch-small, one-epoch, came-to}
-use Rattle.epochs.proofs.Captures.{collated-counts}
+use Rattle.captures.proofs.Captures.{collated-counts}
 use Rattle.text.proofs.Decimals.{decimal-value}
 use Rattle.enlisting.proofs.EightSenders.{first-sent, first-all, first-accepted}
 use Rattle.listing.proofs.EpochLines.{text-lines, text-alone}

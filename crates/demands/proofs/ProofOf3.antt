@@ -1,4 +1,4 @@
--- Demand 3 holds, all of it by citations. Assumes nothing.
+-- Demand 3 holds, all of it by citations.
 use mathlib.Core.Path.{_≡_, sym, ap, _∙_}
 use mathlib.Core.Bool.{true≢false}
 use mathlib.Core.List.{List, []}
@@ -10,7 +10,7 @@ use Rattle.epochs.specs.Epoch.{after, reports, reportsOf, Epochs, contentsOf}
 use Rattle.epochs.specs.declared.collating.Report.{Report}
 use Rattle.epochs.proofs.Making.{seated}
 use Rattle.epochs.proofs.Collations.{only-epochs, came-to, same-captures}
-use Rattle.epochs.proofs.Captures.{collated-state}
+use Rattle.captures.proofs.Captures.{collated-state}
 use Rattle.demands.specs.Demand3.{Demand3}
 use Rattle.demands.proofs.Between.{sent}
 use Rattle.demands.proofs.Shuffled.{change-places, nobodys}

@@ -1,4 +1,4 @@
--- The demands hold of the functions that C and Rust link, all of it by citations. Assumes nothing.
+-- The demands hold of the functions that C and Rust link, all of it by citations.
 use mathlib.Core.Path.{_≡_, refl, sym, ap, _∙_}
 use mathlib.Core.Bool.{false}
 use mathlib.Core.List.{List}
@@ -13,15 +13,15 @@ use Rattle.epochs.specs.Epoch.{reportsIn, reportsOf}
 use Rattle.epochs.specs.declared.collating.Happened.{Happened}
 use Rattle.epochs.proofs.Making.{seated}
 use Rattle.epochs.proofs.Collations.{same-state, same-reports}
-use Rattle.exports.specs.Found.{nextFrom}
-use Rattle.exports.specs.Totals.{totalsFor}
+use Rattle.frame_rows.specs.Found.{nextFrom}
+use Rattle.frame_rows.specs.Totals.{totalsFor}
 use Rattle.exports.specs.Flagged.{tableFor, isTable, fixAnswer, availableAnswer, repairedAnswer}
 use Rattle.states.specs.Feed.{madeIn, forPlaceIn}
 use Rattle.states.specs.Enlist.{growingIn, enlistIn}
-use Rattle.exports.proofs.LentRows.{next-left}
-use Rattle.states.proofs.Lives.{told-made, stands, tells-epoch}
-use Rattle.states.proofs.Grows.{grows}
-use Rattle.exports.proofs.ReadBack.{found-shown, counts-shown}
+use Rattle.frame_rows.proofs.LentRows.{next-left}
+use Rattle.told.proofs.Lives.{told-made, stands, tells-epoch}
+use Rattle.told.proofs.Grows.{grows}
+use Rattle.frame_rows.proofs.ReadBack.{found-shown, counts-shown}
 use Rattle.exports.proofs.KeptByAll.{kept}
 use Rattle.demands.specs.Exported.{ByNumber, FlagsByType, Exported}
 use Rattle.demands.proofs.ProofOf3.{reported}

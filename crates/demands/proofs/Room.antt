@@ -1,4 +1,4 @@
--- A buffer of eight bytes for each byte of a capture, and 32, gets the whole listing. Assumes nothing.
+-- A buffer of eight bytes for each byte of a capture, and 32, gets the whole listing.
 use mathlib.Core.Path.{_≡_, refl, ap, _∙_}
 use mathlib.Core.List.{List, _++_}
 use Prim.Native.Nat.{ℕ, _+_, _*_, _≤_}
@@ -6,8 +6,8 @@ use native.Mathlib.Omega.{arith}
 use lib.ListN.{length, drop}
 use borrow.Author.Tests.{le-leb}
 use Rattle.wire.specs.Number.{Bytes}
-use Rattle.wire.specs.Refusals.{given}
-use Rattle.wire.proofs.Ordered.{exactly-all}
+use Rattle.refusals.specs.Refusals.{given}
+use Rattle.refusals.proofs.Ordered.{exactly-all}
 use Rattle.listing.specs.Listing.{textOf, listing, listAnswer, withListing}
 use Rattle.listing.proofs.Sizes.{text-size}
 

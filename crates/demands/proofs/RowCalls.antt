@@ -1,4 +1,4 @@
--- Two calls of `sbp_next`, as its contract has them: the frame that the first showed the second shows. Assumes nothing.
+-- Two calls of `sbp_next`, as its contract has them: the frame that the first showed the second shows.
 use mathlib.Core.Path.{_≡_, sym, ap₂, _∙_}
 use mathlib.Core.Bool.{true}
 use mathlib.Core.List.{List}
@@ -12,8 +12,8 @@ use prog.Routine.{Routine}
 use ghost.Atoms.{Atoms}
 use contract.Monad.{Fun, fact, fact-use, factI}
 use denote.Ref.{now}
-use Rattle.frames.specs.Stays.{Leads}
-use Rattle.exports.specs.Found.{nextAnswer, nextStored}
+use Rattle.stays.specs.Stays.{Leads}
+use Rattle.frame_rows.specs.Found.{nextAnswer, nextStored}
 use Rattle.exports.proofs as exports
 use Rattle.demands.specs.RowsStay.{RowCall, RowCallsStay}
 use Rattle.demands.proofs.RowsGoOn.{rows-stay}

@@ -1,4 +1,4 @@
--- Calls of `sbp_next` while a capture grows: a row stays, and the rows of calls that go on are together that of one call. Assumes nothing.
+-- Calls of `sbp_next` while a capture grows: a row stays, and the rows of calls that go on are together that of one call.
 use mathlib.Core.Path.{_≡_, refl, sym, ap, _∙_, subst, subst⁻¹}
 use mathlib.Core.Bool.{Bool, true, false, cond}
 use mathlib.Core.List.{List, []}
@@ -7,18 +7,18 @@ use native.Mathlib.Nat.{add-zero, mod-eq-of-lt}
 use native.Mathlib.Omega.{arith}
 use lib.Dec.{leb}
 use lib.ListN.{length, take, drop, length-append}
-use Rattle.wire.specs.Refusals.{refused, Answer, ordered, leaves, asNumber}
+use Rattle.refusals.specs.Refusals.{refused, Answer, ordered, leaves, asNumber}
 use Rattle.frames.specs.Step.{payloadIn}
 use Rattle.frames.specs.Reading.{sumOf}
 use Rattle.frames.specs.Cursors.{countsIn, plus, nextOf, after}
-use Rattle.frames.specs.Stays.{Leads, Stands}
+use Rattle.stays.specs.Stays.{Leads, Stands}
 use Rattle.frames.specs.declared.cursor.Counts.{Counts}
 use Rattle.frames.specs.declared.cursor.Cursor.{Cursor}
 use Rattle.frames.specs.declared.cursor.Next as Next
-use Rattle.frames.proofs.Staying.{SamePayload, Lasting, lasting}
-use Rattle.states.specs.Lent.{atFront}
-use Rattle.exports.specs.Found.{foundSize, foundFields, foundValues, startAt, foundIn, numberIn, finding, nextFrom, nextAnswer, nextStored}
-use Rattle.exports.specs.declared.reading.FoundRow.{FoundRow}
+use Rattle.stays.proofs.Staying.{SamePayload, Lasting, lasting}
+use Rattle.lent_rows.specs.Lent.{atFront}
+use Rattle.frame_rows.specs.Found.{foundSize, foundFields, foundValues, startAt, foundIn, numberIn, finding, nextFrom, nextAnswer, nextStored}
+use Rattle.frame_rows.specs.declared.reading.FoundRow.{FoundRow}
 use Rattle.demands.specs.RowsStay.{openNext, openRow, Together, RowsStay}
 use Rattle.demands.proofs.CountsAhead.{ahead, aheadIn, next-ahead, Bounded, bounded}
 

@@ -1,4 +1,4 @@
--- The pair of captures on which closed reading takes a frame back, by computation. Assumes nothing.
+-- The pair of captures on which closed reading takes a frame back, by computation.
 use mathlib.Core.Path.{_≡_, refl, sym, ap, _∙_}
 use mathlib.Core.Bool.{true}
 use mathlib.Core.List.{List, [], _∷_, _++_}
@@ -10,7 +10,7 @@ use Rattle.crc.specs.Crc.{bitStep, bitSteps, byteStep, crcFrom}
 use Rattle.frames.specs.Step.{stepOf}
 use Rattle.frames.specs.Reading.{readFrom, closedSteps, framesOf}
 use Rattle.frames.specs.Cursors.{begun, nextOf}
-use Rattle.frames.specs.Stays.{Leads}
+use Rattle.stays.specs.Stays.{Leads}
 use Rattle.frames.specs.declared.step.Frame.{Frame}
 use Rattle.frames.specs.declared.cursor.Next as Next
 use Rattle.demands.specs.Swallowed.{early, late, inner, outer, Swallowed}

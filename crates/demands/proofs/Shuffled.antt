@@ -1,4 +1,4 @@
--- A sender's frames stay as they are where frames of other senders change places, come or go. Assumes nothing.
+-- A sender's frames stay as they are where frames of other senders change places, come or go.
 use mathlib.Core.Path.{_≡_, refl, sym, ap, _∙_}
 use mathlib.Core.Bool.{Bool, true, false, cond}
 use mathlib.Core.List.{List, [], _∷_, _++_}

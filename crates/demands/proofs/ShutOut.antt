@@ -1,4 +1,4 @@
--- The five idle programs are shut out. Assumes nothing.
+-- The five idle programs are shut out.
 use mathlib.Core.Path.{_≡_, refl, sym, ap, _∙_, subst}
 use mathlib.Core.Bool.{false}
 use mathlib.Core.List.{List, [], _∷_, _++_}

@@ -1,12 +1,12 @@
--- An epoch of two packets: the second ends it where the first was heard, and ends nothing by itself. Assumes nothing.
+-- An epoch of two packets: the second ends it where the first was heard, and ends nothing by itself.
 use mathlib.Core.Path.{_≡_, refl, sym, ap, _∙_, subst}
 use mathlib.Core.Bool.{true}
 use mathlib.Core.List.{List, [], _∷_}
 use Prim.Native.Nat.{ℕ}
 use borrow.Author.Tests.{eq-eqb}
 use Rattle.wire.specs.Number.{numberAt}
-use Rattle.wire.specs.Refusals.{given, Answer}
-use Rattle.wire.proofs.Distinct.{same-given}
+use Rattle.refusals.specs.Refusals.{given, Answer}
+use Rattle.refusals.proofs.Distinct.{same-given}
 use Rattle.observation.specs.Edition.{isObs}
 use Rattle.packets.specs.Packet.{packetIn, shape, numbering, sameKey}
 use Rattle.packets.specs.declared.packet.Packet.{Packet}

@@ -1,7 +1,7 @@
 -- Demand 1: "Take in arbitrary input and always come to an end. No entry point trusts its caller: a roster, payload, index or buffer that
 -- doesn't fit is refused by number, and a refusal writes nothing and moves no state." Each public function's proved contract says that it ends
 -- on all inputs, and none has a `requires` (crate `determined`); that calls of `next` stop is in demand 2 (`handed-out`). Here is what calls
--- answer and what a refusal leaves. Assumes nothing.
+-- answer and what a refusal leaves.
 use mathlib.Core.Path.{_≡_}
 use mathlib.Core.List.{List, []}
 use mathlib.Core.Logic.{_↔_, _⊎_}
@@ -10,24 +10,24 @@ use lib.IntN.{ℤ}
 use lib.ListN.{length}
 use denote.Ref.{now}
 use Rattle.wire.specs.Number.{bytesStored}
-use Rattle.wire.specs.Layout.{bodySize}
-use Rattle.wire.specs.Description.{Description, inside, reading, readAs}
-use Rattle.wire.specs.Refusals.{refused, given, Tests, ordered, FirstFails, AllPass}
+use Rattle.layouts.specs.Layout.{bodySize}
+use Rattle.layouts.specs.Description.{Description, inside, reading, readAs}
+use Rattle.refusals.specs.Refusals.{refused, given, Tests, ordered, FirstFails, AllPass}
 use Rattle.frames.specs.Frame.{Content}
-use Rattle.frames.specs.Writer.{writingFrame, planned, withFrame}
-use Rattle.frames.specs.Faithful.{writing, writeAnswer, writtenAs}
+use Rattle.frame_writer.specs.Writer.{writingFrame, planned, withFrame}
+use Rattle.frame_writer.specs.Faithful.{writing, writeAnswer, writtenAs}
 use Rattle.observation.specs.Edition.{first, startOf, Head}
 use Rattle.observation.specs.Obs.{entryAt, oneObservation, oneOfFrame, readEntry, readEntryOf, obsIn, readingObs, readObs}
 use Rattle.observation.specs.ObsWriter.{writingObs, obsWriteAnswer, obsWritten}
-use Rattle.observation.specs.Phase.{partsOf, phaseRange, readPhase}
+use Rattle.phases.specs.Phase.{partsOf, phaseRange, readPhase}
 use Rattle.observation.specs.declared.entry.Observation.{Observation}
-use Rattle.system.specs.Log.{log, shown, readLog}
+use Rattle.logs.specs.Log.{log, shown, readLog}
 use Rattle.obs_reader.specs.Reader.{asked}
 use Rattle.obs_reader.specs.declared.ObsReader.{ObsReader}
 use Rattle.payloads.specs.Payloads.{table, entryFor, readingAny, readFor}
 use Rattle.epochs.specs.Collator.{feeding, ownPlace, acted, rosterOf, fedFrame, fresh, rostering, asMade, made}
 use Rattle.epochs.specs.Epoch.{after}
-use Rattle.epochs.specs.Capture.{begun, collated}
+use Rattle.captures.specs.Capture.{begun, collated}
 use Rattle.epochs.specs.declared.collating.Collator.{Collator}
 use Rattle.epochs.specs.declared.collating.Happened.the-variants as H
 use Rattle.listing.specs.Listing.{textOf, listing, listAnswer, withListing}

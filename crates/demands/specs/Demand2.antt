@@ -1,7 +1,7 @@
 -- Demand 2: "Equal to the published protocol, reading and writing. The frames found are exactly those that specification 1.1 and our written
 -- resume rule give; every byte of a complete capture is in one frame or counted as passed over under one reason; a record written reads back
 -- bit for bit; an accepted payload written again gives the same bytes; an epoch is reported exactly when its packets stand as document 01 says,
--- once each." Sentence by sentence, and then document 01's section on `sbplist`. Assumes nothing.
+-- once each." Sentence by sentence, and then document 01's section on `sbplist`.
 use mathlib.Core.Path.{_≡_}
 use mathlib.Core.Bool.{Bool, true}
 use mathlib.Core.List.{List, [], _++_, map, flatMap}
@@ -11,11 +11,11 @@ use lib.IntN.{ℤ}
 use lib.ListN.{length, getD, take, drop, replicate}
 use denote.Ref.{now}
 use Rattle.wire.specs.Number.{Bytes}
-use Rattle.wire.specs.Refusals.{given}
+use Rattle.refusals.specs.Refusals.{given}
 use Rattle.frames.specs.Frame.{frameBytes, Content, Sendable, AllSendable, frameOf, stream}
 use Rattle.frames.specs.Step.{stepAt, payloadIn}
 use Rattle.frames.specs.Reading.{Positioned, closedSteps, openSteps, Tiled, holding, beforeShort, framesOf, countsOf, sumOf}
-use Rattle.frames.specs.Writer.{asRead, foundFrom}
+use Rattle.frame_writer.specs.Writer.{asRead, foundFrom}
 use Rattle.frames.specs.Decides.{Decides}
 use Rattle.frames.specs.declared.step.Frame.{Frame}
 use Rattle.frames.specs.declared.step.Step.{Step}
@@ -23,11 +23,11 @@ use Rattle.frames.specs.declared.step.Step.the-variants.{Found}
 use Rattle.observation.specs.Edition.{first}
 use Rattle.observation.specs.Obs.{readObs}
 use Rattle.observation.specs.ObsFaithful.{ObsFaithful}
-use Rattle.observation.specs.Phase.{phaseOf, partsOf}
-use Rattle.observation.specs.declared.phase.Phase.{Phase}
-use Rattle.system.specs.Log as system
-use Rattle.system.specs.Log.{readLog}
-use Rattle.system.specs.LogFaithful.{LogFaithful}
+use Rattle.phases.specs.Phase.{phaseOf, partsOf}
+use Rattle.phases.specs.declared.phase.Phase.{Phase}
+use Rattle.logs.specs.Log as system
+use Rattle.logs.specs.Log.{readLog}
+use Rattle.logs.specs.LogFaithful.{LogFaithful}
 use Rattle.obs_reader.specs.Walk.{Walk, standing, askedTimes, observationsIn, pastThem}
 use Rattle.obs_reader.specs.declared.ObsReader.{ObsReader}
 use Rattle.payloads.specs.Payloads.{messages, Typed, Promised, AllOf}
@@ -37,7 +37,7 @@ use Rattle.runs.specs.InWords.{EpochEnds, InWords}
 use Rattle.epochs.specs.Search.{names}
 use Rattle.epochs.specs.Collator.{fedFrame, made}
 use Rattle.epochs.specs.Epoch.{after, reports, reportsOf, EndsEpoch, Epochs, contentsOf}
-use Rattle.epochs.specs.Capture.{collated}
+use Rattle.captures.specs.Capture.{collated}
 use Rattle.epochs.specs.declared.collating.Report.{Report}
 use Rattle.epochs.specs.declared.collating.Happened.the-variants as H
 use Rattle.text.specs.Decimal.{decimal, valueFrom}

@@ -1,7 +1,7 @@
 -- Demand 3: "Senders don't mix. Read two complete captures and feed each in order to a fresh collator of one roster. If for every listed
 -- sender the two hold the same frames in the same order, then each sender gets the same epoch reports in the same order and the two end states
 -- are equal, however frames of different senders are shuffled and whatever noise or unlisted senders stand between. The epochs are those of
--- demand 2." Assumes nothing.
+-- demand 2."
 use mathlib.Core.Path.{_≡_}
 use mathlib.Core.Bool.{true, false}
 use mathlib.Core.List.{List, [], _∷_, _++_}
@@ -10,7 +10,7 @@ use Rattle.epochs.specs.Search.{names}
 use Rattle.epochs.specs.Collator.{made}
 use Rattle.epochs.specs.Epoch.{after, reports, reportsOf, Epochs, SameFrames, contentsOf}
 use Rattle.frames.specs.Frame.{Content}
-use Rattle.epochs.specs.Capture.{collated}
+use Rattle.captures.specs.Capture.{collated}
 use Rattle.epochs.specs.declared.collating.Report.{Report}
 use Rattle.demands.specs.Noise.{Piece, AllFit, captureOf, sentIn}
 

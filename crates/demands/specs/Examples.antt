@@ -1,11 +1,10 @@
 -- Document 01's worked examples, those marked *, as one table in its order.
--- Assumes nothing.
 use Prim.Native.Nat.{ℕ}
 use mathlib.Core.Path.{_≡_}
 use mathlib.Core.Bool.{Bool, true, false}
 use mathlib.Core.List.{List, [], _∷_}
 use lib.IntN.{ℤ, pos, negℤ}
-use Rattle.wire.specs.Refusals.{refused, given, Answer}
+use Rattle.refusals.specs.Refusals.{refused, given, Answer}
 use Rattle.crc.specs.Crc.{crcFrom}
 use Rattle.frames.specs.Step.{stepAt, ends, payloadIn}
 use Rattle.frames.specs.Reading.{closedSteps, countsOf}
@@ -16,8 +15,8 @@ use Rattle.frames.specs.declared.step.Step.the-variants.{Finished, Bad, Found}
 use Rattle.frames.specs.declared.cursor.Counts.{Counts}
 use Rattle.frames.specs.declared.cursor.Next as Next
 use Rattle.observation.specs.Edition.{first}
-use Rattle.observation.specs.Phase.{phaseOf, readPhase}
-use Rattle.observation.specs.declared.phase.Phase.{Phase}
+use Rattle.phases.specs.Phase.{phaseOf, readPhase}
+use Rattle.phases.specs.declared.phase.Phase.{Phase}
 use Rattle.payloads.specs.Payloads.{readFor}
 use Rattle.payloads.specs.declared.Message.{Message}
 use Rattle.payloads.specs.declared.Message.the-variants as M

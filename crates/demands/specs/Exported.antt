@@ -1,5 +1,5 @@
 -- The demands of the functions that C and Rust link, which live on lent bytes: a refusal writes nothing and moves no state, the frames are those
--- of the reading, an epoch is reported exactly where document 01 says, and senders don't mix. Assumes nothing.
+-- of the reading, an epoch is reported exactly where document 01 says, and senders don't mix.
 use mathlib.Core.Path.{_≡_}
 use mathlib.Core.Bool.{Bool, true, false}
 use mathlib.Core.List.{List, []}
@@ -7,18 +7,18 @@ use mathlib.Core.Logic.{_↔_}
 use Prim.Native.Nat.{ℕ, _+_, _^_, _≤_, _<_}
 use lib.ListN.{length}
 use Rattle.wire.specs.Number.{Bytes}
-use Rattle.wire.specs.Refusals.{ordered, asNumber, roomFor}
-use Rattle.wire.specs.Layout.{bodySize}
+use Rattle.refusals.specs.Refusals.{ordered, asNumber, roomFor}
+use Rattle.layouts.specs.Layout.{bodySize}
 use Rattle.frames.specs.Frame.{Content}
 use Rattle.frames.specs.Reading.{steps, closedSteps, framesOf, countsOf}
 use Rattle.frames.specs.Cursors.{nextOf, Says}
-use Rattle.navigation.specs.Flags.{ecefFix, llhFix, baselineFix, raimAvailable, raimRepaired, llhAboveSea, llhRaimAvailable, llhRaimRepaired}
-use Rattle.navigation.specs.Ecef.{baselineEcef}
-use Rattle.navigation.specs.Heading.{baselineHeading}
-use Rattle.navigation.specs.Ned.{baselineNed}
+use Rattle.flags.specs.Flags.{ecefFix, llhFix, baselineFix, raimAvailable, raimRepaired, llhAboveSea, llhRaimAvailable, llhRaimRepaired}
+use Rattle.baselines.specs.Ecef.{baselineEcef}
+use Rattle.baselines.specs.Heading.{baselineHeading}
+use Rattle.baselines.specs.Ned.{baselineNed}
 use Rattle.navigation.specs.PosEcef.{posEcef}
 use Rattle.navigation.specs.PosLlh.{posLlh}
-use Rattle.navigation.specs.declared.flags.Fix.{Fix}
+use Rattle.flags.specs.declared.flags.Fix.{Fix}
 use Rattle.observation.specs.Edition.{first, startOf}
 use Rattle.payloads.specs.Payloads.{layoutFor}
 use Rattle.row_reader.specs.ReadRow.{readingRow, numbersFor, readRow, readingOne, observationNumbers, readOne}
@@ -31,17 +31,17 @@ use Rattle.epochs.specs.Search.{names}
 use Rattle.epochs.specs.Epoch.{reportsIn, reportsOf, SameFrames, EndsEpoch, Epochs}
 use Rattle.epochs.specs.declared.collating.Report.{Report}
 use Rattle.epochs.specs.declared.collating.Happened.the-variants as H
-use Rattle.exports.specs.Shown.{FoundShown, CountsShown}
+use Rattle.frame_rows.specs.Shown.{FoundShown, CountsShown}
 use Rattle.exports.specs.Kept.{Kept}
-use Rattle.exports.specs.Found.{foundSize, startAt, foundIn, finding, nextFrom, nextStored}
-use Rattle.exports.specs.Totals.{totalsSize, totalling, totalsFor, totalsStored}
+use Rattle.frame_rows.specs.Found.{foundSize, startAt, foundIn, finding, nextFrom, nextStored}
+use Rattle.frame_rows.specs.Totals.{totalsSize, totalling, totalsFor, totalsStored}
 use Rattle.exports.specs.Write.{sentBy}
 use Rattle.exports.specs.Flagged.{tableFor, isTable, fixBy, fixNumber, bitNumber, flagging, fixAnswer, availableAnswer, repairedAnswer, aboveSeaAnswer}
 use Rattle.states.specs.State.{stateSize, stateIn}
 use Rattle.states.specs.Feed.{making, madeIn, madeStored, reportSize, feedingIn, forPlaceIn, fedIn, afterIn}
-use Rattle.states.specs.Told.{AsSent, told, toldIn, Filled}
+use Rattle.told.specs.Told.{AsSent, told, toldIn, Filled}
 use Rattle.states.specs.Enlist.{growingIn, enlistedIn, enlistIn}
-use Rattle.states.specs.Growing.{Grows}
+use Rattle.told.specs.Growing.{Grows}
 use Rattle.demands.specs.RowsBack.{AllBack}
 
 -- demand 1: "refused by number". The number handed back is read off an answer by the call's own list; what that comes to is `in-order` there.

@@ -1,4 +1,4 @@
--- All calls of `next` on a capture, one after the other from the start to where it hands out no frame. Assumes nothing.
+-- All calls of `next` on a capture, one after the other from the start to where it hands out no frame.
 use Prim.Native.Nat.{ℕ}
 use mathlib.Core.Path.{_≡_}
 use mathlib.Core.Bool.{Bool, true}

@@ -1,5 +1,4 @@
 -- The five idle programs of document 01's last section, what each would have to meet, and that it doesn't (`ShutOut`).
--- Assumes nothing.
 use Prim.Native.Nat.{ℕ, suc, _+_}
 use mathlib.Core.Path.{_≡_}
 use mathlib.Core.Bool.{Bool, true, false, cond}

@@ -1,5 +1,4 @@
 -- Captures of frames with noise between them: bytes that begin no frame. (Noise that looks like a frame's start is for the five lines to judge.)
--- Assumes nothing.
 use Prim.Native.Nat.{ℕ}
 use mathlib.Core.Path.{_≡_}
 use mathlib.Core.List.{List, [], _∷_, _++_}

@@ -1,10 +1,10 @@
--- Numbers that were written come back: the frame is found, and its payload is read as those very numbers. Assumes nothing.
+-- Numbers that were written come back: the frame is found, and its payload is read as those very numbers.
 use Prim.Native.Nat.{ℕ, _^_, _≤_, _<_}
 use mathlib.Core.Path.{_≡_}
 use mathlib.Core.Bool.{true}
 use mathlib.Core.List.{List}
 use lib.ListN.{length, getD}
-use Rattle.wire.specs.Refusals.{given}
+use Rattle.refusals.specs.Refusals.{given}
 use Rattle.frames.specs.Step.{stepAt, payloadIn}
 use Rattle.frames.specs.declared.step.Frame.{Frame}
 use Rattle.frames.specs.declared.step.Step.the-variants.{Found}

@@ -1,4 +1,4 @@
--- Document 02, P4, of `sbp_next`, which C and Rust link: it takes a position and stores a row (exports' Found.antt). Assumes nothing.
+-- Document 02, P4, of `sbp_next`, which C and Rust link: it takes a position and stores a row (exports' Found.antt).
 use Prim.Native.Nat.{ℕ, _+_, _^_, _≤_, _<_}
 use mathlib.Core.Path.{_≡_}
 use mathlib.Core.Bool.{true}
@@ -10,10 +10,10 @@ use contract.Lifetimes.{Lfts}
 use contract.Monad.{fact}
 use denote.Ref.{RefT, now}
 use Rattle.frames.specs.Cursors.{nextOf}
-use Rattle.frames.specs.Stays.{Leads}
+use Rattle.stays.specs.Stays.{Leads}
 use Rattle.frames.specs.declared.cursor.Next as Next
-use Rattle.exports.specs.Found.{startAt, foundIn, numberIn, nextAnswer, nextStored}
-use Rattle.exports.specs.declared.reading.FoundRow.{FoundRow}
+use Rattle.frame_rows.specs.Found.{startAt, foundIn, numberIn, nextAnswer, nextStored}
+use Rattle.frame_rows.specs.declared.reading.FoundRow.{FoundRow}
 
 -- what a call in open reading finds from a position on, and its row
 abbrev pub openNext : List ℕ → ℕ → Next.Next

@@ -1,12 +1,12 @@
 -- Document 02, P4: "Closed reading doesn't have this: a short at the end may become a frame that swallows what closed reading showed inside it."
--- One such pair of captures; docs/CLOSED.md shows it. Assumes nothing.
+-- One such pair of captures; docs/CLOSED.md shows it.
 use Prim.Native.Nat.{ℕ}
 use mathlib.Core.Path.{_≡_}
 use mathlib.Core.Bool.{true}
 use mathlib.Core.List.{List, [], _∷_, _++_}
 use Rattle.frames.specs.Reading.{closedSteps, framesOf}
 use Rattle.frames.specs.Cursors.{begun, nextOf}
-use Rattle.frames.specs.Stays.{Leads}
+use Rattle.stays.specs.Stays.{Leads}
 use Rattle.frames.specs.declared.step.Frame.{Frame}
 use Rattle.frames.specs.declared.cursor.Next as Next
 

@@ -1,2 +1,3 @@
 pub mod Determining
+pub mod Public
 pub mod All

@@ -1,6 +1,6 @@
 -- "For each public function the contract determines the result and the later contents of lent buffers on all inputs .. that any two results it
 -- admits are equal is proved" (document 01, "What a contract here has to say"). It is said of the contract as the function's own crate states it:
--- its clauses, which every crate passes on. Assumes nothing.
+-- its clauses, which every crate passes on.
 use mathlib.Core.Path.{_≡_}
 use mathlib.Core.List.{List, [], _∷_}
 use Prim.Native.Nat.{ℕ}

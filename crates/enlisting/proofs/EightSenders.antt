@@ -1,5 +1,5 @@
 -- The first eight different senders are senders of OBS frames, and all of them where there are fewer; each has its seat, so a collator takes
--- them, unless there are none. Assumes nothing.
+-- them, unless there are none.
 use mathlib.Core.Path.{_≡_, refl, sym, ap, _∙_}
 use mathlib.Core.Bool.{Bool, true, false, cond, true≢false, false≢true}
 use mathlib.Core.List.{List, [], _∷_, _++_}

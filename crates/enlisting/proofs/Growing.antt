@@ -1,5 +1,5 @@
 -- A collator that enlists senders as their frames come comes to the same as the collator of the first eight: a frame is recognised for the same
--- place by both, since its own sender has its seat by then, and no later sender moves it. Assumes nothing.
+-- place by both, since its own sender has its seat by then, and no later sender moves it.
 use mathlib.Core.Path.{_≡_, refl, sym, ap, _∙_}
 use mathlib.Core.Bool.{Bool, true, false, cond}
 use mathlib.Core.List.{List, [], _∷_, _++_}
@@ -9,7 +9,7 @@ use native.Mathlib.Omega.{arith}
 use lib.Dec.{eqb}
 use lib.ListN.{length, take, replicate}
 use lib.Seq.{take-append-add, take-at}
-use Rattle.wire.specs.Refusals.{refused, given, Answer}
+use Rattle.refusals.specs.Refusals.{refused, given, Answer}
 use Rattle.frames.specs.Frame.{Content}
 use Rattle.observation.specs.Edition.{isObs}
 use Rattle.packets.specs.declared.packet.Packet.{Packet}

@@ -1,5 +1,5 @@
 -- A roster that senders join, frame by frame: the three ways to join it, what they keep, and where it comes to: the senders that come, while
--- there is room. Assumes nothing.
+-- there is room.
 use mathlib.Core.Path.{_≡_, refl, sym, ap, _∙_, subst}
 use mathlib.Core.Bool.{Bool, true, false, cond}
 use mathlib.Core.List.{List, [], _∷_, _++_, append-assoc, append-nil}

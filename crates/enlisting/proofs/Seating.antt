@@ -1,4 +1,4 @@
--- The eight seats of a collator: what they hold of a roster, and that a sender joins them as it joins the roster. Assumes nothing.
+-- The eight seats of a collator: what they hold of a roster, and that a sender joins them as it joins the roster.
 use mathlib.Core.Path.{_≡_, refl, sym, ap, ap₂, _∙_}
 use mathlib.Core.Bool.{Bool, true, false, cond, true≢false}
 use mathlib.Core.List.{List, [], _∷_, _++_}

@@ -1,5 +1,5 @@
 -- A collator that takes senders on as their frames come: as a sender joins the roster it gets the first free seat, before its frame is fed.
--- From nobody on it comes to the same as a collator of the first eight senders, made beforehand. Assumes nothing.
+-- From nobody on it comes to the same as a collator of the first eight senders, made beforehand.
 use Prim.Native.Nat.{ℕ, _+_}
 use mathlib.Core.Path.{_≡_}
 use mathlib.Core.Bool.{cond}

@@ -1,5 +1,5 @@
 -- Whose epochs a listing shows, in document 01's words: the first eight different senders of frames of type OBS, malformed ones too, in order of
--- appearance. Nothing here looks at a collator. Assumes nothing.
+-- appearance. Nothing here looks at a collator.
 use Prim.Native.Nat.{ℕ}
 use mathlib.Core.Bool.{cond}
 use mathlib.Core.List.{List, [], _∷_, _++_}

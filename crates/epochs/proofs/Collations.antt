@@ -1,6 +1,6 @@
 -- Whole collations, of a roster whose senders have their seats and any frames. Demand 2: each frame comes to an epoch exactly when it ends one, and
 -- reports are read off that. Demand 3: the end state and each listed sender's reports depend on that sender's own frames alone, for frames and for
--- captures. Nothing here looks inside a packet or a step. Assumes nothing.
+-- captures. Nothing here looks inside a packet or a step.
 use mathlib.Core.Path.{_≡_, refl, sym, ap, ap₂, _∙_, subst}
 use mathlib.Core.Bool.{Bool, true, false, cond}
 use mathlib.Core.List.{List, [], _∷_, _++_}
@@ -10,7 +10,7 @@ use lib.Dec.{eqb}
 use lib.ListN.{length, take, replicate}
 use borrow.Author.Tests.{eqb-true, eqb-false, eq-eqb}
 use Rattle.wire.specs.Number.{Bytes}
-use Rattle.wire.specs.Refusals.{refused, given, Answer}
+use Rattle.refusals.specs.Refusals.{refused, given, Answer}
 use Rattle.frames.specs.Frame.{Content}
 use Rattle.packets.specs.Packet.{AllFormed}
 use Rattle.packets.specs.declared.packet.Packet.{Packet}

@@ -5,4 +5,3 @@ pub mod Feeding
 pub mod Reports
 pub mod Senders
 pub mod Collations
-pub mod Captures

@@ -1,4 +1,4 @@
--- Making a collator: each refusal by its own test, and what an accepted roster is. Assumes nothing.
+-- Making a collator: each refusal by its own test, and what an accepted roster is.
 use mathlib.Core.Path.{_≡_, refl, sym, ap}
 use mathlib.Core.Bool.{Bool, true, false, _&&_, not, cond}
 use mathlib.Core.List.{List, [], _∷_}
@@ -7,7 +7,7 @@ use native.Mathlib.Omega.{arith}
 use lib.Dec.{leb}
 use lib.ListN.{length}
 use borrow.Author.Tests.{le-leb, lt-leb, leb-true}
-use Rattle.wire.specs.Refusals.{refused, given}
+use Rattle.refusals.specs.Refusals.{refused, given}
 use Rattle.epochs.specs.Search.{repeats}
 use Rattle.epochs.specs.Collator.{fresh, asMade, made}
 use Rattle.epochs.specs.Epoch.{Seated}

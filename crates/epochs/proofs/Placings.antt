@@ -1,17 +1,17 @@
 -- What a frame is to a collator: what it is by itself, for its sender's place where the roster lists it, else a refusal. Nothing here looks inside
--- the tests of a packet. Assumes nothing.
+-- the tests of a packet.
 use mathlib.Core.Path.{_≡_, refl, sym, ap, _∙_}
 use mathlib.Core.Bool.{false, cond}
 use mathlib.Core.List.{List, _∷_, _++_}
 use Prim.Native.Nat.{ℕ, _<_}
 use native.Mathlib.Omega.{arith}
 use lib.ListN.{length}
-use Rattle.wire.specs.Refusals.{refused, given, Answer, Tests, ordered, mapped}
-use Rattle.wire.proofs.Distinct.{same-given, never-both}
+use Rattle.refusals.specs.Refusals.{refused, given, Answer, Tests, ordered, mapped}
+use Rattle.refusals.proofs.Distinct.{same-given, never-both}
 use Rattle.frames.specs.Frame.{Content}
 use Rattle.packets.specs.Packet.{packetIn, shape, numbering, readPacket}
 use Rattle.packets.specs.declared.packet.Packet.{Packet}
-use Rattle.wire.proofs.Joined.{ordered-joined, andThen, ordered-mapped}
+use Rattle.refusals.proofs.Joined.{ordered-joined, andThen, ordered-mapped}
 use Rattle.epochs.specs.Search.{seatOf, isAt, names}
 use Rattle.epochs.specs.Collator.{seatNumber, forPlace}
 use Rattle.epochs.specs.Epoch.{ownPacket}

@@ -1,4 +1,4 @@
--- What a report's numbers are at most, whatever the state: those of its fields' widths. Assumes nothing.
+-- What a report's numbers are at most, whatever the state: those of its fields' widths.
 use mathlib.Core.Path.{_≡_, refl}
 use mathlib.Core.List.{List}
 use Prim.Native.Nat.{ℕ, _^_, _≤_, _<_}

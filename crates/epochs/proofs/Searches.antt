@@ -1,4 +1,4 @@
--- The search of a roster: a sender's seat lies in the roster, names it, and is the only one where no sender is named twice. Assumes nothing.
+-- The search of a roster: a sender's seat lies in the roster, names it, and is the only one where no sender is named twice.
 use mathlib.Core.Path.{_≡_, refl, sym, ap, ap₂, _∙_, subst}
 use mathlib.Core.Bool.{Bool, true, false, cond, true≢false, false≢true}
 use mathlib.Core.List.{List, [], _∷_, _++_, map, append-nil}

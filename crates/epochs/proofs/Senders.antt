@@ -1,5 +1,5 @@
 -- Senders do not mix: the state of a collator is one place for each listed sender, made of that sender's own packets, and a frame moves its own
--- sender's place alone. Nothing here looks inside a step. Assumes nothing.
+-- sender's place alone. Nothing here looks inside a step.
 use mathlib.Core.Path.{_≡_, refl, sym, ap, _∙_}
 use mathlib.Core.Bool.{Bool, true, false, cond}
 use mathlib.Core.List.{List, [], _∷_, _++_, map}
@@ -9,7 +9,7 @@ use lib.Dec.{eqb}
 use lib.ListN.{length, getD, set, take, replicate, length-map, List·getD-append}
 use lib.Seq.{take-take, take-append-seam, getD-take, take-set-lt, set-append-left}
 use borrow.Author.Tests.{eq-eqb, ne-eqb}
-use Rattle.wire.specs.Refusals.{refused, given, Answer, mapped}
+use Rattle.refusals.specs.Refusals.{refused, given, Answer, mapped}
 use Rattle.frames.specs.Frame.{Content}
 use Rattle.packets.specs.declared.packet.Packet.{Packet}
 use Rattle.runs.specs.Run.{stepped, runOf}

@@ -1,11 +1,11 @@
 -- The collator step by step: a frame's own place takes its packet. What a packet is stands in `packets` and what a step does in `runs`; nothing
--- here looks inside either. Assumes nothing.
+-- here looks inside either.
 use Prim.Native.Nat.{ℕ}
 use mathlib.Core.Bool.{_&&_, not}
 use mathlib.Core.List.{List, [], _∷_, _++_}
 use lib.Dec.{leb}
 use lib.ListN.{length, getD, set, take, replicate}
-use Rattle.wire.specs.Refusals.{refused, given, Answer, Tests, ordered}
+use Rattle.refusals.specs.Refusals.{refused, given, Answer, Tests, ordered}
 use Rattle.frames.specs.Frame.{Content}
 use Rattle.packets.specs.Packet.{packetIn, shape, numbering}
 use Rattle.packets.specs.declared.packet.Packet.{Packet}

@@ -1,5 +1,5 @@
 -- Frames fed in order: the packets of each sender, what each frame comes to, and which frame ends an epoch in document 01's words. Nothing here
--- looks inside a packet or a step. Assumes nothing.
+-- looks inside a packet or a step.
 use Prim.Native.Nat.{ℕ, _≤_}
 use mathlib.Core.Path.{_≡_}
 use mathlib.Core.Bool.{true, false, cond}
@@ -7,7 +7,7 @@ use mathlib.Core.List.{List, [], _∷_, _++_, map}
 use mathlib.Core.Logic.{_↔_}
 use lib.Dec.{eqb}
 use lib.ListN.{length}
-use Rattle.wire.specs.Refusals.{refused, given, Answer}
+use Rattle.refusals.specs.Refusals.{refused, given, Answer}
 use Rattle.frames.specs.Frame.{Content}
 use Rattle.frames.specs.Step.{payloadIn}
 use Rattle.frames.specs.Reading.{closedSteps, framesOf}

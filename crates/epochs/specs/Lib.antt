@@ -1,4 +1,3 @@
 pub mod Search
 pub mod Collator
 pub mod Epoch
-pub mod Capture

@@ -1,4 +1,4 @@
--- The one search of a roster: where it lists a sender, whether it does, whether it lists one twice. Assumes nothing.
+-- The one search of a roster: where it lists a sender, whether it does, whether it lists one twice.
 use Prim.Native.Nat.{ℕ, suc}
 use mathlib.Core.Bool.{Bool, true, false, cond}
 use mathlib.Core.List.{List, [], _∷_}

@@ -1,13 +1,10 @@
 // The collator: observation epochs, sender by sender. Each listed sender has one place, and no frame of another sender touches it.
 // Read specs/Search.antt (who is listed), specs/Collator.antt (step by step), specs/Epoch.antt (which frame ends an epoch, and what frames
-// come to), specs/Capture.antt (a whole capture).
-mod capturing;
+// come to).
 mod collating;
 mod recognising;
 mod seating;
 
-pub use capturing::Collated;
-pub use capturing::collate;
 pub use collating::Collator;
 pub use collating::Fed;
 pub use collating::Happened;

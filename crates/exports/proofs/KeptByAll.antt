@@ -1,12 +1,12 @@
--- A refusal writes nothing and moves no state, call by call. Assumes nothing.
+-- A refusal writes nothing and moves no state, call by call.
 use lib.ListN.{length}
-use Rattle.frames.specs.Faithful.{writeAnswer, writtenAs}
-use Rattle.frames.specs.Writer.{planned, withFrame}
-use Rattle.observation.specs.Phase.{readPhase}
+use Rattle.frame_writer.specs.Faithful.{writeAnswer, writtenAs}
+use Rattle.frame_writer.specs.Writer.{planned, withFrame}
+use Rattle.phases.specs.Phase.{readPhase}
 use Rattle.row_reader.specs.ReadRow.{beginning, readRow, readOne}
 use Rattle.row_writer.specs.WriteObsRow.{writeObsRow, obsRowWritten}
 use Rattle.row_writer.specs.WriteRow.{writeRow, rowWritten}
-use Rattle.system.specs.Log.{log}
+use Rattle.logs.specs.Log.{log}
 use Rattle.states.specs.State.{collatorStored}
 use Rattle.states.specs.Enlist.{growingIn, enlistIn}
 use Rattle.exports.specs.Kept.{Kept}

@@ -1,5 +1,3 @@
-pub mod LentRows
 pub mod Tabled
-pub mod ReadBack
 pub mod Untouched
 pub mod KeptByAll

@@ -1,9 +1,9 @@
--- What a flag's function answers, from the table that its type has. Assumes nothing.
+-- What a flag's function answers, from the table that its type has.
 use mathlib.Core.Path.{_≡_, refl, sym, ap, ap₂, _∙_}
 use mathlib.Core.Bool.{Bool}
 use Prim.Native.Nat.{ℕ}
 use borrow.Author.Tests.{ne-eqb}
-use Rattle.wire.specs.Refusals.{Answer, asNumber}
+use Rattle.refusals.specs.Refusals.{Answer, asNumber}
 use Rattle.exports.specs.Flagged.{tableFor, bitNumber, raimIn}
 use Rattle.exports.specs.declared.flagging.Table.{Table}
 use Rattle.exports.specs.declared.flagging.Table.the-variants.{Nothing}

@@ -1,20 +1,20 @@
 -- A refusal writes nothing and moves no state: once for every call, since what it hands back and what it leaves are read off its answer; then of
--- each exported function that is lent something to write. Assumes nothing.
+-- each exported function that is lent something to write.
 use mathlib.Core.Path.{_≡_, refl}
 use mathlib.Core.Bool.{Bool}
 use mathlib.Core.List.{List}
 use Prim.Native.Nat.{ℕ, _≤_}
 use native.Mathlib.Omega.{arith}
 use lib.ListN.{length}
-use Rattle.wire.specs.Refusals.{refused, given, Answer, leaves, asNumber, zeroOr}
+use Rattle.refusals.specs.Refusals.{refused, given, Answer, leaves, asNumber, zeroOr}
 use Rattle.frames.specs.declared.cursor.Next as Next
 use Rattle.frames.specs.Frame.{Content}
 use Rattle.packets.specs.declared.packet.Packet.{Packet}
 use Rattle.runs.specs.declared.running.Ended.{Ended}
 use Rattle.runs.specs.declared.running.Ended.the-variants.{Not, Whole}
 use Rattle.listing.specs.Listing.{listAnswer, withListing}
-use Rattle.exports.specs.Found.{numberIn, nextFrom, nextAnswer, nextStored}
-use Rattle.exports.specs.Totals.{totalsFor, totalsAnswer, totalsStored}
+use Rattle.frame_rows.specs.Found.{numberIn, nextFrom, nextAnswer, nextStored}
+use Rattle.frame_rows.specs.Totals.{totalsFor, totalsAnswer, totalsStored}
 use Rattle.exports.specs.Text.{textAnswer, sizeAfter}
 use Rattle.states.specs.State.{collatorStored}
 use Rattle.states.specs.Feed.{madeIn, madeAnswer, madeStored, endedNumber, forPlaceIn, stepIn, fedIn}

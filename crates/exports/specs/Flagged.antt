@@ -1,18 +1,17 @@
 -- What the functions that read one flag of a message answer: 21 for a type that has no such flag, then the flag by that message's own table.
--- Assumes nothing.
 use Prim.Native.Nat.{ℕ}
 use mathlib.Core.Bool.{Bool, true, false, cond, _||_}
 use mathlib.Core.List.{[], _∷_}
 use lib.Dec.{eqb}
-use Rattle.wire.specs.Refusals.{Answer, Tests, ordered, asNumber}
-use Rattle.navigation.specs.Flags.{ecefFix, llhFix, baselineFix, raimAvailable, raimRepaired, llhAboveSea, llhRaimAvailable, llhRaimRepaired}
-use Rattle.navigation.specs.Ecef.{baselineEcef}
-use Rattle.navigation.specs.Heading.{baselineHeading}
-use Rattle.navigation.specs.Ned.{baselineNed}
+use Rattle.refusals.specs.Refusals.{Answer, Tests, ordered, asNumber}
+use Rattle.flags.specs.Flags.{ecefFix, llhFix, baselineFix, raimAvailable, raimRepaired, llhAboveSea, llhRaimAvailable, llhRaimRepaired}
+use Rattle.baselines.specs.Ecef.{baselineEcef}
+use Rattle.baselines.specs.Heading.{baselineHeading}
+use Rattle.baselines.specs.Ned.{baselineNed}
 use Rattle.navigation.specs.PosEcef.{posEcef}
 use Rattle.navigation.specs.PosLlh.{posLlh}
-use Rattle.navigation.specs.declared.flags.Fix.{Fix}
-use Rattle.navigation.specs.declared.flags.Fix.the-variants.{SinglePoint, Float, Fixed, Reserved}
+use Rattle.flags.specs.declared.flags.Fix.{Fix}
+use Rattle.flags.specs.declared.flags.Fix.the-variants.{SinglePoint, Float, Fixed, Reserved}
 use Rattle.exports.specs.declared.flagging.Table.{Table}
 use Rattle.exports.specs.declared.flagging.Table.the-variants.{Ecef, Llh, Baseline, Nothing}
 

@@ -1,21 +1,21 @@
 -- Demand 1, "and a refusal writes nothing and moves no state", of each exported function that is lent something to write, by the number that is
--- handed back. Assumes nothing.
+-- handed back.
 use Prim.Native.Nat.{ℕ, _≤_}
 use mathlib.Core.Path.{_≡_}
 use mathlib.Core.Bool.{Bool}
 use mathlib.Core.List.{List}
 use lib.IntN.{ℤ}
 use lib.ListN.{length}
-use Rattle.wire.specs.Refusals.{zeroOr}
+use Rattle.refusals.specs.Refusals.{zeroOr}
 use Rattle.frames.specs.Frame.{Content}
-use Rattle.frames.specs.Faithful.{writeAnswer, writtenAs}
-use Rattle.frames.specs.Writer.{planned, withFrame, sizeLeft}
+use Rattle.frame_writer.specs.Faithful.{writeAnswer, writtenAs}
+use Rattle.frame_writer.specs.Writer.{planned, withFrame, sizeLeft}
 use Rattle.row_reader.specs.ReadRow.{readRow, rowAfter, readOne, rowAfterOne}
 use Rattle.row_writer.specs.WriteObsRow.{writeObsRow, obsRowWritten}
 use Rattle.row_writer.specs.WriteRow.{writeRow, rowWritten}
-use Rattle.system.specs.Log.{Logged, log}
-use Rattle.exports.specs.Found.{nextAnswer, nextStored}
-use Rattle.exports.specs.Totals.{totalsAnswer, totalsStored}
+use Rattle.logs.specs.Log.{Logged, log}
+use Rattle.frame_rows.specs.Found.{nextAnswer, nextStored}
+use Rattle.frame_rows.specs.Totals.{totalsAnswer, totalsStored}
 use Rattle.exports.specs.Text.{textAnswer, sizeAfter}
 use Rattle.exports.specs.Phased.{partsNumber, cyclesAfter, partsAfter}
 use Rattle.listing.specs.Listing.{withListing}

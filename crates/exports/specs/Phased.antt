@@ -1,8 +1,8 @@
--- What `sbp_phase_parts` hands back, and what it leaves in the two numbers that it is lent: 33, or the one pair. Assumes nothing.
+-- What `sbp_phase_parts` hands back, and what it leaves in the two numbers that it is lent: 33, or the one pair.
 use Prim.Native.Nat.{ℕ}
 use lib.IntN.{ℤ}
-use Rattle.wire.specs.Refusals.{leaves, zeroOr}
-use Rattle.observation.specs.Phase.{readPhase}
+use Rattle.refusals.specs.Refusals.{leaves, zeroOr}
+use Rattle.phases.specs.Phase.{readPhase}
 
 abbrev pub partsNumber : ℤ → ℕ
 partsNumber phase = zeroOr (readPhase phase)

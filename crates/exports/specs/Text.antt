@@ -1,8 +1,8 @@
--- What `sbp_list` hands back, and what it leaves in the text and in the number that it is lent. Assumes nothing.
+-- What `sbp_list` hands back, and what it leaves in the text and in the number that it is lent.
 use Prim.Native.Nat.{ℕ}
 use mathlib.Core.List.{List}
-use Rattle.wire.specs.Refusals.{zeroOr}
-use Rattle.frames.specs.Writer.{sizeLeft}
+use Rattle.refusals.specs.Refusals.{zeroOr}
+use Rattle.frame_writer.specs.Writer.{sizeLeft}
 use Rattle.listing.specs.Listing.{listAnswer}
 
 abbrev pub textAnswer : List ℕ → ℕ → ℕ

@@ -1,10 +1,10 @@
--- Who sends the frames that are written, as a number of 32 bits. Assumes nothing.
+-- Who sends the frames that are written, as a number of 32 bits.
 use Prim.Native.Nat.{ℕ}
 use mathlib.Core.Bool.{cond}
 use lib.Dec.{ltb}
-use Rattle.frames.specs.Writer.{senderOf}
-use Rattle.frames.specs.declared.write.Sender.{Sender}
-use Rattle.frames.specs.declared.write.Sender.the-variants.{Named, Unnamed}
+use Rattle.frame_writer.specs.Writer.{senderOf}
+use Rattle.frame_writer.specs.declared.write.Sender.{Sender}
+use Rattle.frame_writer.specs.declared.write.Sender.the-variants.{Named, Unnamed}
 
 -- a sender that 16 bits do not hold means that none is given
 abbrev pub senderFrom : ℕ → Sender

@@ -1,8 +1,8 @@
 // One flag of a message, as a number: the fix mode and the RAIM flags of positions, baselines and the heading, and what a POS_LLH's height is above.
 ghost use mathlib.Core.Path.{_≡_};
-ghost use Rattle.wire.specs.Refusals.{asNumber};
+ghost use Rattle.refusals.specs.Refusals.{asNumber};
 ghost use Rattle.exports.specs.Flagged.{tableFor, fixNumber, bitNumber, raimIn, fixAnswer, availableAnswer, repairedAnswer, aboveSeaAnswer};
-use navigation::Fix;
+use flags::Fix;
 
 // Whose flags a message has. Those of the two positions differ; both baselines and the heading have one table.
 pub enum Table {
@@ -52,9 +52,9 @@ pub extern "C" fn sbp_fix(kind: u16, flags: u8) -> u8
 {
     let table = table_of(kind);
     match table {
-        Table::Ecef => fix_number(navigation::pos_ecef_fix(flags)),
-        Table::Llh => fix_number(navigation::pos_llh_fix(flags)),
-        Table::Baseline => fix_number(navigation::baseline_fix(flags)),
+        Table::Ecef => fix_number(flags::pos_ecef_fix(flags)),
+        Table::Llh => fix_number(flags::pos_llh_fix(flags)),
+        Table::Baseline => fix_number(flags::baseline_fix(flags)),
         Table::Nothing => 21,
     }
 }
@@ -78,8 +78,8 @@ pub extern "C" fn sbp_raim_available(kind: u16, flags: u8) -> u8
 {
     raim_number(
         table_of(kind),
-        navigation::pos_llh_raim_available(flags),
-        navigation::raim_available(flags),
+        flags::pos_llh_raim_available(flags),
+        flags::raim_available(flags),
     )
 }
 
@@ -89,8 +89,8 @@ pub extern "C" fn sbp_raim_repaired(kind: u16, flags: u8) -> u8
 {
     raim_number(
         table_of(kind),
-        navigation::pos_llh_raim_repaired(flags),
-        navigation::raim_repaired(flags),
+        flags::pos_llh_raim_repaired(flags),
+        flags::raim_repaired(flags),
     )
 }
 
@@ -100,7 +100,7 @@ pub extern "C" fn sbp_above_sea(kind: u16, flags: u8) -> u8
     ensures { λ r. ⌜ r ≡ aboveSeaAnswer kind flags ⌝ }
 {
     if kind == 0x0201 {
-        return bit_number(navigation::pos_llh_above_sea(flags));
+        return bit_number(flags::pos_llh_above_sea(flags));
     }
     21
 }

@@ -1,17 +1,15 @@
 // What C and Rust link: `extern "C"` functions over numbers, lent slices and lent numbers. None has a `requires`.
 // A refusal is document 01's number and writes nothing. A collator lives in lent bytes.
-// Read specs/Found.antt (the row of a frame), specs/Totals.antt, specs/Text.antt, specs/Flagged.antt and specs/Phased.antt (flags, carrier phase),
-// specs/Write.antt (who sends), specs/Shown.antt and specs/Kept.antt (what is claimed of all). What a collator's bytes are stands in `states`, what rows of fields are in
-// `row_reader` and `row_writer`.
+// Read specs/Text.antt, specs/Flagged.antt and specs/Phased.antt (flags, carrier phase), specs/Write.antt (who sends) and specs/Kept.antt (what is
+// claimed of all). The row of a frame stands in `frame_rows`, what a collator's bytes are in `states`, what rows of fields are in `row_reader` and
+// `row_writer`.
 mod answering;
 mod beating;
 mod collating;
-mod counting;
 mod flagging;
 mod phasing;
 mod reading;
 mod rowing;
-mod sizes;
 mod texting;
 mod versioning;
 mod writing;
@@ -27,7 +25,6 @@ pub use collating::sbp_collator;
 pub use collating::sbp_enlist;
 pub use collating::sbp_feed;
 pub use collating::sbp_growing;
-pub use counting::sbp_totals;
 pub use flagging::sbp_above_sea;
 pub use flagging::sbp_fix;
 pub use flagging::sbp_raim_available;
@@ -35,6 +32,7 @@ pub use flagging::sbp_raim_repaired;
 pub use phasing::sbp_carrier_phase;
 pub use phasing::sbp_phase_parts;
 pub use reading::sbp_next;
+pub use reading::sbp_totals;
 pub use rowing::sbp_observation;
 pub use rowing::sbp_read;
 pub use texting::sbp_list;

@@ -1,15 +1,15 @@
 // The carrier phase in 1/256 cycle, and back.
 ghost use mathlib.Core.Path.{_≡_};
-ghost use Rattle.observation.specs.Phase.{phaseOf};
+ghost use Rattle.phases.specs.Phase.{phaseOf};
 ghost use Rattle.exports.specs.Phased.{partsNumber, cyclesAfter, partsAfter};
-use observation::Phase;
-use observation::PhaseParts;
+use phases::Phase;
+use phases::PhaseParts;
 
 #[no_mangle]
 pub extern "C" fn sbp_carrier_phase(l_i: i32, l_f: u8) -> i64
     ensures { λ r. ⌜ r ≡ phaseOf (record { «l_i» = «l_i»; «l_f» = «l_f» }) ⌝ }
 {
-    observation::carrier_phase(Phase { l_i, l_f })
+    phases::carrier_phase(Phase { l_i, l_f })
 }
 
 // 0 with the one pair through l_i and l_f, or 33.
@@ -19,7 +19,7 @@ pub extern "C" fn sbp_phase_parts(phase: i64, l_i: &mut i32, l_f: &mut u8) -> u8
     ensures { λ _. ⌜ now («l_i» .exit) ≡ cyclesAfter phase (now («l_i» .entry)) ⌝ }
     ensures { λ _. ⌜ now («l_f» .exit) ≡ partsAfter phase (now («l_f» .entry)) ⌝ }
 {
-    let parts = observation::phase_parts(phase);
+    let parts = phases::phase_parts(phase);
     match parts {
         PhaseParts::Parts(p) => {
             let cycles = p.l_i;

@@ -1,7 +1,7 @@
 // A payload's fields, or one observation's, as numbers of 64 bits in a lent row.
 ghost use mathlib.Core.Path.{_≡_};
 ghost use lib.ListN.{length};
-ghost use Rattle.wire.specs.Refusals.{zeroOr};
+ghost use Rattle.refusals.specs.Refusals.{zeroOr};
 ghost use Rattle.row_reader.specs.ReadRow.{readRow, rowAfter, readOne, rowAfterOne};
 
 // 0 and one number for each field at the start of row; 21, 22, 23, then 32 where that has no room.

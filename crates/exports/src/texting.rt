@@ -12,5 +12,5 @@ pub extern "C" fn sbp_list(capture: &[u8], text: &mut [u8], size: &mut u64) -> u
     ensures { λ _. ⌜ now (size .exit) ≡ sizeAfter (now (capture .entry)) (length (now (text .entry))) (now (size .entry)) ⌝ }
 {
     let written = listing::list(capture, text);
-    frames::hand_on(written, size)
+    frame_writer::hand_on(written, size)
 }

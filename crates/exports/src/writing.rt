@@ -1,14 +1,14 @@
 // Frames written into a lent buffer.
 ghost use mathlib.Core.Path.{_≡_};
 ghost use lib.ListN.{length};
-ghost use Rattle.wire.specs.Refusals.{zeroOr};
-ghost use Rattle.frames.specs.Faithful.{writeAnswer, writtenAs};
-ghost use Rattle.frames.specs.Writer.{planned, withFrame, sizeLeft};
+ghost use Rattle.refusals.specs.Refusals.{zeroOr};
+ghost use Rattle.frame_writer.specs.Faithful.{writeAnswer, writtenAs};
+ghost use Rattle.frame_writer.specs.Writer.{planned, withFrame, sizeLeft};
 ghost use Rattle.row_writer.specs.WriteObsRow.{writeObsRow, obsRowWritten};
 ghost use Rattle.row_writer.specs.WriteRow.{writeRow, rowWritten};
-ghost use Rattle.system.specs.Log.{log, logged};
+ghost use Rattle.logs.specs.Log.{log, logged};
 ghost use Rattle.exports.specs.Write.{senderFrom, sentBy};
-use frames::Sender;
+use frame_writer::Sender;
 
 // None above 65535: what C calls SBP_NO_SENDER, and any number beyond.
 fn sender_from(n: u32) -> Sender
@@ -68,8 +68,8 @@ pub extern "C" fn sbp_write_log(
     ensures { λ _. ⌜ now (out .exit) ≡ writtenAs log (sentBy sender) (logged level (now (text .entry)) padding) (now (out .entry)) ⌝ }
     ensures { λ _. ⌜ now (size .exit) ≡ sizeLeft (writeAnswer log (logged level (now (text .entry)) padding) (length (now (out .entry)))) (now (size .entry)) ⌝ }
 {
-    let written = system::write_log(out, sender_from(sender), level, text, padding);
-    frames::hand_on(written, size)
+    let written = logs::write_log(out, sender_from(sender), level, text, padding);
+    frame_writer::hand_on(written, size)
 }
 
 // A frame of any type with any payload: 31 over 255 bytes, then 32.

@@ -1,4 +1,4 @@
--- A store takes the lowest bytes of a number only. Assumes nothing.
+-- A store takes the lowest bytes of a number only.
 use mathlib.Core.Path.{_≡_, refl, sym, ap, _∙_}
 use mathlib.Core.Bool.{Bool, true, false, cond}
 use mathlib.Core.List.{List}

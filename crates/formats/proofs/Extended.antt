@@ -1,4 +1,4 @@
--- A signed number's bits as those of a wider type: from the half on, all upper bits are set. Assumes nothing.
+-- A signed number's bits as those of a wider type: from the half on, all upper bits are set.
 use mathlib.Core.Path.{_≡_}
 use Prim.Native.Nat.{ℕ, _+_, _-_, _^_, _≤_, _<_}
 use native.Mathlib.Omega.{arith}

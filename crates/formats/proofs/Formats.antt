@@ -1,4 +1,4 @@
--- A digit's format, by cases as a match on the digit has them. Assumes nothing.
+-- A digit's format, by cases as a match on the digit has them.
 use mathlib.Core.Path.{_≡_, ap, _∙_}
 use mathlib.Core.Logic.{_⊎_, inl, inr}
 use mathlib.Core.Bool.{Bool, true, false, cond}
@@ -6,7 +6,7 @@ use Prim.Native.Nat.{ℕ, _≤_}
 use native.Mathlib.Omega.{arith}
 use lib.Dec.{eqb}
 use borrow.Author.Tests.{ne-eqb}
-use Rattle.wire.specs.Field.{u8, u16, u32, s16, s32, double, width}
+use Rattle.wire.specs.Value.{u8, u16, u32, s16, s32, double, width}
 use Rattle.formats.specs.Digits.{formatBy}
 
 -- what two digits of one arm have alike

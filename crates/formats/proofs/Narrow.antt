@@ -1,5 +1,5 @@
 -- Numbers of 64 bits stored as fields: where each fits its field, a run of formats stores what the row that they stand for stores, and that
--- row's values are held by their types and settled. Assumes nothing.
+-- row's values are held by their types and settled.
 use mathlib.Core.Path.{_≡_, refl, sym, ap, ap₂, _∙_, subst⁻¹}
 use mathlib.Core.Bool.{Bool, true, false, _&&_, _||_, cond, false≢true, and-assoc, and-eq-true-iff}
 use mathlib.Core.List.{List, [], _∷_, _++_, map}
@@ -18,10 +18,11 @@ use mir.ValLaws.{toZ-pos, toZ-neg, ofZ-toZ}
 use borrow.Author.Tests.{leb-true, ltb-true}
 use Rattle.wire.specs.Number.{bytesOf, storedAt}
 use Rattle.wire.specs.Double.{doubleOf}
-use Rattle.wire.specs.Field.{Format, unsigned, signed, double, width, Held, Settled, bitsOf, Field, formatOf, HeldRow, SettledRow, rowStored}
+use Rattle.wire.specs.Value.{Format, unsigned, signed, double, width, Held, Settled, bitsOf}
+use Rattle.layouts.specs.Field.{Field, formatOf, HeldRow, SettledRow, rowStored}
 use Rattle.wire.proofs.Numbers.{length-bytesOf, stored-sets, length-stored, sets-append, sets-lent}
 use Rattle.wire.proofs.Doubles.{bits-doubleOf}
-use Rattle.wire.proofs.Fields.{signed-settled}
+use Rattle.layouts.proofs.Fields.{signed-settled}
 use Rattle.formats.specs.Wide.{wideOf, narrowTo, fitsIn, wideRow, narrowRow, fitsRow}
 use Rattle.formats.specs.Digits.{sizeOf, runFits, runStored}
 

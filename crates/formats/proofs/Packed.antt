@@ -1,4 +1,4 @@
--- The digits of a run unpack to its formats, where each of these has a digit of its own and there are not too many. Assumes nothing.
+-- The digits of a run unpack to its formats, where each of these has a digit of its own and there are not too many.
 use mathlib.Core.Path.{_≡_, refl, sym, ap, ap₂, _∙_}
 use mathlib.Core.Bool.{Bool, true, false, _&&_, false≢true, and-eq-true-iff}
 use mathlib.Core.List.{List, [], _∷_, _++_, map}
@@ -8,7 +8,8 @@ use lib.Dec.{leb}
 use lib.ListN.{length, take, drop, take-append-drop}
 use borrow.Author.Tests.{ne-eqb, leb-true}
 use mir.Syntax.{w8, w16, w32, w64, w128}
-use Rattle.wire.specs.Field.{Format, unsigned, signed, double, Field, formatOf}
+use Rattle.wire.specs.Value.{Format, unsigned, signed, double}
+use Rattle.layouts.specs.Field.{Field, formatOf}
 use Rattle.formats.specs.Digits.{formatBy, digitOf, digitsOf, upTo, formatsBy}
 
 -- ---- one format

@@ -1,4 +1,4 @@
--- What a run makes of bytes and of a row's numbers, format by format as a loop takes them. Assumes nothing.
+-- What a run makes of bytes and of a row's numbers, format by format as a loop takes them.
 use mathlib.Core.Path.{_≡_, refl, sym, ap, ap₂, _∙_}
 use mathlib.Core.Bool.{Bool, true, false, _&&_}
 use mathlib.Core.List.{List, [], _∷_}
@@ -8,7 +8,7 @@ use native.Mathlib.Numerals.{add-one}
 use lib.ListN.{length, getD, set}
 use lib.Seq.{sets}
 use Rattle.wire.specs.Number.{storedAt}
-use Rattle.wire.specs.Field.{Format, width, valueAt}
+use Rattle.wire.specs.Value.{Format, width, valueAt}
 use Rattle.wire.proofs.Numbers.{length-stored}
 use Rattle.formats.specs.Wide.{wideOf, fitsIn}
 use Rattle.formats.specs.Digits.{formatBy, formatsBy, numbersAt, runFits, runStored}

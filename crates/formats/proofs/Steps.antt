@@ -1,4 +1,4 @@
--- The formats of a run's digits one by one, as a loop takes them: the lowest digit's first, then those of the rest. Assumes nothing.
+-- The formats of a run's digits one by one, as a loop takes them: the lowest digit's first, then those of the rest.
 use mathlib.Core.Path.{_≡_, refl, sym, ap}
 use mathlib.Core.Bool.{Bool, true, false}
 use mathlib.Core.List.{List, [], _∷_}
@@ -8,7 +8,7 @@ use native.Mathlib.Omega.{arith}
 use lib.Dec.{eqb}
 use lib.ListN.{length}
 use borrow.Author.Tests.{eq-eqb, ne-eqb}
-use Rattle.wire.specs.Field.{Format, width}
+use Rattle.wire.specs.Value.{Format, width}
 use Rattle.formats.specs.Digits.{formatBy, upTo, formatsBy, sizeOf}
 use Rattle.formats.proofs.Formats.{at-most-eight}
 

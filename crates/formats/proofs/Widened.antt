@@ -1,5 +1,5 @@
 -- What a run of formats reads from bytes is the row of its fields, each value as a number of 64 bits; runs one after the other, and how
--- many bytes they take. Assumes nothing.
+-- many bytes they take.
 use mathlib.Core.Path.{_≡_, refl, sym, ap, ap₂, _∙_}
 use mathlib.Core.Bool.{Bool, true, false, cond}
 use mathlib.Core.List.{List, [], _∷_, _++_, map}
@@ -11,7 +11,8 @@ use lib.ListN.{take, drop}
 use lib.Seq.{drop-drop}
 use borrow.Author.Tests.{ne-eqb}
 use Rattle.wire.specs.Number.{little, numberAt}
-use Rattle.wire.specs.Field.{Format, u8, u16, u32, s16, s32, double, width, valueOf, Field, formatOf, size, decode}
+use Rattle.wire.specs.Value.{Format, u8, u16, u32, s16, s32, double, width, valueOf}
+use Rattle.layouts.specs.Field.{Field, formatOf, size, decode}
 use Rattle.formats.specs.Wide.{wideOf, wideRow}
 use Rattle.formats.specs.Digits.{formatBy, upTo, formatsBy, sizeOf, numbersAt}
 

@@ -1,6 +1,6 @@
 -- A run of fields as one number that code can carry: a hexadecimal digit for each field's format, that of the first field lowest. 1, 2 and 4 are
 -- unsigned numbers of so many bytes, 10 and 12 signed ones of 2 and 4, and 8 is a double, as every other digit is; a format that no message has
--- gets 8 too. And what such a run makes of bytes and of numbers, for any digits at all. Assumes nothing.
+-- gets 8 too. And what such a run makes of bytes and of numbers, for any digits at all.
 use Prim.Native.Nat.{ℕ, zero, suc, _+_, _*_, _/_, _%_}
 use mathlib.Core.Bool.{Bool, true, cond, _&&_}
 use mathlib.Core.List.{List, [], _∷_, _++_}
@@ -8,8 +8,9 @@ use lib.Dec.{eqb}
 use lib.ListN.{getD, take, drop}
 use mir.Syntax.{w8, w16, w32, w64, w128}
 use Rattle.wire.specs.Number.{storedAt}
-use Rattle.wire.specs.Field.{Format, unsigned, signed, double, u8, u16, u32, s16, s32, width, valueAt, Field, formatOf}
-use Rattle.wire.specs.Layout.{Layout, run, then, bytes, text, rows}
+use Rattle.wire.specs.Value.{Format, unsigned, signed, double, u8, u16, u32, s16, s32, width, valueAt}
+use Rattle.layouts.specs.Field.{Field, formatOf}
+use Rattle.layouts.specs.Layout.{Layout, run, then, bytes, text, rows}
 use Rattle.formats.specs.Wide.{wideOf, fitsIn}
 use Rattle.formats.specs.declared.Shape.{Shape}
 

@@ -1,5 +1,4 @@
 -- Values as numbers of 64 bits, as C and Rust have them in a row: unsigned as they are, signed sign-extended, doubles as their bits.
--- Assumes nothing.
 use Prim.Native.Nat.{ℕ, zero, suc, _+_, _-_, _^_}
 use mathlib.Core.Bool.{Bool, true, _&&_, _||_}
 use mathlib.Core.List.{List, [], _∷_, _++_}
@@ -8,8 +7,9 @@ use lib.ListN.{length, getD}
 use mir.Syntax.{w64}
 use mir.Val.{bits, toZ, ofZ}
 use Rattle.wire.specs.Double.{doubleOf, doubleBits}
-use Rattle.wire.specs.Field.{Format, unsigned, signed, double, Value, Field, formatOf, Row}
-use Rattle.wire.specs.Layout.{Layout, run, then, bytes, text, rows, Body}
+use Rattle.wire.specs.Value.{Format, unsigned, signed, double, Value}
+use Rattle.layouts.specs.Field.{Field, formatOf, Row}
+use Rattle.layouts.specs.Layout.{Layout, run, then, bytes, text, rows, Body}
 
 -- ---- one value
 

@@ -1,7 +1,7 @@
 // How many fields a run's digits say, and how many bytes these take.
 ghost use mathlib.Core.Path.{_≡_};
 ghost use lib.ListN.{length};
-ghost use Rattle.wire.specs.Field.{width};
+ghost use Rattle.wire.specs.Value.{width};
 ghost use Rattle.formats.specs.Digits.{formatBy, formatsBy, sizeOf};
 
 pub(crate) fn width_of(digit: u64) -> usize

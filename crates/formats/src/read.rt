@@ -3,7 +3,7 @@ ghost use mathlib.Core.Path.{_≡_};
 ghost use mir.Syntax.{w16, w32, w64};
 ghost use mir.Val.{toZ, ofZ};
 ghost use Rattle.wire.specs.Number.{bytesStored};
-ghost use Rattle.wire.specs.Field.{valueAt};
+ghost use Rattle.wire.specs.Value.{valueAt};
 ghost use Rattle.formats.specs.Wide.{wideOf};
 ghost use Rattle.formats.specs.Digits.{formatBy, formatsBy, numbersAt};
 use crate::digits::count;

@@ -1,7 +1,7 @@
 // A row's numbers stored as the fields of a run.
 ghost use mathlib.Core.Path.{_≡_};
 ghost use Rattle.wire.specs.Number.{storedAt};
-ghost use Rattle.wire.specs.Field.{width};
+ghost use Rattle.wire.specs.Value.{width};
 ghost use Rattle.formats.specs.Digits.{formatBy, formatsBy, runStored};
 use crate::digits::width_of;
 use crate::fits::number_of;

@@ -1,5 +1,5 @@
 -- A loop over the frames of a closed reading, one call of next after the other: what holds of the frames that are left goes on to the next
--- cursor, and at the end it holds of none. Assumes nothing.
+-- cursor, and at the end it holds of none.
 use mathlib.Core.Path.{_≡_, sym, ap, subst}
 use mathlib.Core.Bool.{false, false≢true}
 use mathlib.Core.List.{List, [], _∷_}

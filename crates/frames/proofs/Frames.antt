@@ -1,5 +1,5 @@
 -- A frame that was found: it lies within the capture, its numbers are those that bytes can hold, its payload is that part of the capture,
--- and its bytes are a frame's. And the payload of any frame value: what is there of it. Assumes nothing.
+-- and its bytes are a frame's. And the payload of any frame value: what is there of it.
 use mathlib.Core.Path.{_≡_, refl, sym, ap, ap₂, _∙_, subst, subst⁻¹}
 use mathlib.Core.Bool.{Bool, true, false}
 use mathlib.Core.List.{List, [], _∷_, _++_}

@@ -1,5 +1,5 @@
 -- A cursor that goes on: what it passes over changes no answer, and its counts stay those of the steps behind it. What the loops of `next` and
--- `totals` keep. Assumes nothing.
+-- `totals` keep.
 use mathlib.Core.Path.{_≡_, refl, sym, ap, ap₂, _∙_, subst, subst⁻¹}
 use mathlib.Core.Bool.{Bool, true, false, false≢true}
 use mathlib.Core.List.{List, []}

@@ -1,4 +1,4 @@
--- Runs of junk: their length, and that what a cursor keeps at each byte of junk it keeps past all of them. Assumes nothing.
+-- Runs of junk: their length, and that what a cursor keeps at each byte of junk it keeps past all of them.
 use mathlib.Core.Path.{_≡_, refl, sym, ap, _∙_, subst, subst⁻¹}
 use mathlib.Core.Bool.{Bool, true, false, not, cond}
 use mathlib.Core.List.{List, [], _∷_}
@@ -11,7 +11,7 @@ use lib.Seq.{drop-drop, drop-cons, getD-drop}
 use borrow.Author.Tests.{ne-eqb, eqb-true, eqb-false, le-leb, lt-leb, leb-true, leb-false}
 use Rattle.frames.specs.Reading.{stops}
 use Rattle.frames.specs.Cursors.{plus, over, passes, nextOf, Honest}
-use Rattle.frames.specs.Junk.{junkRun, overJunk, pastJunk}
+use Rattle.frames.specs.Inner.{junkRun, overJunk, pastJunk}
 use Rattle.frames.specs.declared.step.Step.{Step}
 use Rattle.frames.specs.declared.step.Step.the-variants.{Junk}
 use Rattle.frames.specs.declared.cursor.Cursor.{Cursor}

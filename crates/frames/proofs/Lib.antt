@@ -7,11 +7,3 @@ pub mod GoingOn
 pub mod JunkRuns
 pub mod NextAnswers
 pub mod CursorLoops
-pub mod Longer
-pub mod Staying
-pub mod WatchedCalls
-pub mod WrittenPlan
-pub mod Written
-pub mod WrittenRead
-pub mod WrittenStream
-pub mod Promised

@@ -1,5 +1,5 @@
 -- The answers of a cursor: the frames of the reading in order, one a call, then where the reading stops; and the counts of the whole reading
--- with it. Assumes nothing.
+-- with it.
 use mathlib.Core.Path.{_≡_, refl, sym, ap, ap₂, _∙_, subst, subst⁻¹}
 use mathlib.Core.Bool.{Bool, true, false, true≢false, false≢true}
 use mathlib.Core.List.{List, [], _∷_, _++_, append-assoc, append-nil}

@@ -1,5 +1,4 @@
 -- Readings by position: a reading is the step at its position and then the reading from where that step ends, unless it stops there.
--- Assumes nothing.
 use mathlib.Core.Path.{_≡_, refl, ap, _∙_}
 use mathlib.Core.Bool.{Bool, true, false, true≢false, cond}
 use mathlib.Core.List.{List, [], _∷_}

@@ -1,4 +1,4 @@
--- The step at a position is the one that document 01's five lines decide. What a step says of the bytes that it passes. Assumes nothing.
+-- The step at a position is the one that document 01's five lines decide. What a step says of the bytes that it passes.
 use mathlib.Core.Path.{_≡_, refl, sym, ap, _∙_, subst}
 use mathlib.Core.Bool.{Bool, true, false, true≢false, false≢true, cond, not}
 use mathlib.Core.List.{List}

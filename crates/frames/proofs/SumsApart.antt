@@ -1,4 +1,4 @@
--- A frame's CRC is the same where its header and payload lie apart. Assumes nothing.
+-- A frame's CRC is the same where its header and payload lie apart.
 use mathlib.Core.Path.{_≡_, refl, ap, _∙_}
 use mathlib.Core.List.{List, [], _∷_, _++_}
 use Prim.Native.Nat.{ℕ, _+_, min}

@@ -1,6 +1,5 @@
 -- Closed reading tiles the capture: each step stands where the one before ended and is the capture's own there, from 0 to the end. No other
 -- steps tile it so; every position lies in exactly one step, and the counts add up. Open reading is that up to the first short.
--- Assumes nothing.
 use mathlib.Core.Path.{_≡_, refl, sym, ap, _∙_, subst, subst⁻¹}
 use mathlib.Core.Bool.{Bool, true, false, _||_}
 use mathlib.Core.List.{List, [], _∷_}

@@ -1,5 +1,5 @@
 -- A frame whose header and payload lie apart, as a radio delivers them (document 02, P3). A header is 003's six bytes: preamble, type, sender,
--- payload length. Assumes nothing.
+-- payload length.
 use Prim.Native.Nat.{ℕ}
 use mathlib.Core.Path.{_≡_}
 use mathlib.Core.List.{List, _∷_, _++_}

@@ -1,4 +1,4 @@
--- What a cursor answers, and what that tells of the whole reading. Assumes nothing.
+-- What a cursor answers, and what that tells of the whole reading.
 use Prim.Native.Nat.{ℕ, _+_, _%_, _^_, _≤_}
 use mathlib.Core.Path.{_≡_}
 use mathlib.Core.Bool.{Bool, true, false, not, cond}

@@ -1,6 +1,5 @@
 -- Document 01, "Finding frames and resuming", in the capture's own positions: the first of the five lines that holds at p decides the step
 -- there. Each line stands with what the lines before it left; the third has two cases.
--- Assumes nothing.
 use Prim.Native.Nat.{ℕ, _+_, _-_, _≤_, _<_}
 use mathlib.Core.Path.{_≡_}
 use mathlib.Core.List.{List}

@@ -1,5 +1,4 @@
 -- A frame (document 01): preamble 0x55, type, sender, payload length, payload, CRC over all but the preamble. Little-endian throughout.
--- Assumes nothing.
 use Prim.Native.Nat.{ℕ, _≤_, _<_}
 use mathlib.Core.List.{List, [], _∷_, _++_}
 use lib.ListN.{length}

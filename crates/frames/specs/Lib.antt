@@ -4,8 +4,4 @@ pub mod Decides
 pub mod Apart
 pub mod Reading
 pub mod Cursors
-pub mod Stays
-pub mod Watching
-pub mod Junk
-pub mod Writer
-pub mod Faithful
+pub mod Inner

@@ -1,5 +1,4 @@
 -- Whole readings: the steps of a capture, each with its position; closed and open differ only in what a short does. And the counts.
--- Assumes nothing.
 use Prim.Native.Nat.{ℕ, zero, suc, pred, _+_, _<_}
 use mathlib.Core.Bool.{Bool, true, false, _&&_, cond}
 use mathlib.Core.List.{List, [], _∷_}

@@ -1,5 +1,4 @@
 -- The step at a position: document 01, "Finding frames and resuming", line by line.
--- Assumes nothing.
 use Prim.Native.Nat.{ℕ, _+_}
 use mathlib.Core.Bool.{cond, not}
 use mathlib.Core.List.{List}

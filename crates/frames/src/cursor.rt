@@ -3,7 +3,7 @@ ghost use mathlib.Core.Path.{_≡_};
 ghost use mathlib.Core.Bool.{true, false};
 ghost use Rattle.frames.specs.Step.{passed};
 ghost use Rattle.frames.specs.Reading.{stops, counted, countsOf, closedSteps};
-ghost use Rattle.frames.specs.Junk.{pastJunk};
+ghost use Rattle.frames.specs.Inner.{pastJunk};
 ghost use Rattle.frames.specs.Cursors.{passes, past, over, ended, begun, countsIn, nextOf};
 use crate::junk::junk_run;
 use crate::step::Frame;

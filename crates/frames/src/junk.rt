@@ -4,7 +4,7 @@ ghost use mathlib.Core.Bool.{true, cond};
 ghost use Prim.Native.Nat.{_+_, _-_, _≤_};
 ghost use lib.Dec.{eqb, leb};
 ghost use lib.ListN.{length, drop};
-ghost use Rattle.frames.specs.Junk.{junkRun};
+ghost use Rattle.frames.specs.Inner.{junkRun};
 
 // Whether a 0x55 was seen, before or now.
 fn marked(before: bool, b: u8) -> bool

@@ -1,5 +1,5 @@
 -- The text of a listing is the lines of document 01's words, then the totals: an `E` line stands exactly after a frame that ends an epoch. The
--- lines are read off the collator's law of what each frame comes to. Assumes nothing.
+-- lines are read off the collator's law of what each frame comes to.
 use mathlib.Core.Path.{_≡_, refl, sym, ap, ap₂, _∙_, subst}
 use mathlib.Core.Bool.{false≢true}
 use mathlib.Core.List.{List, [], _∷_, _++_, append-cancel-right, flatMap, map}

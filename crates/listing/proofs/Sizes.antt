@@ -1,4 +1,4 @@
--- How long a listing is: at most eight bytes for each byte of the capture, and 32. Assumes nothing.
+-- How long a listing is: at most eight bytes for each byte of the capture, and 32.
 use mathlib.Core.Path.{_≡_, refl, ap, subst}
 use mathlib.Core.Bool.{Bool, true, false, cond, false≢true}
 use mathlib.Core.List.{List, [], _∷_, _++_, map}
@@ -8,7 +8,7 @@ use lib.Dec.{ltb, lit<}
 use lib.ListN.{length, length-append}
 use borrow.Author.Tests.{ltb-true}
 use Rattle.wire.specs.Number.{Bytes}
-use Rattle.wire.specs.Refusals.{Tests}
+use Rattle.refusals.specs.Refusals.{Tests}
 use Rattle.frames.specs.Step.{stepAt, passed, ends, payloadIn}
 use Rattle.frames.specs.Reading.{Positioned, Tiled, done, then, framesIn, framesOf, countsOf, closedSteps}
 use Rattle.frames.specs.declared.step.Frame.{Frame}

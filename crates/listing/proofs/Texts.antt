@@ -1,4 +1,4 @@
--- A listing put into a buffer line by line: what the loop of `put_text` keeps, and what `list` answers. Assumes nothing.
+-- A listing put into a buffer line by line: what the loop of `put_text` keeps, and what `list` answers.
 use mathlib.Core.Path.{_≡_, refl, sym, ap, ap₂, _∙_, subst}
 use mathlib.Core.Bool.{Bool, true, false, cond}
 use mathlib.Core.List.{List, [], _++_, append-assoc, map}
@@ -9,8 +9,8 @@ use lib.ListN.{length, drop}
 use lib.Seq.{sets, sets-eq, length-sets}
 use borrow.Author.Tests.{le-leb, lt-leb, leb-true}
 use Rattle.wire.specs.Number.{bytesStored}
-use Rattle.wire.specs.Refusals.{refused, given, Answer, leaves}
-use Rattle.frames.specs.Writer.{startingWith}
+use Rattle.refusals.specs.Refusals.{refused, given, Answer, leaves}
+use Rattle.frame_writer.specs.Writer.{startingWith}
 use Rattle.frames.specs.Step.{payloadIn}
 use Rattle.frames.specs.Reading.{closedSteps, framesOf}
 use Rattle.frames.specs.Cursors.{nextOf, countsIn}

@@ -1,11 +1,11 @@
--- The text of document 01's `sbplist`, from a capture's bytes, read closed. Assumes nothing.
+-- The text of document 01's `sbplist`, from a capture's bytes, read closed.
 use Prim.Native.Nat.{ℕ, _+_, _*_}
 use mathlib.Core.Bool.{cond}
 use mathlib.Core.List.{List, [], _∷_, _++_}
 use lib.Dec.{leb}
 use lib.ListN.{length}
-use Rattle.wire.specs.Refusals.{Answer, Tests, ordered, leaves}
-use Rattle.frames.specs.Writer.{startingWith}
+use Rattle.refusals.specs.Refusals.{Answer, Tests, ordered, leaves}
+use Rattle.frame_writer.specs.Writer.{startingWith}
 use Rattle.frames.specs.Step.{payloadIn}
 use Rattle.frames.specs.Reading.{closedSteps, framesOf, countsOf}
 use Rattle.frames.specs.declared.step.Frame.{Frame}

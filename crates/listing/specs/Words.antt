@@ -1,4 +1,4 @@
--- A listing's lines in document 01's words. Nothing here looks at a collator. Assumes nothing.
+-- A listing's lines in document 01's words. Nothing here looks at a collator.
 use Prim.Native.Nat.{ℕ}
 use mathlib.Core.List.{List, [], _∷_, _++_}
 use Rattle.frames.specs.Frame.{Content}

@@ -4,7 +4,7 @@ ghost use Prim.Native.Nat.{_+_, _%_, _^_, _≤_, _<_};
 ghost use lib.Dec.{leb};
 ghost use lib.ListN.{length};
 ghost use lib.Seq.{sets};
-ghost use Rattle.frames.specs.Writer.{writtenAnswer};
+ghost use Rattle.frame_writer.specs.Writer.{writtenAnswer};
 ghost use Rattle.wire.specs.Number.{bytesStored};
 ghost use Rattle.listing.specs.Listing.{frameShown, totalsShown, epochPart, textOf, mostListed, listAnswer, withListing};
 use epochs::Collator;
@@ -13,7 +13,7 @@ use frames::Counts;
 use frames::Cursor;
 use frames::Frame;
 use frames::Next;
-use frames::Written;
+use frame_writer::Written;
 
 // `F` offset type sender length payload-answer
 fn put_frame(buf: &mut [u8], at: usize, f: Frame, answer: u8) -> usize

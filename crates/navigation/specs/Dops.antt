@@ -1,10 +1,11 @@
--- DOPS, 0x0206: dilutions of precision, in 1/100. Assumes nothing.
+-- DOPS, 0x0206: dilutions of precision, in 1/100.
 use mathlib.Core.Path.{refl}
 use mathlib.Core.List.{[], _∷_}
-use Rattle.wire.specs.Field.{any, u16, u32}
-use Rattle.wire.specs.Layout.{run}
-use Rattle.wire.specs.Description.{Description}
-use Rattle.wire.specs.Refusals.{refused, given, Answer}
+use Rattle.wire.specs.Value.{u16, u32}
+use Rattle.layouts.specs.Field.{any}
+use Rattle.layouts.specs.Layout.{run}
+use Rattle.layouts.specs.Description.{Description}
+use Rattle.refusals.specs.Refusals.{refused, given, Answer}
 use Rattle.navigation.specs.declared.dops.Dops.{Dops}
 use Rattle.navigation.specs.declared.dops.DopsRead.{DopsRead}
 use Rattle.navigation.specs.declared.dops.DopsRead.the-variants.{Record, Refused}

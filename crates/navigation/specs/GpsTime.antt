@@ -1,12 +1,13 @@
--- GPS_TIME, 0x0100: the GPS time. Assumes nothing.
+-- GPS_TIME, 0x0100: the GPS time.
 use mathlib.Core.Path.{refl}
 use mathlib.Core.List.{[], _∷_}
 use mir.Syntax.{w32}
-use Rattle.wire.specs.Field.{any, rangedSigned, u8, u16, u32}
-use Rattle.wire.specs.Layout.{run}
-use Rattle.wire.specs.Description.{Description}
-use Rattle.wire.specs.Refusals.{refused, given, Answer}
-use Rattle.navigation.specs.Range.{inNs}
+use Rattle.wire.specs.Value.{u8, u16, u32}
+use Rattle.layouts.specs.Field.{any, rangedSigned}
+use Rattle.layouts.specs.Layout.{run}
+use Rattle.layouts.specs.Description.{Description}
+use Rattle.refusals.specs.Refusals.{refused, given, Answer}
+use Rattle.flags.specs.Range.{inNs}
 use Rattle.navigation.specs.declared.gps_time.GpsTime.{GpsTime}
 use Rattle.navigation.specs.declared.gps_time.GpsTimeRead.{GpsTimeRead}
 use Rattle.navigation.specs.declared.gps_time.GpsTimeRead.the-variants.{Record, Refused}

@@ -1,9 +1,4 @@
-pub mod Range
-pub mod Flags
 pub mod GpsTime
 pub mod Dops
 pub mod PosEcef
 pub mod PosLlh
-pub mod Ecef
-pub mod Ned
-pub mod Heading

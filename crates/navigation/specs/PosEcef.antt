@@ -1,12 +1,13 @@
--- POS_ECEF, 0x0200: the position, Earth centred, in m. Assumes nothing.
+-- POS_ECEF, 0x0200: the position, Earth centred, in m.
 use mathlib.Core.Path.{refl}
 use mathlib.Core.List.{[], _∷_}
 use mir.Syntax.{w8}
-use Rattle.wire.specs.Field.{any, ranged, u8, u16, u32, double}
-use Rattle.wire.specs.Layout.{run}
-use Rattle.wire.specs.Description.{Description}
-use Rattle.wire.specs.Refusals.{refused, given, Answer}
-use Rattle.navigation.specs.Range.{fixUpTo}
+use Rattle.wire.specs.Value.{u8, u16, u32, double}
+use Rattle.layouts.specs.Field.{any, ranged}
+use Rattle.layouts.specs.Layout.{run}
+use Rattle.layouts.specs.Description.{Description}
+use Rattle.refusals.specs.Refusals.{refused, given, Answer}
+use Rattle.flags.specs.Range.{fixUpTo}
 use Rattle.navigation.specs.declared.pos_ecef.PosEcef.{PosEcef}
 use Rattle.navigation.specs.declared.pos_ecef.PosEcefRead.{PosEcefRead}
 use Rattle.navigation.specs.declared.pos_ecef.PosEcefRead.the-variants.{Record, Refused}

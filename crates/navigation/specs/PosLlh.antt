@@ -1,12 +1,13 @@
--- POS_LLH, 0x0201: the geodetic position, in degrees and m. Assumes nothing.
+-- POS_LLH, 0x0201: the geodetic position, in degrees and m.
 use mathlib.Core.Path.{refl}
 use mathlib.Core.List.{[], _∷_}
 use mir.Syntax.{w8}
-use Rattle.wire.specs.Field.{any, ranged, u8, u16, u32, double}
-use Rattle.wire.specs.Layout.{run}
-use Rattle.wire.specs.Description.{Description}
-use Rattle.wire.specs.Refusals.{refused, given, Answer}
-use Rattle.navigation.specs.Range.{fixUpTo}
+use Rattle.wire.specs.Value.{u8, u16, u32, double}
+use Rattle.layouts.specs.Field.{any, ranged}
+use Rattle.layouts.specs.Layout.{run}
+use Rattle.layouts.specs.Description.{Description}
+use Rattle.refusals.specs.Refusals.{refused, given, Answer}
+use Rattle.flags.specs.Range.{fixUpTo}
 use Rattle.navigation.specs.declared.pos_llh.PosLlh.{PosLlh}
 use Rattle.navigation.specs.declared.pos_llh.PosLlhRead.{PosLlhRead}
 use Rattle.navigation.specs.declared.pos_llh.PosLlhRead.the-variants.{Record, Refused}

@@ -1,13 +1,13 @@
 // DOPS, 0x0206: dilutions of precision, in 1/100.
 ghost use mathlib.Core.Path.{_≡_};
 ghost use lib.ListN.{length};
-ghost use Rattle.wire.specs.Layout.{bodyStored};
-ghost use Rattle.wire.specs.Description.{inside, readAs};
-ghost use Rattle.frames.specs.Writer.{senderOf, writtenAnswer};
-ghost use Rattle.frames.specs.Faithful.{writeAnswer, writtenAs};
+ghost use Rattle.layouts.specs.Layout.{bodyStored};
+ghost use Rattle.layouts.specs.Description.{inside, readAs};
+ghost use Rattle.frame_writer.specs.Writer.{senderOf, writtenAnswer};
+ghost use Rattle.frame_writer.specs.Faithful.{writeAnswer, writtenAs};
 ghost use Rattle.navigation.specs.Dops.{dops, answerOf};
-use frames::Sender;
-use frames::Written;
+use frame_writer::Sender;
+use frame_writer::Written;
 
 pub struct Dops {
     pub tow: u32,
@@ -60,10 +60,10 @@ pub fn write_dops(buf: &mut [u8], sender: Sender, r: Dops) -> Written
     ensures { λ w. ⌜ writtenAnswer w ≡ writeAnswer dops r (length (now (buf .entry))) ⌝ }
     ensures { λ _. ⌜ now (buf .exit) ≡ writtenAs dops (senderOf sender) r (now (buf .entry)) ⌝ }
 {
-    let answer = frames::plan(14, buf.len());
+    let answer = frame_writer::plan(14, buf.len());
     if let Written::Bytes(_) = answer {
         put(buf, r);
-        frames::seal(buf, 0x0206, sender, 14);
+        frame_writer::seal(buf, 0x0206, sender, 14);
     }
     answer
 }

@@ -1,14 +1,14 @@
 // GPS_TIME, 0x0100: the GPS time.
 ghost use mathlib.Core.Path.{_≡_};
 ghost use lib.ListN.{length};
-ghost use Rattle.wire.specs.Layout.{allowedBody, bodyStored};
-ghost use Rattle.wire.specs.Description.{inside, readAs};
-ghost use Rattle.frames.specs.Writer.{senderOf, writtenAnswer};
-ghost use Rattle.frames.specs.Faithful.{writeAnswer, writtenAs};
+ghost use Rattle.layouts.specs.Layout.{allowedBody, bodyStored};
+ghost use Rattle.layouts.specs.Description.{inside, readAs};
+ghost use Rattle.frame_writer.specs.Writer.{senderOf, writtenAnswer};
+ghost use Rattle.frame_writer.specs.Faithful.{writeAnswer, writtenAs};
 ghost use Rattle.navigation.specs.GpsTime.{gpsTime, answerOf};
-use crate::range::ns_allowed;
-use frames::Sender;
-use frames::Written;
+use flags::ns_allowed;
+use frame_writer::Sender;
+use frame_writer::Written;
 
 pub struct GpsTime {
     pub wn: u16,
@@ -66,10 +66,10 @@ pub fn write_gps_time(buf: &mut [u8], sender: Sender, r: GpsTime) -> Written
     ensures { λ _. ⌜ now (buf .exit) ≡ writtenAs gpsTime (senderOf sender) r (now (buf .entry)) ⌝ }
 {
     if allowed(r) {
-        let answer = frames::plan(11, buf.len());
+        let answer = frame_writer::plan(11, buf.len());
         if let Written::Bytes(_) = answer {
             put(buf, r);
-            frames::seal(buf, 0x0100, sender, 11);
+            frame_writer::seal(buf, 0x0100, sender, 11);
         }
         return answer;
     }

@@ -1,54 +1,21 @@
-// The navigation messages of 003, section 6.2: records, readers and writers.
-// Read specs/Range.antt first (what a field may hold), then the description of each message in specs/, which reads like its line of document
-// 01; specs/Flags.antt names the bits of flags. What a description makes of bytes is in wire's specs/Description.antt.
+// Times, dilutions of precision and positions, of 003, section 6.2: records, readers and writers.
+// Read the description of each message in specs/, which reads like its line of document 01. What a description makes of bytes is in layouts'
+// specs/Description.antt, what a ranged field may hold in flags' specs/Range.antt.
 mod dops;
-mod ecef;
-mod flags;
 mod gps_time;
-mod heading;
-mod ned;
 mod pos_ecef;
 mod pos_llh;
-mod range;
 
 pub use dops::Dops;
 pub use dops::DopsRead;
 pub use dops::read_dops;
 pub use dops::take_dops;
 pub use dops::write_dops;
-pub use ecef::EcefVector;
-pub use ecef::EcefVectorRead;
-pub use ecef::read_baseline_ecef;
-pub use ecef::read_vel_ecef;
-pub use ecef::take_ecef;
-pub use ecef::write_baseline_ecef;
-pub use ecef::write_vel_ecef;
-pub use flags::Fix;
-pub use flags::baseline_fix;
-pub use flags::pos_ecef_fix;
-pub use flags::pos_llh_above_sea;
-pub use flags::pos_llh_fix;
-pub use flags::pos_llh_raim_available;
-pub use flags::pos_llh_raim_repaired;
-pub use flags::raim_available;
-pub use flags::raim_repaired;
 pub use gps_time::GpsTime;
 pub use gps_time::GpsTimeRead;
 pub use gps_time::read_gps_time;
 pub use gps_time::take_gps_time;
 pub use gps_time::write_gps_time;
-pub use heading::BaselineHeading;
-pub use heading::BaselineHeadingRead;
-pub use heading::read_baseline_heading;
-pub use heading::take_baseline_heading;
-pub use heading::write_baseline_heading;
-pub use ned::NedVector;
-pub use ned::NedVectorRead;
-pub use ned::read_baseline_ned;
-pub use ned::read_vel_ned;
-pub use ned::take_ned;
-pub use ned::write_baseline_ned;
-pub use ned::write_vel_ned;
 pub use pos_ecef::PosEcef;
 pub use pos_ecef::PosEcefRead;
 pub use pos_ecef::read_pos_ecef;
@@ -59,5 +26,3 @@ pub use pos_llh::PosLlhRead;
 pub use pos_llh::read_pos_llh;
 pub use pos_llh::take_pos_llh;
 pub use pos_llh::write_pos_llh;
-pub use range::fix_allowed;
-pub use range::ns_allowed;

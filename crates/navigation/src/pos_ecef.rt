@@ -1,14 +1,14 @@
 // POS_ECEF, 0x0200: the position, Earth centred, in m.
 ghost use mathlib.Core.Path.{_≡_};
 ghost use lib.ListN.{length};
-ghost use Rattle.wire.specs.Layout.{bodyStored};
-ghost use Rattle.wire.specs.Description.{inside, readAs};
-ghost use Rattle.frames.specs.Writer.{senderOf, writtenAnswer};
-ghost use Rattle.frames.specs.Faithful.{writeAnswer, writtenAs};
+ghost use Rattle.layouts.specs.Layout.{bodyStored};
+ghost use Rattle.layouts.specs.Description.{inside, readAs};
+ghost use Rattle.frame_writer.specs.Writer.{senderOf, writtenAnswer};
+ghost use Rattle.frame_writer.specs.Faithful.{writeAnswer, writtenAs};
 ghost use Rattle.navigation.specs.PosEcef.{posEcef, answerOf};
-use crate::range::fix_allowed;
-use frames::Sender;
-use frames::Written;
+use flags::fix_allowed;
+use frame_writer::Sender;
+use frame_writer::Written;
 use wire::Double;
 
 pub struct PosEcef {
@@ -70,10 +70,10 @@ pub fn write_pos_ecef(buf: &mut [u8], sender: Sender, r: PosEcef) -> Written
     ensures { λ _. ⌜ now (buf .exit) ≡ writtenAs posEcef (senderOf sender) r (now (buf .entry)) ⌝ }
 {
     if fix_allowed(r.flags, 2) {
-        let answer = frames::plan(32, buf.len());
+        let answer = frame_writer::plan(32, buf.len());
         if let Written::Bytes(_) = answer {
             put(buf, r);
-            frames::seal(buf, 0x0200, sender, 32);
+            frame_writer::seal(buf, 0x0200, sender, 32);
         }
         return answer;
     }

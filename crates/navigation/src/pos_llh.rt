@@ -1,14 +1,14 @@
 // POS_LLH, 0x0201: the geodetic position, in degrees and m.
 ghost use mathlib.Core.Path.{_≡_};
 ghost use lib.ListN.{length};
-ghost use Rattle.wire.specs.Layout.{bodyStored};
-ghost use Rattle.wire.specs.Description.{inside, readAs};
-ghost use Rattle.frames.specs.Writer.{senderOf, writtenAnswer};
-ghost use Rattle.frames.specs.Faithful.{writeAnswer, writtenAs};
+ghost use Rattle.layouts.specs.Layout.{bodyStored};
+ghost use Rattle.layouts.specs.Description.{inside, readAs};
+ghost use Rattle.frame_writer.specs.Writer.{senderOf, writtenAnswer};
+ghost use Rattle.frame_writer.specs.Faithful.{writeAnswer, writtenAs};
 ghost use Rattle.navigation.specs.PosLlh.{posLlh, answerOf};
-use crate::range::fix_allowed;
-use frames::Sender;
-use frames::Written;
+use flags::fix_allowed;
+use frame_writer::Sender;
+use frame_writer::Written;
 use wire::Double;
 
 pub struct PosLlh {
@@ -73,10 +73,10 @@ pub fn write_pos_llh(buf: &mut [u8], sender: Sender, r: PosLlh) -> Written
     ensures { λ _. ⌜ now (buf .exit) ≡ writtenAs posLlh (senderOf sender) r (now (buf .entry)) ⌝ }
 {
     if fix_allowed(r.flags, 2) {
-        let answer = frames::plan(34, buf.len());
+        let answer = frame_writer::plan(34, buf.len());
         if let Written::Bytes(_) = answer {
             put(buf, r);
-            frames::seal(buf, 0x0201, sender, 34);
+            frame_writer::seal(buf, 0x0201, sender, 34);
         }
         return answer;
     }

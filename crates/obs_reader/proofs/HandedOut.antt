@@ -1,5 +1,5 @@
 -- Many questions, one after the other: from the first on a reader hands out the payload's observations in order, each once, and then refuses
--- for good. Assumes nothing.
+-- for good.
 use mathlib.Core.Path.{_≡_, refl, sym, ap, ap₂, _∙_, subst}
 use mathlib.Core.Bool.{Bool, true, false}
 use mathlib.Core.List.{List, _∷_, _++_, map}
@@ -7,8 +7,8 @@ use Prim.Native.Nat.{ℕ, zero, suc, _+_}
 use native.Mathlib.Nat.{zero-add, suc-add}
 use native.Mathlib.Omega.{arith}
 use lib.ListN.{length, replicate}
-use Rattle.wire.specs.Description.{inside, readAs}
-use Rattle.wire.specs.Refusals.{refused, given}
+use Rattle.layouts.specs.Description.{inside, readAs}
+use Rattle.refusals.specs.Refusals.{refused, given}
 use Rattle.observation.specs.Edition.{Observed, obs, fitting, countIn, Head, first, isObs}
 use Rattle.observation.specs.Obs.{entryAt, readEntryOf}
 use Rattle.observation.specs.declared.entry.Observation.{Observation}

@@ -1,4 +1,4 @@
--- One question: with an observation the reader moves on, and with a refusal it stays. Assumes nothing.
+-- One question: with an observation the reader moves on, and with a refusal it stays.
 use mathlib.Core.Path.{_≡_, refl, sym, ap, _∙_}
 use mathlib.Core.Bool.{Bool, true, false}
 use mathlib.Core.List.{List}
@@ -9,8 +9,8 @@ use native.Mathlib.Omega.{arith}
 use lib.Dec.{ltb}
 use lib.ListN.{length}
 use borrow.Author.Tests.{ltb-true, ltb-false}
-use Rattle.wire.specs.Refusals.{refused, given, Answer}
-use Rattle.wire.proofs.Distinct.{never-both}
+use Rattle.refusals.specs.Refusals.{refused, given, Answer}
+use Rattle.refusals.proofs.Distinct.{never-both}
 use Rattle.observation.specs.Edition.{fitting, countIn, first, isObs}
 use Rattle.observation.specs.Obs.{entryAt, readEntryOf}
 use Rattle.observation.specs.declared.entry.Observation.{Observation}

@@ -1,4 +1,4 @@
--- The reader itself: n questions leave it its type and payload, and `standing` says where it stands. Assumes nothing.
+-- The reader itself: n questions leave it its type and payload, and `standing` says where it stands.
 use mathlib.Core.Path.{_≡_, refl}
 use Prim.Native.Nat.{ℕ, zero, suc}
 use denote.Ref.{now}

@@ -1,8 +1,8 @@
 -- What was written is handed out: over the payload of a header and observations a reader gives those observations back, in order, and then
--- 25. Assumes nothing.
+-- 25.
 use Prim.Native.Nat.{ℕ, _≤_}
 use lib.ListN.{length}
-use Rattle.wire.specs.Layout.{HeldBody, encodeBody}
+use Rattle.layouts.specs.Layout.{HeldBody, encodeBody}
 use Rattle.observation.specs.Edition.{Observed, obs, Head, first}
 use Rattle.observation.specs.declared.entry.Observation.{Observation}
 use Rattle.observation.proofs.Editions.{first-is-obs}

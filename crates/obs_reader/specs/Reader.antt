@@ -1,9 +1,9 @@
 -- Where the reader of a payload's observations stands. What it answers there is observation's `readEntryOf`, which knows the editions; nothing
--- here does. Assumes nothing.
+-- here does.
 use Prim.Native.Nat.{ℕ, _+_}
 use mathlib.Core.List.{List}
 use denote.Ref.{now}
-use Rattle.wire.specs.Refusals.{refused, given, Answer}
+use Rattle.refusals.specs.Refusals.{refused, given, Answer}
 use Rattle.observation.specs.Obs.{readEntryOf}
 use Rattle.observation.specs.declared.entry.Observation.{Observation}
 use Rattle.obs_reader.specs.declared.ObsReader.{ObsReader}

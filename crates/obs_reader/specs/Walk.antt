@@ -1,11 +1,11 @@
--- A reader that is asked again and again: what it answers and where it then stands, and what document 01 wants of that. Assumes nothing.
+-- A reader that is asked again and again: what it answers and where it then stands, and what document 01 wants of that.
 use Prim.Native.Nat.{ℕ, zero, suc, _+_}
 use mathlib.Core.Path.{_≡_}
 use mathlib.Core.Bool.{_&&_, cond}
 use mathlib.Core.List.{List, [], _∷_, _++_, map}
 use lib.ListN.{length, replicate}
-use Rattle.wire.specs.Refusals.{refused, given, Answer}
-use Rattle.wire.specs.Description.{inside}
+use Rattle.refusals.specs.Refusals.{refused, given, Answer}
+use Rattle.layouts.specs.Description.{inside}
 use Rattle.observation.specs.Edition.{obs, fitting, first, isObs}
 use Rattle.observation.specs.Obs.{readEntryOf}
 use Rattle.observation.specs.declared.entry.Observation.{Observation}

@@ -1,5 +1,5 @@
 -- An edition of OBS: which types are observations; which lengths its payloads have, those of a header and k observations, k up to the most; and
--- how long what is written is. Assumes nothing.
+-- how long what is written is.
 use mathlib.Core.Path.{_≡_, refl, sym, ap, _∙_}
 use mathlib.Core.Bool.{true, false}
 use mathlib.Core.List.{List, [], _∷_}
@@ -10,10 +10,10 @@ use lib.Dec.{leb}
 use lib.ListN.{length, take}
 use lib.Seq.{length-take-le}
 use borrow.Author.Tests.{le-leb, lt-leb, eq-eqb, ne-eqb, eqb-true}
-use Rattle.wire.specs.Field.{size}
-use Rattle.wire.specs.Layout.{bodySize}
-use Rattle.wire.specs.Description.{Part, rowsOf}
-use Rattle.wire.proofs.Layouts.{lengths-of}
+use Rattle.layouts.specs.Field.{size}
+use Rattle.layouts.specs.Layout.{bodySize}
+use Rattle.layouts.specs.Description.{Part, rowsOf}
+use Rattle.layouts.proofs.Layouts.{lengths-of}
 use Rattle.observation.specs.Edition.{Edition, obs, fitting, countIn, startOf, first, isObs}
 use Rattle.observation.specs.ObsWriter.{observed}
 

@@ -1,5 +1,4 @@
 -- Rows of one part stored one after the other, over the part: the loop of a writer that lends each row the buffer from where the row begins.
--- Assumes nothing.
 use mathlib.Core.Path.{_≡_, sym, ap, ap₂, _∙_}
 use mathlib.Core.List.{List, _∷_}
 use Prim.Native.Nat.{ℕ, suc, _+_, _-_, _*_, _≤_, _<_}
@@ -8,13 +7,13 @@ use native.Mathlib.Numerals.{add-one}
 use native.Mathlib.Omega.{arith}
 use lib.ListN.{length, getD, take, drop, drop-of-length-le}
 use lib.Seq.{sets, drop-cons, getD-take, length-take-le}
-use Rattle.wire.specs.Field.{Row, size, encode, rowStored}
-use Rattle.wire.specs.Layout.{rowsStored}
-use Rattle.wire.specs.Description.{Part, rowsOf}
+use Rattle.layouts.specs.Field.{Row, size, encode, rowStored}
+use Rattle.layouts.specs.Layout.{rowsStored}
+use Rattle.layouts.specs.Description.{Part, rowsOf}
 use Rattle.wire.proofs.Numbers.{sets-lent}
 use Rattle.wire.proofs.Lent.{lentFrom, backFrom, lent-length}
-use Rattle.wire.proofs.Fields.{row-sets}
-use Rattle.wire.proofs.Layouts.{length-rows-stored}
+use Rattle.layouts.proofs.Fields.{row-sets}
+use Rattle.layouts.proofs.Layouts.{length-rows-stored}
 
 -- where row i goes, the first at some offset
 abbrev rowStart : {R : Type 0} → Part R → ℕ → ℕ → ℕ

@@ -1,5 +1,5 @@
 -- OBS read, over the edition: what each reading answers, case by case; and that they show the whole message: its header, how many observations it
--- has, and each of them. Assumes nothing.
+-- has, and each of them.
 use mathlib.Core.Path.{_≡_, refl, sym, ap, ap₂, _∙_}
 use mathlib.Core.Bool.{Bool, true, false}
 use mathlib.Core.List.{List, [], _∷_}
@@ -9,14 +9,14 @@ use native.Mathlib.Omega.{arith}
 use lib.ListN.{length, getD, drop, length-drop}
 use lib.Seq.{drop-drop}
 use borrow.Author.Tests.{lt-ltb, le-ltb}
-use Rattle.wire.specs.Field.{Row, allowedRow, size, decode}
-use Rattle.wire.specs.Layout.{decodeRows, allowedBody, decodeBody}
-use Rattle.wire.specs.Layout as lay
-use Rattle.wire.specs.Description.{madeOf, inside, reading, readAs}
-use Rattle.wire.specs.Refusals.{refused, given}
-use Rattle.wire.proofs.Ordered.{exactly-all}
-use Rattle.wire.proofs.Fields.{decode-drop}
-use Rattle.wire.proofs.Layouts.{allowed-rows, length-rows}
+use Rattle.layouts.specs.Field.{Row, allowedRow, size, decode}
+use Rattle.layouts.specs.Layout.{decodeRows, allowedBody, decodeBody}
+use Rattle.layouts.specs.Layout as lay
+use Rattle.layouts.specs.Description.{madeOf, inside, reading, readAs}
+use Rattle.refusals.specs.Refusals.{refused, given}
+use Rattle.refusals.proofs.Ordered.{exactly-all}
+use Rattle.layouts.proofs.Fields.{decode-drop}
+use Rattle.layouts.proofs.Layouts.{allowed-rows, length-rows}
 use Rattle.observation.specs.Edition.{Edition, Observed, obs, fitting, countIn, startOf, Head, first, isObs}
 use Rattle.observation.specs.Obs.{entryAt, readEntry, readEntryOf, shown, obsIn, readObs}
 use Rattle.observation.specs.declared.entry.Observation.{Observation}

@@ -1,4 +1,4 @@
--- OBS keeps its promise: that of every message, brought to what the code reads and writes. Assumes nothing.
+-- OBS keeps its promise: that of every message, brought to what the code reads and writes.
 use mathlib.Core.Path.{_≡_, refl, sym, ap, _∙_}
 use mathlib.Core.List.{List, [], _∷_}
 use Prim.Native.Nat.{ℕ, _≤_, _<_}
@@ -9,17 +9,17 @@ use lib.Seq.{getD-take, length-take-le, take-all}
 use borrow.Author.Tests.{le-leb}
 use mir.Syntax.{w32}
 use Rattle.wire.specs.Number.{Bytes}
-use Rattle.wire.specs.Layout.{HeldRows, SettledRows, HeldBody, SettledBody, encodeBody}
-use Rattle.wire.specs.Description.{rowsOf, inside, readAs}
-use Rattle.wire.specs.Refusals.{given}
-use Rattle.wire.proofs.Fields.{signed-settled}
-use Rattle.wire.proofs.Layouts.{allowed-rows}
-use Rattle.wire.proofs.Descriptions.{reads-same}
+use Rattle.layouts.specs.Layout.{HeldRows, SettledRows, HeldBody, SettledBody, encodeBody}
+use Rattle.layouts.specs.Description.{rowsOf, inside, readAs}
+use Rattle.refusals.specs.Refusals.{given}
+use Rattle.layouts.proofs.Fields.{signed-settled}
+use Rattle.layouts.proofs.Layouts.{allowed-rows}
+use Rattle.layouts.proofs.Descriptions.{reads-same}
 use Rattle.frames.specs.Step.{stepAt, payloadIn}
-use Rattle.frames.specs.Writer.{withFrame}
-use Rattle.frames.specs.Faithful.{Faithful, writeAnswer, writtenAs}
+use Rattle.frame_writer.specs.Writer.{withFrame}
+use Rattle.frame_writer.specs.Faithful.{Faithful, writeAnswer, writtenAs}
 use Rattle.frames.specs.declared.step.Step.the-variants.{Found}
-use Rattle.frames.proofs.Promised.{faithful}
+use Rattle.frame_writer.proofs.Promised.{faithful}
 use Rattle.observation.specs.Edition.{Observed, obs, Head, observation, first}
 use Rattle.observation.specs.Obs.{readObs, readEntry, shown}
 use Rattle.observation.specs.ObsWriter.{obsWriteAnswer, observed, obsWritten, headOf}

@@ -1,20 +1,19 @@
 -- OBS written, over the edition: the ways through the writer; and a header and the first k of enough observations are written as every message is.
--- Assumes nothing.
 use mathlib.Core.Path.{_≡_, refl, sym, ap, _∙_}
 use mathlib.Core.Bool.{true, false}
 use mathlib.Core.List.{List}
 use Prim.Native.Nat.{ℕ, _+_, _≤_, _<_}
 use lib.ListN.{length, take}
 use borrow.Author.Tests.{le-leb, lt-leb}
-use Rattle.wire.specs.Field.{Row, allowedRow, size, rowStored}
-use Rattle.wire.specs.Layout.{rowsStored, allowedBody, fewEnough, bodySize, encodeBody}
-use Rattle.wire.specs.Description.{rowsOf}
-use Rattle.wire.specs.Refusals.{refused, given, Answer, leaves}
-use Rattle.wire.proofs.Layouts.{allowed-rows}
+use Rattle.layouts.specs.Field.{Row, allowedRow, size, rowStored}
+use Rattle.layouts.specs.Layout.{rowsStored, allowedBody, fewEnough, bodySize, encodeBody}
+use Rattle.layouts.specs.Description.{rowsOf}
+use Rattle.refusals.specs.Refusals.{refused, given, Answer, leaves}
+use Rattle.layouts.proofs.Layouts.{allowed-rows}
 use Rattle.frames.specs.Frame.{frameBytes}
-use Rattle.frames.specs.Writer.{planned, startingWith, sealed}
-use Rattle.frames.specs.Faithful.{writeAnswer, writtenAs}
-use Rattle.frames.proofs.Promised as promised
+use Rattle.frame_writer.specs.Writer.{planned, startingWith, sealed}
+use Rattle.frame_writer.specs.Faithful.{writeAnswer, writtenAs}
+use Rattle.frame_writer.proofs.Promised as promised
 use Rattle.observation.specs.Edition.{Edition, Observed, obs, startOf}
 use Rattle.observation.specs.ObsWriter.{obsWriteAnswer, observed, obsWritten}
 use Rattle.observation.proofs.Editions.{first-rows, sized}

@@ -1,14 +1,15 @@
 -- An edition of OBS: its type, its header, its observations, and how many of them at most. What OBS is, of any edition, is said over this
--- record; document 01 has the first. Assumes nothing.
+-- record; document 01 has the first.
 use Prim.Native.Nat.{ℕ, _+_, _-_, _*_}
 use mathlib.Core.Path.{refl}
 use mathlib.Core.Bool.{Bool}
 use mathlib.Core.List.{List, [], _∷_}
 use lib.Dec.{eqb}
-use Rattle.wire.specs.Field.{any, u8, u16, u32, s32, size}
-use Rattle.wire.specs.Layout.{then, rows, lengths}
-use Rattle.wire.specs.Layout as lay
-use Rattle.wire.specs.Description.{Description, Part, rowsOf, madeOf, rows-made, made-rows}
+use Rattle.wire.specs.Value.{u8, u16, u32, s32}
+use Rattle.layouts.specs.Field.{any, size}
+use Rattle.layouts.specs.Layout.{then, rows, lengths}
+use Rattle.layouts.specs.Layout as lay
+use Rattle.layouts.specs.Description.{Description, Part, rowsOf, madeOf, rows-made, made-rows}
 use Rattle.observation.specs.declared.entry.Observation.{Observation}
 
 pub record Edition (H O : Type 0) : Type 0 where

@@ -2,6 +2,3 @@ pub mod Edition
 pub mod Obs
 pub mod ObsWriter
 pub mod ObsFaithful
-pub mod Phase
-pub mod BasePosLlh
-pub mod BasePosEcef

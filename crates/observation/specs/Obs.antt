@@ -1,11 +1,11 @@
 -- OBS read: its header and how many observations follow, and one observation by its index. Each answer by its own tests in order, over the
--- edition. Assumes nothing.
+-- edition.
 use Prim.Native.Nat.{ℕ}
 use mathlib.Core.List.{List, [], _∷_}
 use lib.Dec.{ltb}
 use lib.ListN.{length}
-use Rattle.wire.specs.Field.{decode}
-use Rattle.wire.specs.Refusals.{refused, given, Answer, Tests, ordered}
+use Rattle.layouts.specs.Field.{decode}
+use Rattle.refusals.specs.Refusals.{refused, given, Answer, Tests, ordered}
 use Rattle.observation.specs.Edition.{Edition, Observed, fitting, countIn, startOf, Head, first, isObs}
 use Rattle.observation.specs.declared.entry.Observation.{Observation}
 use Rattle.observation.specs.declared.entry.ObservationRead.{ObservationRead}

@@ -1,15 +1,15 @@
--- What is promised of OBS: it is faithful as every message is, and what the code reads and writes of it is that message. Assumes nothing.
+-- What is promised of OBS: it is faithful as every message is, and what the code reads and writes of it is that message.
 use Prim.Native.Nat.{ℕ, _≤_, _<_}
 use mathlib.Core.Path.{_≡_}
 use mathlib.Core.List.{List}
 use lib.ListN.{length, getD}
 use Rattle.wire.specs.Number.{Bytes}
-use Rattle.wire.specs.Layout.{HeldBody}
-use Rattle.wire.specs.Description.{inside}
-use Rattle.wire.specs.Refusals.{given}
+use Rattle.layouts.specs.Layout.{HeldBody}
+use Rattle.layouts.specs.Description.{inside}
+use Rattle.refusals.specs.Refusals.{given}
 use Rattle.frames.specs.Step.{stepAt, payloadIn}
-use Rattle.frames.specs.Writer.{withFrame}
-use Rattle.frames.specs.Faithful.{Faithful, frameWritten}
+use Rattle.frame_writer.specs.Writer.{withFrame}
+use Rattle.frame_writer.specs.Faithful.{Faithful, frameWritten}
 use Rattle.frames.specs.declared.step.Frame.{Frame}
 use Rattle.frames.specs.declared.step.Step.the-variants.{Found}
 use Rattle.observation.specs.Edition.{Observed, obs, Head, first}

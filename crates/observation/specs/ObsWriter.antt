@@ -1,12 +1,12 @@
--- OBS written: a header and the first k of some observations, over the edition. Assumes nothing.
+-- OBS written: a header and the first k of some observations, over the edition.
 use Prim.Native.Nat.{ℕ, _+_}
 use mathlib.Core.List.{List, _∷_}
 use lib.Dec.{leb}
 use lib.ListN.{length, take}
-use Rattle.wire.specs.Layout.{encodeBody}
-use Rattle.wire.specs.Refusals.{Answer, Tests, ordered, leaves}
+use Rattle.layouts.specs.Layout.{encodeBody}
+use Rattle.refusals.specs.Refusals.{Answer, Tests, ordered, leaves}
 use Rattle.frames.specs.Frame.{frameBytes}
-use Rattle.frames.specs.Writer.{writingFrame, startingWith}
+use Rattle.frame_writer.specs.Writer.{writingFrame, startingWith}
 use Rattle.observation.specs.Edition.{Edition, Observed, obs, startOf, Head}
 use Rattle.observation.specs.declared.obs.Obs.{Obs}
 

@@ -1,6 +1,6 @@
 // One observation of an OBS payload.
 ghost use mathlib.Core.Path.{_≡_};
-ghost use Rattle.wire.specs.Field.{decode, rowStored};
+ghost use Rattle.layouts.specs.Field.{decode, rowStored};
 ghost use Rattle.observation.specs.Edition.{observation, first};
 ghost use Rattle.observation.specs.Obs.{readEntry, readEntryOf, entryAnswer};
 use crate::obs::EACH;

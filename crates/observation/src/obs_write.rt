@@ -2,10 +2,10 @@
 ghost use Prim.Native.Nat.{_+_, _*_, _≤_};
 ghost use mathlib.Core.Path.{_≡_};
 ghost use lib.ListN.{length, take};
-ghost use Rattle.wire.specs.Field.{rowStored};
-ghost use Rattle.wire.specs.Layout.{rowsStored};
-ghost use Rattle.wire.specs.Description.{rowsOf};
-ghost use Rattle.frames.specs.Writer.{senderOf, writtenAnswer};
+ghost use Rattle.layouts.specs.Field.{rowStored};
+ghost use Rattle.layouts.specs.Layout.{rowsStored};
+ghost use Rattle.layouts.specs.Description.{rowsOf};
+ghost use Rattle.frame_writer.specs.Writer.{senderOf, writtenAnswer};
 ghost use Rattle.observation.specs.Edition.{head, observation, first};
 ghost use Rattle.observation.specs.ObsWriter.{headOf, obsWriteAnswer, obsWritten};
 use crate::entry::Observation;
@@ -14,8 +14,8 @@ use crate::obs::EACH;
 use crate::obs::HEAD;
 use crate::obs::MOST;
 use crate::obs::Obs;
-use frames::Sender;
-use frames::Written;
+use frame_writer::Sender;
+use frame_writer::Written;
 
 // Where the observations go in a frame: behind the six bytes before the payload, and the header.
 const ENTRIES: usize = 6 + HEAD;
@@ -54,11 +54,11 @@ pub fn write_obs(buf: &mut [u8], sender: Sender, obs: Obs, entries: [Observation
         return Written::Refused(31);
     }
     let n = HEAD + k * EACH;
-    let answer = frames::plan(n, buf.len());
+    let answer = frame_writer::plan(n, buf.len());
     if let Written::Bytes(_) = answer {
         put_head(buf, obs);
         put_entries(buf, entries, k);
-        frames::seal(buf, 0x0049, sender, n);
+        frame_writer::seal(buf, 0x0049, sender, n);
     }
     answer
 }

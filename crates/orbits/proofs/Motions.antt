@@ -1,9 +1,9 @@
--- A motion at an offset is three vectors, one after the other. Assumes nothing.
+-- A motion at an offset is three vectors, one after the other.
 use Prim.Native.Nat.{ℕ, _+_}
 use mathlib.Core.Path.{_≡_, ap, _∙_}
 use mathlib.Core.List.{List}
-use Rattle.wire.specs.Together.{takenAt, putAt, both}
-use Rattle.wire.proofs.Together.{taken-both, put-both}
+use Rattle.layouts.specs.Together.{takenAt, putAt, both}
+use Rattle.layouts.proofs.Together.{taken-both, put-both}
 use Rattle.orbits.specs.Motion.{vector, motion}
 use Rattle.orbits.specs.declared.motion.Motion.{Motion}
 

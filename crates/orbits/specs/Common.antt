@@ -1,10 +1,11 @@
 -- What every ephemeris begins with, 24 bytes: the satellite, the time of ephemeris, accuracy in m, fit interval in s, valid, health. No field has a
--- range. Assumes nothing.
+-- range.
 use mathlib.Core.Path.{refl}
 use mathlib.Core.List.{[], _∷_}
-use Rattle.wire.specs.Field.{any, u8, u16, u32, double}
-use Rattle.wire.specs.Description.{Part}
-use Rattle.wire.specs.Together.{loose, both, named}
+use Rattle.wire.specs.Value.{u8, u16, u32, double}
+use Rattle.layouts.specs.Field.{any}
+use Rattle.layouts.specs.Description.{Part}
+use Rattle.layouts.specs.Together.{loose, both, named}
 use Rattle.orbits.specs.declared.satellite.Satellite.{Satellite}
 use Rattle.orbits.specs.declared.time_of_week.TimeOfWeek.{TimeOfWeek}
 use Rattle.orbits.specs.declared.common.EphemerisCommon.{EphemerisCommon}

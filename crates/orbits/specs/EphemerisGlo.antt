@@ -1,10 +1,11 @@
--- EPHEMERIS_GLO, 0x0083, 112 bytes: the carrier's relative deviation, the correction to the satellite's time (s), where it is and how it moves. Assumes nothing.
+-- EPHEMERIS_GLO, 0x0083, 112 bytes: the carrier's relative deviation, the correction to the satellite's time (s), where it is and how it moves.
 use mathlib.Core.Path.{refl}
 use mathlib.Core.List.{[], _∷_}
-use Rattle.wire.specs.Field.{any, double}
-use Rattle.wire.specs.Description.{Description}
-use Rattle.wire.specs.Together.{loose, both, named, message}
-use Rattle.wire.specs.Refusals.{refused, given, Answer}
+use Rattle.wire.specs.Value.{double}
+use Rattle.layouts.specs.Field.{any}
+use Rattle.layouts.specs.Description.{Description}
+use Rattle.layouts.specs.Together.{loose, both, named, message}
+use Rattle.refusals.specs.Refusals.{refused, given, Answer}
 use Rattle.orbits.specs.Common.{common}
 use Rattle.orbits.specs.Motion.{motion}
 use Rattle.orbits.specs.declared.ephemeris_glo.EphemerisGlo.{EphemerisGlo}

@@ -1,10 +1,11 @@
--- EPHEMERIS_GPS, 0x0081, 185 bytes: the orbit by its elements, and the clock. Assumes nothing.
+-- EPHEMERIS_GPS, 0x0081, 185 bytes: the orbit by its elements, and the clock.
 use mathlib.Core.Path.{refl}
 use mathlib.Core.List.{[], _∷_}
-use Rattle.wire.specs.Field.{any, u8, u16, double}
-use Rattle.wire.specs.Description.{Description, Part}
-use Rattle.wire.specs.Together.{loose, both, named, message}
-use Rattle.wire.specs.Refusals.{refused, given, Answer}
+use Rattle.wire.specs.Value.{u8, u16, double}
+use Rattle.layouts.specs.Field.{any}
+use Rattle.layouts.specs.Description.{Description, Part}
+use Rattle.layouts.specs.Together.{loose, both, named, message}
+use Rattle.refusals.specs.Refusals.{refused, given, Answer}
 use Rattle.orbits.specs.Common.{timeOfWeek, common}
 use Rattle.orbits.specs.declared.elements.Harmonics.{Harmonics}
 use Rattle.orbits.specs.declared.elements.Ellipse.{Ellipse}

@@ -1,10 +1,11 @@
--- EPHEMERIS_SBAS, 0x0082, 112 bytes: where the satellite is and how it moves, and its clock's offset (s) and drift (s/s). Assumes nothing.
+-- EPHEMERIS_SBAS, 0x0082, 112 bytes: where the satellite is and how it moves, and its clock's offset (s) and drift (s/s).
 use mathlib.Core.Path.{refl}
 use mathlib.Core.List.{[], _∷_}
-use Rattle.wire.specs.Field.{any, double}
-use Rattle.wire.specs.Description.{Description}
-use Rattle.wire.specs.Together.{loose, both, named, message}
-use Rattle.wire.specs.Refusals.{refused, given, Answer}
+use Rattle.wire.specs.Value.{double}
+use Rattle.layouts.specs.Field.{any}
+use Rattle.layouts.specs.Description.{Description}
+use Rattle.layouts.specs.Together.{loose, both, named, message}
+use Rattle.refusals.specs.Refusals.{refused, given, Answer}
 use Rattle.orbits.specs.Common.{common}
 use Rattle.orbits.specs.Motion.{motion}
 use Rattle.orbits.specs.declared.ephemeris_sbas.EphemerisSbas.{EphemerisSbas}

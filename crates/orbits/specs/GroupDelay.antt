@@ -1,10 +1,11 @@
--- GROUP_DELAY, 0x0092, 14 bytes: a satellite's group delays, signed, in 2^-35 s, and which of them are valid. Assumes nothing.
+-- GROUP_DELAY, 0x0092, 14 bytes: a satellite's group delays, signed, in 2^-35 s, and which of them are valid.
 use mathlib.Core.Path.{refl}
 use mathlib.Core.List.{[], _∷_}
-use Rattle.wire.specs.Field.{any, u8, s16}
-use Rattle.wire.specs.Description.{Description}
-use Rattle.wire.specs.Together.{loose, both, named, message}
-use Rattle.wire.specs.Refusals.{refused, given, Answer}
+use Rattle.wire.specs.Value.{u8, s16}
+use Rattle.layouts.specs.Field.{any}
+use Rattle.layouts.specs.Description.{Description}
+use Rattle.layouts.specs.Together.{loose, both, named, message}
+use Rattle.refusals.specs.Refusals.{refused, given, Answer}
 use Rattle.orbits.specs.Common.{timeOfWeek}
 use Rattle.orbits.specs.declared.group_delay.GroupDelay.{GroupDelay}
 use Rattle.orbits.specs.declared.group_delay.GroupDelayRead.{GroupDelayRead}

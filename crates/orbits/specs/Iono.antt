@@ -1,10 +1,11 @@
--- IONO, 0x0090, 70 bytes: two polynomials of the ionospheric model, alpha and beta. Assumes nothing.
+-- IONO, 0x0090, 70 bytes: two polynomials of the ionospheric model, alpha and beta.
 use mathlib.Core.Path.{refl}
 use mathlib.Core.List.{[], _∷_}
-use Rattle.wire.specs.Field.{any, double}
-use Rattle.wire.specs.Description.{Description, Part}
-use Rattle.wire.specs.Together.{both, named, message}
-use Rattle.wire.specs.Refusals.{refused, given, Answer}
+use Rattle.wire.specs.Value.{double}
+use Rattle.layouts.specs.Field.{any}
+use Rattle.layouts.specs.Description.{Description, Part}
+use Rattle.layouts.specs.Together.{both, named, message}
+use Rattle.refusals.specs.Refusals.{refused, given, Answer}
 use Rattle.orbits.specs.Common.{timeOfWeek}
 use Rattle.orbits.specs.declared.iono.Cubic.{Cubic}
 use Rattle.orbits.specs.declared.iono.Iono.{Iono}

@@ -1,9 +1,10 @@
--- Position in m, velocity in m/s and acceleration in m/s^2 of a satellite, 72 bytes. Assumes nothing.
+-- Position in m, velocity in m/s and acceleration in m/s^2 of a satellite, 72 bytes.
 use mathlib.Core.Path.{refl}
 use mathlib.Core.List.{[], _∷_}
-use Rattle.wire.specs.Field.{any, double}
-use Rattle.wire.specs.Description.{Part}
-use Rattle.wire.specs.Together.{both, named}
+use Rattle.wire.specs.Value.{double}
+use Rattle.layouts.specs.Field.{any}
+use Rattle.layouts.specs.Description.{Part}
+use Rattle.layouts.specs.Together.{both, named}
 use Rattle.orbits.specs.declared.motion.Vector.{Vector}
 use Rattle.orbits.specs.declared.motion.Motion.{Motion}
 

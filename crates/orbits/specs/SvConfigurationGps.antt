@@ -1,10 +1,11 @@
--- SV_CONFIGURATION_GPS, 0x0091, 10 bytes: which satellites send L2C, satellite 1 in the lowest bit. Assumes nothing.
+-- SV_CONFIGURATION_GPS, 0x0091, 10 bytes: which satellites send L2C, satellite 1 in the lowest bit.
 use mathlib.Core.Path.{refl}
 use mathlib.Core.List.{[], _∷_}
-use Rattle.wire.specs.Field.{any, u32}
-use Rattle.wire.specs.Description.{Description}
-use Rattle.wire.specs.Together.{loose, both, named, message}
-use Rattle.wire.specs.Refusals.{refused, given, Answer}
+use Rattle.wire.specs.Value.{u32}
+use Rattle.layouts.specs.Field.{any}
+use Rattle.layouts.specs.Description.{Description}
+use Rattle.layouts.specs.Together.{loose, both, named, message}
+use Rattle.refusals.specs.Refusals.{refused, given, Answer}
 use Rattle.orbits.specs.Common.{timeOfWeek}
 use Rattle.orbits.specs.declared.sv_configuration_gps.SvConfigurationGps.{SvConfigurationGps}
 use Rattle.orbits.specs.declared.sv_configuration_gps.SvConfigurationGpsRead.{SvConfigurationGpsRead}

@@ -1,6 +1,6 @@
 // A GPS satellite's clock: a polynomial from its time on, where it stands in EPHEMERIS_GPS.
 ghost use mathlib.Core.Path.{_≡_};
-ghost use Rattle.wire.specs.Together.{takenAt, putAt};
+ghost use Rattle.layouts.specs.Together.{takenAt, putAt};
 ghost use Rattle.orbits.specs.EphemerisGps.{clock};
 use crate::time_of_week;
 use crate::time_of_week::TimeOfWeek;

@@ -1,6 +1,6 @@
 // What every ephemeris begins with.
 ghost use mathlib.Core.Path.{_≡_};
-ghost use Rattle.wire.specs.Together.{takenAt, putAt};
+ghost use Rattle.layouts.specs.Together.{takenAt, putAt};
 ghost use Rattle.orbits.specs.Common.{common};
 use crate::satellite;
 use crate::satellite::Satellite;

@@ -1,6 +1,6 @@
 // The elements of a GPS satellite's orbit, where they stand in EPHEMERIS_GPS.
 ghost use mathlib.Core.Path.{_≡_};
-ghost use Rattle.wire.specs.Together.{takenAt, putAt};
+ghost use Rattle.layouts.specs.Together.{takenAt, putAt};
 ghost use Rattle.orbits.specs.EphemerisGps.{harmonics, ellipse, plane};
 use wire::Double;
 

@@ -1,10 +1,10 @@
 // EPHEMERIS_GPS, 0x0081: the orbit by its elements, and the clock.
 ghost use mathlib.Core.Path.{_≡_};
 ghost use lib.ListN.{length};
-ghost use Rattle.wire.specs.Layout.{bodyStored};
-ghost use Rattle.wire.specs.Description.{inside, readAs};
-ghost use Rattle.frames.specs.Writer.{senderOf, writtenAnswer};
-ghost use Rattle.frames.specs.Faithful.{writeAnswer, writtenAs};
+ghost use Rattle.layouts.specs.Layout.{bodyStored};
+ghost use Rattle.layouts.specs.Description.{inside, readAs};
+ghost use Rattle.frame_writer.specs.Writer.{senderOf, writtenAnswer};
+ghost use Rattle.frame_writer.specs.Faithful.{writeAnswer, writtenAs};
 ghost use Rattle.orbits.specs.EphemerisGps.{ephemerisGps, answerOf};
 use crate::clock;
 use crate::clock::Clock;
@@ -14,8 +14,8 @@ use crate::elements;
 use crate::elements::Ellipse;
 use crate::elements::Harmonics;
 use crate::elements::Plane;
-use frames::Sender;
-use frames::Written;
+use frame_writer::Sender;
+use frame_writer::Written;
 use wire::Double;
 
 pub struct EphemerisGps {
@@ -75,10 +75,10 @@ pub fn write_ephemeris_gps(buf: &mut [u8], sender: Sender, r: EphemerisGps) -> W
     ensures { λ w. ⌜ writtenAnswer w ≡ writeAnswer ephemerisGps r (length (now (buf .entry))) ⌝ }
     ensures { λ _. ⌜ now (buf .exit) ≡ writtenAs ephemerisGps (senderOf sender) r (now (buf .entry)) ⌝ }
 {
-    let answer = frames::plan(185, buf.len());
+    let answer = frame_writer::plan(185, buf.len());
     if let Written::Bytes(_) = answer {
         put(buf, r);
-        frames::seal(buf, 0x0081, sender, 185);
+        frame_writer::seal(buf, 0x0081, sender, 185);
     }
     answer
 }

@@ -1,17 +1,17 @@
 // EPHEMERIS_SBAS, 0x0082: where the satellite is and how it moves, and its clock.
 ghost use mathlib.Core.Path.{_≡_};
 ghost use lib.ListN.{length};
-ghost use Rattle.wire.specs.Layout.{bodyStored};
-ghost use Rattle.wire.specs.Description.{inside, readAs};
-ghost use Rattle.frames.specs.Writer.{senderOf, writtenAnswer};
-ghost use Rattle.frames.specs.Faithful.{writeAnswer, writtenAs};
+ghost use Rattle.layouts.specs.Layout.{bodyStored};
+ghost use Rattle.layouts.specs.Description.{inside, readAs};
+ghost use Rattle.frame_writer.specs.Writer.{senderOf, writtenAnswer};
+ghost use Rattle.frame_writer.specs.Faithful.{writeAnswer, writtenAs};
 ghost use Rattle.orbits.specs.EphemerisSbas.{ephemerisSbas, answerOf};
 use crate::common;
 use crate::common::EphemerisCommon;
 use crate::motion;
 use crate::motion::Motion;
-use frames::Sender;
-use frames::Written;
+use frame_writer::Sender;
+use frame_writer::Written;
 use wire::Double;
 
 pub struct EphemerisSbas {
@@ -59,10 +59,10 @@ pub fn write_ephemeris_sbas(buf: &mut [u8], sender: Sender, r: EphemerisSbas) ->
     ensures { λ w. ⌜ writtenAnswer w ≡ writeAnswer ephemerisSbas r (length (now (buf .entry))) ⌝ }
     ensures { λ _. ⌜ now (buf .exit) ≡ writtenAs ephemerisSbas (senderOf sender) r (now (buf .entry)) ⌝ }
 {
-    let answer = frames::plan(112, buf.len());
+    let answer = frame_writer::plan(112, buf.len());
     if let Written::Bytes(_) = answer {
         put(buf, r);
-        frames::seal(buf, 0x0082, sender, 112);
+        frame_writer::seal(buf, 0x0082, sender, 112);
     }
     answer
 }

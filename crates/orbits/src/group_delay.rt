@@ -1,15 +1,15 @@
 // GROUP_DELAY, 0x0092: a satellite's group delays, signed, in 2^-35 s.
 ghost use mathlib.Core.Path.{_≡_};
 ghost use lib.ListN.{length};
-ghost use Rattle.wire.specs.Layout.{bodyStored};
-ghost use Rattle.wire.specs.Description.{inside, readAs};
-ghost use Rattle.frames.specs.Writer.{senderOf, writtenAnswer};
-ghost use Rattle.frames.specs.Faithful.{writeAnswer, writtenAs};
+ghost use Rattle.layouts.specs.Layout.{bodyStored};
+ghost use Rattle.layouts.specs.Description.{inside, readAs};
+ghost use Rattle.frame_writer.specs.Writer.{senderOf, writtenAnswer};
+ghost use Rattle.frame_writer.specs.Faithful.{writeAnswer, writtenAs};
 ghost use Rattle.orbits.specs.GroupDelay.{groupDelay, answerOf};
 use crate::time_of_week;
 use crate::time_of_week::TimeOfWeek;
-use frames::Sender;
-use frames::Written;
+use frame_writer::Sender;
+use frame_writer::Written;
 
 pub struct GroupDelay {
     pub t_op: TimeOfWeek,
@@ -62,10 +62,10 @@ pub fn write_group_delay(buf: &mut [u8], sender: Sender, r: GroupDelay) -> Writt
     ensures { λ w. ⌜ writtenAnswer w ≡ writeAnswer groupDelay r (length (now (buf .entry))) ⌝ }
     ensures { λ _. ⌜ now (buf .exit) ≡ writtenAs groupDelay (senderOf sender) r (now (buf .entry)) ⌝ }
 {
-    let answer = frames::plan(14, buf.len());
+    let answer = frame_writer::plan(14, buf.len());
     if let Written::Bytes(_) = answer {
         put(buf, r);
-        frames::seal(buf, 0x0092, sender, 14);
+        frame_writer::seal(buf, 0x0092, sender, 14);
     }
     answer
 }

@@ -2,16 +2,16 @@
 ghost use mathlib.Core.Path.{_≡_};
 ghost use Prim.Native.Nat.{_<_};
 ghost use lib.ListN.{length};
-ghost use Rattle.wire.specs.Together.{takenAt, putAt};
-ghost use Rattle.wire.specs.Layout.{bodyStored};
-ghost use Rattle.wire.specs.Description.{inside, readAs};
-ghost use Rattle.frames.specs.Writer.{senderOf, writtenAnswer};
-ghost use Rattle.frames.specs.Faithful.{writeAnswer, writtenAs};
+ghost use Rattle.layouts.specs.Together.{takenAt, putAt};
+ghost use Rattle.layouts.specs.Layout.{bodyStored};
+ghost use Rattle.layouts.specs.Description.{inside, readAs};
+ghost use Rattle.frame_writer.specs.Writer.{senderOf, writtenAnswer};
+ghost use Rattle.frame_writer.specs.Faithful.{writeAnswer, writtenAs};
 ghost use Rattle.orbits.specs.Iono.{iono, cubic, answerOf};
 use crate::time_of_week;
 use crate::time_of_week::TimeOfWeek;
-use frames::Sender;
-use frames::Written;
+use frame_writer::Sender;
+use frame_writer::Written;
 use wire::Double;
 
 // 003's a0 to a3, or b0 to b3.
@@ -92,10 +92,10 @@ pub fn write_iono(buf: &mut [u8], sender: Sender, r: Iono) -> Written
     ensures { λ w. ⌜ writtenAnswer w ≡ writeAnswer iono r (length (now (buf .entry))) ⌝ }
     ensures { λ _. ⌜ now (buf .exit) ≡ writtenAs iono (senderOf sender) r (now (buf .entry)) ⌝ }
 {
-    let answer = frames::plan(70, buf.len());
+    let answer = frame_writer::plan(70, buf.len());
     if let Written::Bytes(_) = answer {
         put(buf, r);
-        frames::seal(buf, 0x0090, sender, 70);
+        frame_writer::seal(buf, 0x0090, sender, 70);
     }
     answer
 }

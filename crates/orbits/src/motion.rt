@@ -1,7 +1,7 @@
 // Position, velocity and acceleration of a satellite.
 ghost use mathlib.Core.Path.{_≡_};
 ghost use Prim.Native.Nat.{_<_};
-ghost use Rattle.wire.specs.Together.{takenAt, putAt};
+ghost use Rattle.layouts.specs.Together.{takenAt, putAt};
 ghost use Rattle.orbits.specs.Motion.{motion, vector};
 use wire::Double;
 

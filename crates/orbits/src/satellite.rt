@@ -1,6 +1,6 @@
 // A satellite's signal: 003's sid.
 ghost use mathlib.Core.Path.{_≡_};
-ghost use Rattle.wire.specs.Together.{takenAt, putAt};
+ghost use Rattle.layouts.specs.Together.{takenAt, putAt};
 ghost use Rattle.orbits.specs.Common.{satellite};
 
 pub struct Satellite {

@@ -1,15 +1,15 @@
 // SV_CONFIGURATION_GPS, 0x0091: which satellites send L2C.
 ghost use mathlib.Core.Path.{_≡_};
 ghost use lib.ListN.{length};
-ghost use Rattle.wire.specs.Layout.{bodyStored};
-ghost use Rattle.wire.specs.Description.{inside, readAs};
-ghost use Rattle.frames.specs.Writer.{senderOf, writtenAnswer};
-ghost use Rattle.frames.specs.Faithful.{writeAnswer, writtenAs};
+ghost use Rattle.layouts.specs.Layout.{bodyStored};
+ghost use Rattle.layouts.specs.Description.{inside, readAs};
+ghost use Rattle.frame_writer.specs.Writer.{senderOf, writtenAnswer};
+ghost use Rattle.frame_writer.specs.Faithful.{writeAnswer, writtenAs};
 ghost use Rattle.orbits.specs.SvConfigurationGps.{svConfigurationGps, answerOf};
 use crate::time_of_week;
 use crate::time_of_week::TimeOfWeek;
-use frames::Sender;
-use frames::Written;
+use frame_writer::Sender;
+use frame_writer::Written;
 
 pub struct SvConfigurationGps {
     pub t_nmct: TimeOfWeek,
@@ -50,10 +50,10 @@ pub fn write_sv_configuration_gps(buf: &mut [u8], sender: Sender, r: SvConfigura
     ensures { λ w. ⌜ writtenAnswer w ≡ writeAnswer svConfigurationGps r (length (now (buf .entry))) ⌝ }
     ensures { λ _. ⌜ now (buf .exit) ≡ writtenAs svConfigurationGps (senderOf sender) r (now (buf .entry)) ⌝ }
 {
-    let answer = frames::plan(10, buf.len());
+    let answer = frame_writer::plan(10, buf.len());
     if let Written::Bytes(_) = answer {
         put(buf, r);
-        frames::seal(buf, 0x0091, sender, 10);
+        frame_writer::seal(buf, 0x0091, sender, 10);
     }
     answer
 }

@@ -1,7 +1,7 @@
 // A time: ms of a GPS week, and the week.
 ghost use mathlib.Core.Path.{_≡_};
 ghost use Prim.Native.Nat.{_<_};
-ghost use Rattle.wire.specs.Together.{takenAt, putAt};
+ghost use Rattle.layouts.specs.Together.{takenAt, putAt};
 ghost use Rattle.orbits.specs.Common.{timeOfWeek};
 
 pub struct TimeOfWeek {

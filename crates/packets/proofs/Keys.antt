@@ -1,4 +1,4 @@
--- Keys: `sameKey` holds exactly of equal keys, which is all that later laws use of it. Assumes nothing.
+-- Keys: `sameKey` holds exactly of equal keys, which is all that later laws use of it.
 use mathlib.Core.Path.{_≡_, refl, subst}
 use mathlib.Core.Bool.{true, _&&_, and-eq-true-iff}
 use lib.Dec.{eqb}

@@ -1,4 +1,4 @@
--- What a frame is recognised as, test by test, and how large the numbers of its packet are. Assumes nothing.
+-- What a frame is recognised as, test by test, and how large the numbers of its packet are.
 use mathlib.Core.Path.{_≡_, refl, sym, ap, _∙_, subst}
 use mathlib.Core.Bool.{Bool, true, false, cond}
 use mathlib.Core.List.{List, [], _∷_, _++_}
@@ -7,15 +7,15 @@ use native.Mathlib.Omega.{arith}
 use lib.ListN.{length}
 use borrow.Author.Tests.{eq-eqb, ne-eqb, lt-ltb, le-ltb, ltb-true}
 use Rattle.wire.specs.Number.{Bytes}
-use Rattle.wire.specs.Refusals.{refused, given, Answer, mapped}
+use Rattle.refusals.specs.Refusals.{refused, given, Answer, mapped}
 use Rattle.wire.proofs.Numbers.{number-lt}
-use Rattle.wire.proofs.Ordered.{exactly-all}
+use Rattle.refusals.proofs.Ordered.{exactly-all}
 use Rattle.observation.specs.Edition.{first, isObs}
 use Rattle.observation.specs.Obs.{readingObs, obsIn, readObs}
 use Rattle.observation.proofs.Editions.{whole}
 use Rattle.packets.specs.Packet.{packetOf, packetIn, shape, numbering, readPacket, numbered, recognised, Formed}
 use Rattle.packets.specs.declared.packet.Packet.{Packet}
-use Rattle.wire.proofs.Joined.{ordered-joined, andThen, ordered-mapped}
+use Rattle.refusals.proofs.Joined.{ordered-joined, andThen, ordered-mapped}
 
 -- ---- the two steps, refusal by refusal
 

@@ -1,10 +1,10 @@
 -- Which frames are packets: what a frame is by itself, and its tests. Later crates take packets as they are given and never unfold what is
--- defined here, so a new edition or a wider key changes this crate alone. Assumes nothing.
+-- defined here, so a new edition or a wider key changes this crate alone.
 use Prim.Native.Nat.{ℕ, _/_, _%_, _≤_, _<_}
 use mathlib.Core.Bool.{Bool, _&&_, not}
 use mathlib.Core.List.{List, [], _∷_, _++_}
 use lib.Dec.{eqb, ltb}
-use Rattle.wire.specs.Refusals.{refused, given, Answer, Tests, ordered}
+use Rattle.refusals.specs.Refusals.{refused, given, Answer, Tests, ordered}
 use Rattle.observation.specs.Edition.{first, isObs}
 use Rattle.observation.specs.Obs.{readingObs, obsIn}
 use Rattle.observation.specs.declared.obs.Obs.{Obs}

@@ -1,4 +1,4 @@
--- The descriptions say document 01's types, lengths and ranges; what follows for the answer to a payload. Assumes nothing.
+-- The descriptions say document 01's types, lengths and ranges; what follows for the answer to a payload.
 use mathlib.Core.Path.{_≡_, refl, sym, ap, _∙_}
 use mathlib.Core.Bool.{Bool, true, false, _&&_, cond, and-true}
 use mathlib.Core.List.{List, [], _∷_, map}
@@ -7,12 +7,13 @@ use native.Mathlib.Omega.{arith}
 use lib.Dec.{eqb, ltb}
 use lib.ListN.{length}
 use borrow.Author.Tests.{ne-eqb, ltb-true}
-use Rattle.wire.specs.Refusals.{refused, given, Answer, Tests, ordered, zeroOr}
+use Rattle.refusals.specs.Refusals.{refused, given, Answer, Tests, ordered, zeroOr}
 use Rattle.observation.specs.Edition.{fitting, obs, first}
 use Rattle.observation.specs.Obs as observation
-use Rattle.system.specs.Log.{logLength}
-use Rattle.system.proofs.Logs.{as-padded}
-use Rattle.payloads.specs.Payloads.{under, others, Entry, entryOf, table, entryFor, recordIn, knownFor, testsOf, readingAny, readFor, answerFor}
+use Rattle.logs.specs.Log.{logLength}
+use Rattle.logs.proofs.Logs.{as-padded}
+use Rattle.payloads.specs.Payloads.{under, others, Entry, entryOf, table, entryFor, knownFor, testsOf, readingAny, readFor, answerFor}
+use Rattle.payloads.specs.Inner.{recordIn}
 use Rattle.payloads.specs.Checks.{document, checkIn, checkFor, tests, testsBy, numberBy, Agrees, AsInDocument}
 use Rattle.payloads.specs.declared.Message.{Message}
 use Rattle.payloads.specs.declared.Message.the-variants as M

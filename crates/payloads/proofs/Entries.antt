@@ -1,5 +1,4 @@
 -- Every message is found under its own type number and read as its own reader reads it, once for the whole list: the numbers differ.
--- Assumes nothing.
 use mathlib.Core.Path.{_≡_, refl, sym, ap, ap₂, _∙_, subst}
 use mathlib.Core.Bool.{Bool, true, false, _&&_, not, cond, false≢true}
 use mathlib.Core.List.{List, [], _∷_, _++_, map, append-assoc}
@@ -7,18 +6,18 @@ use Prim.Native.Nat.{ℕ, _<_}
 use lib.Dec.{eqb, leb, ltb}
 use lib.ListN.{length}
 use borrow.Author.Tests.{eq-eqb, ne-eqb, leb-true, ltb-true}
-use Rattle.wire.specs.Field.{size}
-use Rattle.wire.specs.Layout.{Layout, run, then, bytes, text, rows, Sound, allowedBody, decodeBody}
-use Rattle.wire.specs.Description.{readAs, reading, inside}
-use Rattle.wire.specs.Refusals.{Answer, ordered, mapped}
-use Rattle.wire.proofs.Joined.{ordered-mapped}
-use Rattle.frames.proofs.Promised.{faithful}
+use Rattle.layouts.specs.Field.{size}
+use Rattle.layouts.specs.Layout.{Layout, run, then, bytes, text, rows, Sound, allowedBody, decodeBody}
+use Rattle.layouts.specs.Description.{readAs, reading, inside}
+use Rattle.refusals.specs.Refusals.{Answer, ordered, mapped}
+use Rattle.refusals.proofs.Joined.{ordered-mapped}
+use Rattle.frame_writer.proofs.Promised.{faithful}
 use Rattle.observation.specs.Edition.{fitting, obs, first}
 use Rattle.observation.specs.Obs.{readingObs, obsIn, readObs}
 use Rattle.observation.specs.declared.obs.Obs.{Obs}
 use Rattle.observation.proofs.ObsReading.{allowed, obs-shown}
-use Rattle.system.specs.Log as system
-use Rattle.system.specs.Log.{readLog}
+use Rattle.logs.specs.Log as system
+use Rattle.logs.specs.Log.{readLog}
 use Rattle.payloads.specs.Payloads.{Described, messages, Entry, entryOf, noEntry, table, entryFor, testsOf, Typed, TypedIn, Promised, AllOf}
 use Rattle.payloads.specs.declared.Message.{Message}
 use Rattle.payloads.specs.declared.Message.the-variants as M

@@ -1,5 +1,5 @@
 -- The digits of every type's shape unpack to the formats of its layout, once for the whole list; and a payload that passes
--- the tests of its type is as long as its layout says. Assumes nothing.
+-- the tests of its type is as long as its layout says.
 use mathlib.Core.Path.{_≡_, refl}
 use mathlib.Core.Bool.{Bool, true, false, cond, _&&_, false≢true}
 use mathlib.Core.List.{List, [], _∷_, _++_, map}
@@ -8,9 +8,9 @@ use native.Mathlib.Omega.{arith}
 use lib.Dec.{leb, eqb}
 use lib.ListN.{length}
 use borrow.Author.Tests.{ne-eqb, leb-true}
-use Rattle.wire.specs.Field.{formatOf}
-use Rattle.wire.specs.Layout.{Layout, run, then, bytes, text, rows, lengths}
-use Rattle.wire.specs.Refusals.{AllPass}
+use Rattle.layouts.specs.Field.{formatOf}
+use Rattle.layouts.specs.Layout.{Layout, run, then, bytes, text, rows, lengths}
+use Rattle.refusals.specs.Refusals.{AllPass}
 use Rattle.formats.specs.Digits.{upTo, formatsBy, textDigit, frontOf, digitsOf, shapeOf}
 use Rattle.formats.proofs.Packed.{fitsOne, unpacked, fitsTwo, unpacked-two}
 use Rattle.observation.specs.Edition.{first}

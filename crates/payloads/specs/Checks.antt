@@ -1,17 +1,16 @@
 -- Document 01's columns Type and Length, and its ranges, as numbers: what a payload is tested for before it is read. That the descriptions say
 -- the same is proved (proofs/Agreed.antt).
--- Assumes nothing.
 use Prim.Native.Nat.{ℕ}
 use mathlib.Core.Path.{_≡_}
 use mathlib.Core.Bool.{Bool, true, false, cond}
 use mathlib.Core.List.{List, [], _∷_}
 use lib.Dec.{eqb}
 use lib.ListN.{length}
-use Rattle.wire.specs.Field.{valueAt, u8, s32}
-use Rattle.wire.specs.Refusals.{Tests, ordered, zeroOr}
-use Rattle.navigation.specs.Range.{inNs, fixUpTo}
+use Rattle.wire.specs.Value.{valueAt, u8, s32}
+use Rattle.refusals.specs.Refusals.{Tests, ordered, zeroOr}
+use Rattle.flags.specs.Range.{inNs, fixUpTo}
 use Rattle.observation.specs.Edition.{fitting, first}
-use Rattle.system.specs.Log.{logLength, logPadded}
+use Rattle.logs.specs.Log.{logLength, logPadded}
 use Rattle.payloads.specs.Payloads.{Entry, table, testsOf}
 use Rattle.payloads.specs.declared.check.Check.{Check}
 use Rattle.payloads.specs.declared.check.Check.the-variants.{Unknown, Length, Ns, Fix, Obs, Log}

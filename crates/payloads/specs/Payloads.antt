@@ -1,26 +1,25 @@
 -- What a type number means: the messages, each with its description, and the answer to any type and payload by its ordered tests.
 -- A new message is one line here. specs/Checks.antt has document 01's numbers.
--- Assumes nothing.
 use Prim.Native.Nat.{ℕ}
 use mathlib.Core.Path.{_≡_}
 use mathlib.Core.Bool.{Bool, true, false, cond}
 use mathlib.Core.List.{List, [], _∷_, map}
 use lib.Dec.{eqb}
-use Rattle.wire.specs.Layout.{Layout, run}
-use Rattle.wire.specs.Description.{Description, inside, reading, readAs}
-use Rattle.wire.specs.Refusals.{refused, given, Answer, Tests, mapped, ordered, zeroOr}
+use Rattle.layouts.specs.Layout.{Layout, run}
+use Rattle.layouts.specs.Description.{Description, inside, reading, readAs}
+use Rattle.refusals.specs.Refusals.{refused, given, Answer, Tests, mapped, ordered, zeroOr}
 use Rattle.formats.specs.Digits.{shapeOf}
 use Rattle.formats.specs.declared.Shape.{Shape}
-use Rattle.frames.specs.Faithful.{Faithful}
+use Rattle.frame_writer.specs.Faithful.{Faithful}
 use Rattle.navigation.specs.Dops.{dops}
-use Rattle.navigation.specs.Ecef.{baselineEcef, velEcef}
+use Rattle.baselines.specs.Ecef.{baselineEcef, velEcef}
 use Rattle.navigation.specs.GpsTime.{gpsTime}
-use Rattle.navigation.specs.Heading.{baselineHeading}
-use Rattle.navigation.specs.Ned.{baselineNed, velNed}
+use Rattle.baselines.specs.Heading.{baselineHeading}
+use Rattle.baselines.specs.Ned.{baselineNed, velNed}
 use Rattle.navigation.specs.PosEcef.{posEcef}
 use Rattle.navigation.specs.PosLlh.{posLlh}
-use Rattle.observation.specs.BasePosEcef.{basePosEcef}
-use Rattle.observation.specs.BasePosLlh.{basePosLlh}
+use Rattle.base_positions.specs.BasePosEcef.{basePosEcef}
+use Rattle.base_positions.specs.BasePosLlh.{basePosLlh}
 use Rattle.observation.specs.Edition.{obs, first}
 use Rattle.observation.specs.Obs as observation
 use Rattle.orbits.specs.EphemerisGlo.{ephemerisGlo}
@@ -31,8 +30,8 @@ use Rattle.orbits.specs.Iono.{iono}
 use Rattle.orbits.specs.SvConfigurationGps.{svConfigurationGps}
 use Rattle.system.specs.Empty.{settingsSave, readByIndexDone}
 use Rattle.system.specs.Heartbeat.{heartbeat}
-use Rattle.system.specs.Log as system
-use Rattle.system.specs.Log.{log}
+use Rattle.logs.specs.Log as system
+use Rattle.logs.specs.Log.{log}
 use Rattle.system.specs.ReadByIndexReq.{readByIndexReq}
 use Rattle.system.specs.Startup.{startup}
 use Rattle.payloads.specs.declared.Message.{Message}
@@ -111,10 +110,6 @@ table = map entryOf messages
 unfoldable pub entryFor : List Entry → ℕ → Entry
 entryFor [] kind = noEntry kind
 entryFor (e ∷ es) kind = cond (eqb kind (e .kind)) e (entryFor es kind)
-
--- what a payload of a type other than OBS holds
-abbrev pub recordIn : ℕ → List ℕ → Message
-recordIn kind s = entryFor (map entryOf others) kind .holds s
 
 -- what a type's payloads are made of, and that as digits; of a type without a reading nothing
 abbrev pub layoutFor : ℕ → Layout

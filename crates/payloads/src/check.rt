@@ -65,12 +65,12 @@ pub fn tested(check: Check, s: &[u8]) -> u8
     match check {
         Check::Unknown => 21,
         Check::Length(n) => refusal(s.len() == n, true),
-        Check::Ns(n, at) => refusal(s.len() == n, navigation::ns_allowed(wire::read_s32(s, at))),
+        Check::Ns(n, at) => refusal(s.len() == n, flags::ns_allowed(wire::read_s32(s, at))),
         Check::Fix(n, at, last) => refusal(
             s.len() == n,
-            navigation::fix_allowed(wire::read_u8(s, at), last),
+            flags::fix_allowed(wire::read_u8(s, at), last),
         ),
         Check::Obs => refusal(observation::is_obs_length(s.len()), true),
-        Check::Log => refusal(system::is_log_length(s.len()), system::log_padded(s)),
+        Check::Log => refusal(logs::is_log_length(s.len()), logs::log_padded(s)),
     }
 }

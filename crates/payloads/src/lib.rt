@@ -4,7 +4,7 @@
 ghost use mathlib.Core.Path.{_≡_};
 ghost use Rattle.observation.specs.Obs.{readObs};
 ghost use Rattle.payloads.specs.Payloads.{readFor, answerFor, readingAnswer};
-ghost use Rattle.wire.specs.Refusals.{mapped};
+ghost use Rattle.refusals.specs.Refusals.{mapped};
 
 mod check;
 mod record;
@@ -21,13 +21,13 @@ pub enum Message {
     Dops(navigation::Dops),
     PosEcef(navigation::PosEcef),
     PosLlh(navigation::PosLlh),
-    BaselineEcef(navigation::EcefVector),
-    VelEcef(navigation::EcefVector),
-    BaselineNed(navigation::NedVector),
-    VelNed(navigation::NedVector),
-    BaselineHeading(navigation::BaselineHeading),
-    BasePosLlh(observation::BasePosLlh),
-    BasePosEcef(observation::BasePosEcef),
+    BaselineEcef(baselines::EcefVector),
+    VelEcef(baselines::EcefVector),
+    BaselineNed(baselines::NedVector),
+    VelNed(baselines::NedVector),
+    BaselineHeading(baselines::BaselineHeading),
+    BasePosLlh(base_positions::BasePosLlh),
+    BasePosEcef(base_positions::BasePosEcef),
     EphemerisGps(orbits::EphemerisGps),
     EphemerisSbas(orbits::EphemerisSbas),
     EphemerisGlo(orbits::EphemerisGlo),
@@ -35,7 +35,7 @@ pub enum Message {
     SvConfigurationGps(orbits::SvConfigurationGps),
     GroupDelay(orbits::GroupDelay),
     Obs(observation::Obs),
-    Log(system::Log),
+    Log(logs::Log),
     SettingsSave,
     ReadByIndexDone,
     ReadByIndexReq(system::ReadByIndexReq),

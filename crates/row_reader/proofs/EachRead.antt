@@ -1,13 +1,13 @@
--- Each message read as numbers is its record's fields, once for the whole list. Assumes nothing.
+-- Each message read as numbers is its record's fields, once for the whole list.
 use mathlib.Core.Path.{_≡_, refl, sym, ap, _∙_}
 use mathlib.Core.Bool.{Bool, true, false}
 use mathlib.Core.List.{List, [], _∷_, _++_}
 use Prim.Native.Nat.{ℕ, _≤_}
 use lib.ListN.{length}
 use borrow.Author.Tests.{le-leb}
-use Rattle.wire.specs.Refusals.{Tests, ordered, mapped, roomFor}
-use Rattle.wire.specs.Layout.{decodeBody}
-use Rattle.wire.specs.Description.{inside, reading, readAs}
+use Rattle.refusals.specs.Refusals.{Tests, ordered, mapped, roomFor}
+use Rattle.layouts.specs.Layout.{decodeBody}
+use Rattle.layouts.specs.Description.{inside, reading, readAs}
 use Rattle.formats.specs.Wide.{wideRow, wideBody, numberCount}
 use Rattle.observation.specs.Edition.{first}
 use Rattle.observation.specs.Obs.{entryAt, oneOfFrame, readEntryOf}

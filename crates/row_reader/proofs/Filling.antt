@@ -1,4 +1,4 @@
--- A run read into the front of a row, and what some rest of the bytes gives read into the part of the row after it, which is lent. Assumes nothing.
+-- A run read into the front of a row, and what some rest of the bytes gives read into the part of the row after it, which is lent.
 use mathlib.Core.Path.{_≡_, refl, sym, ap, ap₂, _∙_}
 use mathlib.Core.List.{List, [], _∷_, _++_, append-assoc, append-nil}
 use Prim.Native.Nat.{ℕ, _+_, _-_, _/_, _≤_, _<_}
@@ -8,14 +8,14 @@ use lib.ListN.{length, take, drop, set, length-append, length-drop, drop-of-leng
 use lib.Seq.{sets-eq, take-at, drop-at, drop-drop}
 use borrow.Author.Tests.{eq-eqb, ne-eqb}
 use Rattle.wire.specs.Number.{bytesStored}
-use Rattle.wire.proofs.Layouts.{bytes-sets}
+use Rattle.wire.proofs.Stored.{bytes-sets}
 use Rattle.wire.proofs.Lent.{lentFrom, backFrom, lent-all, lent-length}
 use Rattle.wire.specs.Padded.{beforeZero, fromZero}
 use Rattle.wire.proofs.Texts.{length-split}
 use Rattle.formats.specs.Digits.{formatsBy, sizeOf, numbersAt, textDigit}
 use Rattle.formats.proofs.Rows.{length-numbers}
 use Rattle.row_reader.specs.ReadRow.{beginning}
-use Rattle.row_reader.specs.ByDigits.{runThen, textNumbers, tailIn}
+use Rattle.row_reader.specs.Inner.{runThen, textNumbers, tailIn}
 
 -- numbers that have room, stored in a row's front
 pub stored-front : (ns row : List ℕ) → length ns ≤ length row → bytesStored ns row 0 ≡ beginning ns row

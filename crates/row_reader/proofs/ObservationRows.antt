@@ -1,4 +1,4 @@
--- One observation's row: what is read by digits in the bytes from its start on, and what is answered and left, case by case. Assumes nothing.
+-- One observation's row: what is read by digits in the bytes from its start on, and what is answered and left, case by case.
 use mathlib.Core.Path.{_≡_, refl, sym, ap, ap₂, _∙_}
 use mathlib.Core.List.{List, map}
 use Prim.Native.Nat.{ℕ, _+_, _*_, _≤_, _<_}
@@ -7,9 +7,10 @@ use native.Mathlib.Omega.{arith}
 use lib.ListN.{length, length-map}
 use borrow.Author.Tests.{ltb-true}
 use Rattle.wire.specs.Number.{bytesStored}
-use Rattle.wire.specs.Field.{Format, formatOf, size}
-use Rattle.wire.specs.Refusals.{refused, given, AllPass, zeroOr}
-use Rattle.wire.proofs.Ordered.{exactly-all}
+use Rattle.wire.specs.Value.{Format}
+use Rattle.layouts.specs.Field.{formatOf, size}
+use Rattle.refusals.specs.Refusals.{refused, given, AllPass, zeroOr}
+use Rattle.refusals.proofs.Ordered.{exactly-all}
 use Rattle.formats.specs.Digits.{upTo, formatsBy, sizeOf, numbersAt}
 use Rattle.formats.specs.declared.Shape.{Shape}
 use Rattle.formats.proofs.Rows.{length-numbers}

@@ -1,11 +1,11 @@
--- Tests of some payload and then of a row's room: the number that is answered and the row that is left, case by case. Assumes nothing.
+-- Tests of some payload and then of a row's room: the number that is answered and the row that is left, case by case.
 use mathlib.Core.Path.{_≡_, sym, ap, _∙_}
 use mathlib.Core.List.{List, _++_}
 use Prim.Native.Nat.{ℕ, _≤_, _<_}
 use lib.ListN.{length}
 use borrow.Author.Tests.{le-leb, lt-leb}
-use Rattle.wire.specs.Refusals.{refused, given, Answer, Tests, ordered, leaves, zeroOr, roomFor}
-use Rattle.wire.proofs.Joined.{andThen, ordered-joined}
+use Rattle.refusals.specs.Refusals.{refused, given, Answer, Tests, ordered, leaves, zeroOr, roomFor}
+use Rattle.refusals.proofs.Joined.{andThen, ordered-joined}
 use Rattle.row_reader.specs.ReadRow.{beginning}
 
 module _ {A : Type 0} (ts : Tests) (x : A) (ns : List ℕ) (n : ℕ) (row : List ℕ) where

@@ -1,18 +1,18 @@
--- What is answered and left of a payload's row, case by case, by its type's shape. Assumes nothing.
+-- What is answered and left of a payload's row, case by case, by its type's shape.
 use mathlib.Core.Path.{_≡_, refl, sym, ap, _∙_}
 use mathlib.Core.List.{List, []}
 use Prim.Native.Nat.{ℕ, _+_, _≤_, _<_}
 use native.Mathlib.Omega.{arith}
 use lib.ListN.{length}
-use Rattle.wire.specs.Refusals.{given, zeroOr}
-use Rattle.wire.proofs.Ordered.{exactly-all}
+use Rattle.refusals.specs.Refusals.{given, zeroOr}
+use Rattle.refusals.proofs.Ordered.{exactly-all}
 use Rattle.formats.specs.Wide.{numberCount}
 use Rattle.formats.specs.Digits.{formatsBy, sizeOf}
 use Rattle.formats.specs.declared.Shape.{Shape}
 use Rattle.payloads.specs.Payloads.{table, entryFor, layoutFor, shapeFor, readingAny, readFor, answerFor}
 use Rattle.payloads.proofs.Agreed.{refuses, gives}
 use Rattle.row_reader.specs.ReadRow.{beginning, numbersFor, readRow, rowAfter}
-use Rattle.row_reader.specs.ByDigits.{rowIn}
+use Rattle.row_reader.specs.Inner.{rowIn}
 use Rattle.row_reader.proofs.Shaped.{as-laid, as-many, whole}
 use Rattle.row_reader.proofs.Roomy.{stands, too-short, roomy}
 

@@ -1,5 +1,4 @@
 -- What a type's digits make of a payload is what its layout says, and there are as many numbers; a payload that is accepted has all its fields.
--- Assumes nothing.
 use mathlib.Core.Path.{_≡_, refl, sym, ap, ap₂, _∙_}
 use mathlib.Core.Bool.{Bool, true, false, cond}
 use mathlib.Core.List.{List, [], _∷_, _++_, append-assoc, append-nil}
@@ -9,10 +8,11 @@ use native.Mathlib.Omega.{arith}
 use lib.Dec.{eqb}
 use lib.ListN.{length, drop, length-append}
 use lib.Seq.{drop-drop}
-use Rattle.wire.specs.Field.{Format, Field, Row, size, decode}
-use Rattle.wire.specs.Layout.{Layout, run, then, bytes, text, rows, countIn, Body, LengthOf, decodeBody}
-use Rattle.wire.specs.Refusals.{AllPass}
-use Rattle.wire.proofs.Layouts.{lengths-of, length-rows}
+use Rattle.wire.specs.Value.{Format}
+use Rattle.layouts.specs.Field.{Field, Row, size, decode}
+use Rattle.layouts.specs.Layout.{Layout, run, then, bytes, text, rows, countIn, Body, LengthOf, decodeBody}
+use Rattle.refusals.specs.Refusals.{AllPass}
+use Rattle.layouts.proofs.Layouts.{lengths-of, length-rows}
 use Rattle.formats.specs.Wide.{wideRow, wideBody, numberCount}
 use Rattle.formats.specs.Digits.{upTo, formatsBy, sizeOf, numbersAt, textDigit, frontOf, repeated, digitsOf, shapeOf, formatsIn}
 use Rattle.formats.specs.declared.Shape.{Shape}
@@ -21,7 +21,7 @@ use Rattle.formats.proofs.Widened.{numbers-wide, numbers-joined, numbers-drop, 
 use Rattle.payloads.proofs.Shapes.{Ends, Unpacks, unpacks, measured}
 use Rattle.payloads.specs.Payloads.{layoutFor, shapeFor, readingAny}
 use Rattle.row_reader.specs.ReadRow.{numbersFor}
-use Rattle.row_reader.specs.ByDigits.{textNumbers, tailIn, rowIn}
+use Rattle.row_reader.specs.Inner.{textNumbers, tailIn, rowIn}
 use Rattle.row_reader.proofs.Filling.{no-tail, text-tail, one-tail}
 
 -- ---- a shape's two runs are one

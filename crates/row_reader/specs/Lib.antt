@@ -1,3 +1,3 @@
 pub mod ReadRow
 pub mod ReadsTyped
-pub mod ByDigits
+pub mod Inner

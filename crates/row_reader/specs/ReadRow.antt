@@ -1,12 +1,12 @@
--- A payload's fields as a row of numbers of 64 bits in a lent buffer, over the type's layout; and one observation's. Assumes nothing.
+-- A payload's fields as a row of numbers of 64 bits in a lent buffer, over the type's layout; and one observation's.
 use Prim.Native.Nat.{ℕ}
 use mathlib.Core.List.{List, _++_}
 use lib.ListN.{length}
-use Rattle.wire.specs.Refusals.{Answer, Tests, ordered, leaves, roomFor}
-use Rattle.wire.specs.Field.{decode}
-use Rattle.wire.specs.Layout.{decodeBody}
+use Rattle.refusals.specs.Refusals.{Answer, Tests, ordered, leaves, roomFor}
+use Rattle.layouts.specs.Field.{decode}
+use Rattle.layouts.specs.Layout.{decodeBody}
 use Rattle.formats.specs.Wide.{wideRow, wideBody, numberCount}
-use Rattle.frames.specs.Writer.{startingWith}
+use Rattle.frame_writer.specs.Writer.{startingWith}
 use Rattle.observation.specs.Edition.{first, startOf}
 use Rattle.observation.specs.Obs.{oneOfFrame}
 use Rattle.payloads.specs.Payloads.{layoutFor, readingAny}

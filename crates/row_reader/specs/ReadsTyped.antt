@@ -1,10 +1,10 @@
--- What is read as numbers is what the typed readers read: each field of the record, as a number of 64 bits. Assumes nothing.
+-- What is read as numbers is what the typed readers read: each field of the record, as a number of 64 bits.
 use Prim.Native.Nat.{ℕ, _≤_}
 use mathlib.Core.Path.{_≡_}
 use mathlib.Core.List.{List}
 use lib.ListN.{length}
-use Rattle.wire.specs.Refusals.{mapped}
-use Rattle.wire.specs.Description.{readAs}
+use Rattle.refusals.specs.Refusals.{mapped}
+use Rattle.layouts.specs.Description.{readAs}
 use Rattle.formats.specs.Wide.{wideRow, wideBody, numberCount}
 use Rattle.observation.specs.Edition.{first}
 use Rattle.observation.specs.Obs.{readEntryOf}

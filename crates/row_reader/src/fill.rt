@@ -4,7 +4,7 @@ ghost use mathlib.Core.Path.{_≡_};
 ghost use lib.ListN.{length};
 ghost use Rattle.formats.specs.Digits.{formatsBy, sizeOf};
 ghost use Rattle.row_reader.specs.ReadRow.{beginning};
-ghost use Rattle.row_reader.specs.ByDigits.{textNumbers, tailIn, restIn, rowIn};
+ghost use Rattle.row_reader.specs.Inner.{textNumbers, tailIn, restIn, rowIn};
 use formats::Shape;
 use formats::count;
 use formats::read_run;

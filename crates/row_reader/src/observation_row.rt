@@ -2,7 +2,7 @@
 ghost use Prim.Native.Nat.{_+_, _*_, _≤_};
 ghost use mathlib.Core.Path.{_≡_};
 ghost use lib.ListN.{length};
-ghost use Rattle.wire.specs.Refusals.{zeroOr};
+ghost use Rattle.refusals.specs.Refusals.{zeroOr};
 ghost use Rattle.formats.specs.Digits.{formatsBy, sizeOf, numbersAt};
 ghost use Rattle.row_reader.specs.ReadRow.{beginning, readOne, rowAfterOne};
 use formats::Shape;

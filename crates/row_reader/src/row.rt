@@ -2,9 +2,9 @@
 ghost use mathlib.Core.Path.{_≡_};
 ghost use lib.ListN.{length};
 ghost use mathlib.Core.List.{[]};
-ghost use Rattle.wire.specs.Refusals.{zeroOr};
+ghost use Rattle.refusals.specs.Refusals.{zeroOr};
 ghost use Rattle.row_reader.specs.ReadRow.{readRow, rowAfter};
-ghost use Rattle.row_reader.specs.ByDigits.{rowIn};
+ghost use Rattle.row_reader.specs.Inner.{rowIn};
 use crate::fill::TEXT;
 use crate::fill::fill;
 use formats::Shape;

@@ -1,4 +1,4 @@
--- Layouts that are fields alone, and what holds of every type's layout. Assumes nothing.
+-- Layouts that are fields alone, and what holds of every type's layout.
 use mathlib.Core.Path.{_≡_, refl, sym, ap, ap₂, _∙_}
 use mathlib.Core.Bool.{Bool, true, _&&_, false≢true, and-eq-true-iff}
 use mathlib.Core.List.{List, [], _∷_, map}
@@ -6,9 +6,10 @@ use Prim.Native.Nat.{ℕ, _+_, _≤_}
 use lib.Dec.{leb, eqb}
 use lib.ListN.{length, length-append, length-map}
 use borrow.Author.Tests.{leb-true}
-use Rattle.wire.specs.Field.{Format, formatOf, HeldRow, allowedRow, size, encode}
-use Rattle.wire.specs.Layout.{Layout, run, then, bytes, text, rows, HeldBody, allowedBody, fewEnough, bodySize, lengths, encodeBody, decodeBody, Sound}
-use Rattle.wire.proofs.Fields.{allowed-again-row, decode-encode}
+use Rattle.wire.specs.Value.{Format}
+use Rattle.layouts.specs.Field.{formatOf, HeldRow, allowedRow, size, encode}
+use Rattle.layouts.specs.Layout.{Layout, run, then, bytes, text, rows, HeldBody, allowedBody, fewEnough, bodySize, lengths, encodeBody, decodeBody, Sound}
+use Rattle.layouts.proofs.Fields.{allowed-again-row, decode-encode}
 use Rattle.formats.specs.Wide.{narrowRow, fitsRow, numberCount}
 use Rattle.formats.specs.Digits.{formatsBy, sizeOf, runFits, repeated, frontOf, formatsIn}
 use Rattle.formats.specs.declared.Shape.{Shape}

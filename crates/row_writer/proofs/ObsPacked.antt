@@ -1,5 +1,4 @@
 -- The header and the observations of an OBS packed from their numbers: the loop over the observations, and the payload that it leaves.
--- Assumes nothing.
 use mathlib.Core.Path.{_≡_, refl, sym, ap, _∙_}
 use mathlib.Core.Bool.{true}
 use mathlib.Core.List.{List, _++_, map}
@@ -8,10 +7,11 @@ use native.Mathlib.Nat.{zero-add}
 use native.Mathlib.Omega.{arith}
 use lib.ListN.{length, take, drop}
 use lib.Seq.{take-all}
-use Rattle.wire.specs.Field.{Format, Field, formatOf, Row, rowStored}
-use Rattle.wire.specs.Layout.{Layout, Body, rowsStored, encodeBody}
-use Rattle.wire.specs.Description.{rowsOf, madeOf, rows-made}
-use Rattle.wire.proofs.Layouts.{length-encode-body, body-sets}
+use Rattle.wire.specs.Value.{Format}
+use Rattle.layouts.specs.Field.{Field, formatOf, Row, rowStored}
+use Rattle.layouts.specs.Layout.{Layout, Body, rowsStored, encodeBody}
+use Rattle.layouts.specs.Description.{rowsOf, madeOf, rows-made}
+use Rattle.layouts.proofs.Layouts.{length-encode-body, body-sets}
 use Rattle.formats.specs.Wide.{narrowRow, fitsRow, narrowRows, fitsRows}
 use Rattle.formats.specs.Digits.{upTo, formatsBy, runStored}
 use Rattle.formats.proofs.Narrow.{Words, stored-narrow}

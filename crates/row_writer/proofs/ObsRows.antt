@@ -1,4 +1,4 @@
--- Rows of numbers one after the other: how many, each of them, and the loop that looks whether all fit. Assumes nothing.
+-- Rows of numbers one after the other: how many, each of them, and the loop that looks whether all fit.
 use mathlib.Core.Path.{_≡_, refl, sym, ap, ap₂, _∙_}
 use mathlib.Core.Bool.{Bool, true, false, _&&_, and-eq-true-iff}
 use mathlib.Core.List.{List, [], _∷_, map}
@@ -6,8 +6,9 @@ use Prim.Native.Nat.{ℕ, zero, suc, _+_, _-_, _*_, _≤_, _<_, zero-le}
 use native.Mathlib.Nat.{zero-mul, suc-mul, add-zero, not-suc-le-zero, le-of-suc-le-suc}
 use native.Mathlib.Omega.{arith}
 use lib.ListN.{length, getD}
-use Rattle.wire.specs.Field.{Format, Field, formatOf, Row, rowStored}
-use Rattle.wire.specs.Description.{Part, madeOf}
+use Rattle.wire.specs.Value.{Format}
+use Rattle.layouts.specs.Field.{Field, formatOf, Row, rowStored}
+use Rattle.layouts.specs.Description.{Part, madeOf}
 use Rattle.formats.specs.Wide.{narrowRow, fitsRow, narrowRows, fitsRows}
 use Rattle.formats.specs.Digits.{runFits, runStored}
 use Rattle.formats.proofs.Narrow.{Words, withinAll, fits-row, stored-narrow, fits-drop, stored-drop}

@@ -1,4 +1,4 @@
--- The ways through the writer of OBS: refused by its numbers, or sent as its payload. Assumes nothing.
+-- The ways through the writer of OBS: refused by its numbers, or sent as its payload.
 use mathlib.Core.Path.{_≡_, refl, sym, ap, _∙_}
 use mathlib.Core.Bool.{Bool, true, false, _&&_, and-eq-true-iff}
 use mathlib.Core.List.{List, []}
@@ -6,13 +6,13 @@ use Prim.Native.Nat.{ℕ, _+_, _%_, _≤_, _<_}
 use lib.Dec.{leb}
 use lib.ListN.{length}
 use borrow.Author.Tests.{eq-eqb, ne-eqb, le-leb, lt-leb, leb-true}
-use Rattle.wire.specs.Refusals.{zeroOr}
+use Rattle.refusals.specs.Refusals.{zeroOr}
 use Rattle.formats.specs.Wide.{fitsRow, fitsRows}
-use Rattle.frames.specs.Writer.{writingFrame, planned, withFrame, sizeLeft}
+use Rattle.frame_writer.specs.Writer.{writingFrame, planned, withFrame, sizeLeft}
 use Rattle.observation.specs.Edition.{startOf, head, observation, first, isObs}
 use Rattle.payloads.specs.Checks.{numberBy}
 use Rattle.row_writer.specs.WriteObsRow.{rowsIn, writeObsRow, obsRowWritten}
-use Rattle.row_writer.specs.Parts.{testingObsRow}
+use Rattle.row_writer.specs.Inner.{testingObsRow}
 use Rattle.row_writer.proofs.Tested.{stands, goes-on, all-pass}
 use Rattle.row_writer.proofs.Sends.{left-as, left-alone, left-of}
 use Rattle.row_writer.proofs.ObsPacked.{payloadOf, payload-long}

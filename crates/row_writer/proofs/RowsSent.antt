@@ -1,4 +1,4 @@
--- The ways through the writer of a row: refused by its numbers, or packed and sent. Assumes nothing.
+-- The ways through the writer of a row: refused by its numbers, or packed and sent.
 use mathlib.Core.Path.{_≡_, refl, sym, ap, ap₂, _∙_, subst⁻¹}
 use mathlib.Core.Bool.{Bool, true, false, _&&_, cond, and-eq-true-iff}
 use mathlib.Core.List.{List, [], _∷_, _++_}
@@ -6,20 +6,21 @@ use Prim.Native.Nat.{ℕ, _+_, _≤_}
 use native.Mathlib.Omega.{arith}
 use lib.Dec.{eqb}
 use lib.ListN.{length, take}
-use Rattle.wire.specs.Field.{Format, size, encode}
-use Rattle.wire.specs.Layout.{Layout, Body, HeldBody, allowedBody, bodySize, lengths, LengthOf, encodeBody}
-use Rattle.wire.specs.Refusals.{refused, Answer, Tests, ordered, zeroOr}
-use Rattle.wire.proofs.Fields.{row-sets, length-encode}
-use Rattle.wire.proofs.Layouts.{lengths-true, size-fits, length-encode-body}
+use Rattle.wire.specs.Value.{Format}
+use Rattle.layouts.specs.Field.{size, encode}
+use Rattle.layouts.specs.Layout.{Layout, Body, HeldBody, allowedBody, bodySize, lengths, LengthOf, encodeBody}
+use Rattle.refusals.specs.Refusals.{refused, Answer, Tests, ordered, zeroOr}
+use Rattle.layouts.proofs.Fields.{row-sets, length-encode}
+use Rattle.layouts.proofs.Layouts.{lengths-true, size-fits, length-encode-body}
 use Rattle.formats.specs.Wide.{narrowRow, fitsRow, numberCount}
 use Rattle.formats.specs.Digits.{runStored, frontOf, formatsIn}
 use Rattle.formats.specs.declared.Shape.{Shape}
 use Rattle.formats.proofs.Narrow.{Words, held-narrow, stored-narrow}
-use Rattle.frames.specs.Writer.{writingFrame, sizeLeft}
+use Rattle.frame_writer.specs.Writer.{writingFrame, sizeLeft}
 use Rattle.payloads.specs.Checks.{numberBy}
 use Rattle.payloads.specs.Payloads.{table, entryFor, layoutFor, knownFor, shapeFor, answerFor}
 use Rattle.row_writer.specs.WriteRow.{alone, bodyOf, writeRow, rowWritten}
-use Rattle.row_writer.specs.Parts.{testingRow, sent}
+use Rattle.row_writer.specs.Inner.{testingRow, sent}
 use Rattle.row_writer.proofs.Tested.{stands, goes-on, all-pass}
 use Rattle.row_writer.proofs.Sends.{LeftBy, left-as, left-alone, left-of}
 use Rattle.row_writer.proofs.Runs.{front-sets}

@@ -1,5 +1,4 @@
 -- Two runs of formats over one row of numbers, as code takes them: the second gets the numbers and the bytes that the first leaves.
--- Assumes nothing.
 use mathlib.Core.Path.{_≡_, sym, ap, _∙_}
 use mathlib.Core.Bool.{Bool, true, false, _&&_}
 use mathlib.Core.List.{List, _++_}
@@ -8,7 +7,7 @@ use native.Mathlib.Nat.{zero-add, add-zero}
 use native.Mathlib.Omega.{arith}
 use lib.ListN.{length, take, drop}
 use lib.Seq.{sets, sets-eq, take-at}
-use Rattle.wire.specs.Field.{Format}
+use Rattle.wire.specs.Value.{Format}
 use Rattle.wire.proofs.Lent.{lentFrom, lent-all}
 use Rattle.formats.specs.Digits.{sizeOf, runFits, runStored}
 use Rattle.formats.proofs.Narrow.{fits-joined, stored-joined, fits-drop, stored-drop, length-run, run-lent}

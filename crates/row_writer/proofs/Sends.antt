@@ -1,15 +1,14 @@
 -- What a call hands back and leaves, by its answer; and a payload sent: as every frame where its type takes it, else refused.
--- Assumes nothing.
 use mathlib.Core.Path.{_≡_, refl, sym, ap, _∙_, subst}
 use mathlib.Core.List.{List}
 use Prim.Native.Nat.{ℕ}
 use lib.ListN.{length}
 use borrow.Author.Tests.{eq-eqb, ne-eqb}
-use Rattle.wire.specs.Refusals.{refused, Answer, leaves, zeroOr}
+use Rattle.refusals.specs.Refusals.{refused, Answer, leaves, zeroOr}
 use Rattle.frames.specs.Frame.{frameBytes}
-use Rattle.frames.specs.Writer.{planned, startingWith, withFrame, sizeLeft}
+use Rattle.frame_writer.specs.Writer.{planned, startingWith, withFrame, sizeLeft}
 use Rattle.payloads.specs.Payloads.{answerFor}
-use Rattle.row_writer.specs.Parts.{sent}
+use Rattle.row_writer.specs.Inner.{sent}
 
 module _ (kind sender : ℕ) (out : List ℕ) (size : ℕ) where
   -- the number handed back, the buffer with a frame of a payload, and the size, where a call gives an answer

@@ -1,12 +1,11 @@
 -- The number of the first test that fails, as code looks at it before it goes on: what is not 0 is the refusal, and 0 says that all passed.
--- Assumes nothing.
 use mathlib.Core.Path.{_≡_, sym, ap, _∙_}
 use mathlib.Core.Bool.{true}
 use mathlib.Core.List.{_++_}
 use Prim.Native.Nat.{ℕ}
-use Rattle.wire.specs.Refusals.{refused, given, Answer, Tests, ordered, AllPass}
-use Rattle.wire.proofs.Ordered.{exactly-all}
-use Rattle.wire.proofs.Joined.{andThen, ordered-joined}
+use Rattle.refusals.specs.Refusals.{refused, given, Answer, Tests, ordered, AllPass}
+use Rattle.refusals.proofs.Ordered.{exactly-all}
+use Rattle.refusals.proofs.Joined.{andThen, ordered-joined}
 use Rattle.payloads.specs.Checks.{numberBy}
 use Rattle.payloads.proofs.Agreed.{positive, passes, refuses-by}
 

@@ -1,4 +1,4 @@
--- What is written from numbers is what the typed writers write, once for every message; and of OBS. Assumes nothing.
+-- What is written from numbers is what the typed writers write, once for every message; and of OBS.
 use mathlib.Core.Path.{_≡_, refl, sym, ap, ap₂, _∙_}
 use mathlib.Core.Bool.{Bool, true, _&&_}
 use mathlib.Core.List.{List, _∷_}
@@ -7,14 +7,14 @@ use native.Mathlib.Omega.{arith}
 use lib.ListN.{length, take}
 use lib.Seq.{take-all}
 use borrow.Author.Tests.{eq-eqb}
-use Rattle.wire.specs.Layout.{Layout, Body, allowedBody, fewEnough, bodySize, encodeBody}
-use Rattle.wire.specs.Description.{Description}
-use Rattle.wire.specs.Refusals.{given, Answer, Tests, ordered, leaves}
-use Rattle.wire.proofs.Ordered.{exactly-all}
+use Rattle.layouts.specs.Layout.{Layout, Body, allowedBody, fewEnough, bodySize, encodeBody}
+use Rattle.layouts.specs.Description.{Description}
+use Rattle.refusals.specs.Refusals.{given, Answer, Tests, ordered, leaves}
+use Rattle.refusals.proofs.Ordered.{exactly-all}
 use Rattle.formats.specs.Wide.{narrowRows, numberCount}
 use Rattle.frames.specs.Frame.{frameBytes}
-use Rattle.frames.specs.Writer.{writingFrame, startingWith}
-use Rattle.frames.specs.Faithful.{writeAnswer, writtenAs}
+use Rattle.frame_writer.specs.Writer.{writingFrame, startingWith}
+use Rattle.frame_writer.specs.Faithful.{writeAnswer, writtenAs}
 use Rattle.observation.specs.Edition.{obs, startOf, observation, first}
 use Rattle.observation.specs.ObsWriter.{writingObs, obsWriteAnswer}
 use Rattle.observation.specs.declared.entry.Observation.{Observation}

@@ -1,4 +1,4 @@
 pub mod WriteRow
 pub mod WriteObsRow
-pub mod Parts
+pub mod Inner
 pub mod WritesTyped

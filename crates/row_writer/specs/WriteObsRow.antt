@@ -1,15 +1,15 @@
--- OBS written from rows of numbers: its header's, and eight for each observation. Assumes nothing.
+-- OBS written from rows of numbers: its header's, and eight for each observation.
 use Prim.Native.Nat.{ℕ, _+_, _/_, _%_}
 use mathlib.Core.Bool.{_&&_}
 use mathlib.Core.List.{List, _∷_}
 use lib.Dec.{eqb}
 use lib.ListN.{length}
-use Rattle.wire.specs.Refusals.{Answer, Tests, ordered, leaves}
-use Rattle.wire.specs.Description.{madeOf}
-use Rattle.wire.specs.Layout.{encodeBody}
+use Rattle.refusals.specs.Refusals.{Answer, Tests, ordered, leaves}
+use Rattle.layouts.specs.Description.{madeOf}
+use Rattle.layouts.specs.Layout.{encodeBody}
 use Rattle.formats.specs.Wide.{narrowRow, fitsRow, narrowRows, fitsRows}
 use Rattle.frames.specs.Frame.{frameBytes}
-use Rattle.frames.specs.Writer.{startingWith}
+use Rattle.frame_writer.specs.Writer.{startingWith}
 use Rattle.observation.specs.Edition.{Observed, obs, startOf, Head, head, observation, first, isObs}
 use Rattle.observation.specs.ObsWriter.{writingObs}
 use Rattle.observation.specs.declared.entry.Observation.{Observation}

@@ -1,15 +1,15 @@
--- A frame written from a row of numbers of 64 bits, one for each field: every message without a tail, over its type's layout. Assumes nothing.
+-- A frame written from a row of numbers of 64 bits, one for each field: every message without a tail, over its type's layout.
 use Prim.Native.Nat.{ℕ, _+_}
 use mathlib.Core.Bool.{Bool, true, false, _&&_}
 use mathlib.Core.List.{List, [], _∷_}
 use lib.Dec.{eqb}
 use lib.ListN.{length}
-use Rattle.wire.specs.Refusals.{Answer, Tests, ordered, leaves}
-use Rattle.wire.specs.Layout.{Layout, run, then, bytes, text, rows, Body, allowedBody, bodySize, encodeBody}
+use Rattle.refusals.specs.Refusals.{Answer, Tests, ordered, leaves}
+use Rattle.layouts.specs.Layout.{Layout, run, then, bytes, text, rows, Body, allowedBody, bodySize, encodeBody}
 use Rattle.formats.specs.Wide.{narrowRow, fitsRow, numberCount}
 use Rattle.formats.specs.Digits.{frontOf}
 use Rattle.frames.specs.Frame.{frameBytes}
-use Rattle.frames.specs.Writer.{writingFrame, startingWith}
+use Rattle.frame_writer.specs.Writer.{writingFrame, startingWith}
 use Rattle.payloads.specs.Payloads.{Entry, table, entryFor, layoutFor}
 
 -- fields and nothing after them

@@ -1,13 +1,13 @@
--- What is written from numbers is what the typed writers write of the record that they stand for. Assumes nothing.
+-- What is written from numbers is what the typed writers write of the record that they stand for.
 use mathlib.Core.Path.{_≡_}
 use mathlib.Core.Bool.{true}
 use mathlib.Core.List.{List}
 use Prim.Native.Nat.{ℕ}
 use lib.ListN.{length}
-use Rattle.wire.specs.Refusals.{given}
+use Rattle.refusals.specs.Refusals.{given}
 use Rattle.formats.specs.Wide.{fitsRow, numberCount}
 use Rattle.formats.specs.Digits.{frontOf}
-use Rattle.frames.specs.Faithful.{writeAnswer, writtenAs}
+use Rattle.frame_writer.specs.Faithful.{writeAnswer, writtenAs}
 use Rattle.observation.specs.Edition.{obs, first}
 use Rattle.payloads.specs.Payloads.{Described, messages, AllOf}
 use Rattle.row_writer.specs.WriteRow.{alone, bodyOf, writeRow, rowWritten}

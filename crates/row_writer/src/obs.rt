@@ -3,16 +3,16 @@ ghost use mathlib.Core.Path.{_≡_};
 ghost use mathlib.Core.Bool.{true};
 ghost use Prim.Native.Nat.{_+_, _*_, _≤_};
 ghost use lib.ListN.{length};
-ghost use Rattle.wire.specs.Refusals.{zeroOr};
-ghost use Rattle.wire.specs.Layout.{rowsStored};
+ghost use Rattle.refusals.specs.Refusals.{zeroOr};
+ghost use Rattle.layouts.specs.Layout.{rowsStored};
 ghost use Rattle.formats.specs.Wide.{narrowRows, fitsRows};
-ghost use Rattle.frames.specs.Writer.{senderOf, sizeLeft};
+ghost use Rattle.frame_writer.specs.Writer.{senderOf, sizeLeft};
 ghost use Rattle.observation.specs.Edition.{observation};
 ghost use Rattle.payloads.specs.Checks.{numberBy};
 ghost use Rattle.row_writer.specs.WriteObsRow.{writeObsRow, obsRowWritten};
-ghost use Rattle.row_writer.specs.Parts.{testingObsRow};
+ghost use Rattle.row_writer.specs.Inner.{testingObsRow};
 use crate::send::send_frame;
-use frames::Sender;
+use frame_writer::Sender;
 
 // The first edition's fields as digits (formats/specs/Digits.antt), how many they are, and how many bytes they take.
 const HEAD: u64 = 0x124;

@@ -3,16 +3,16 @@ ghost use mathlib.Core.Path.{_≡_};
 ghost use mathlib.Core.Bool.{_&&_};
 ghost use Prim.Native.Nat.{_+_, _≤_};
 ghost use lib.ListN.{length};
-ghost use Rattle.wire.specs.Refusals.{zeroOr};
+ghost use Rattle.refusals.specs.Refusals.{zeroOr};
 ghost use Rattle.formats.specs.Digits.{formatsBy, sizeOf, runFits, runStored, formatsIn};
-ghost use Rattle.frames.specs.Writer.{senderOf, sizeLeft};
+ghost use Rattle.frame_writer.specs.Writer.{senderOf, sizeLeft};
 ghost use Rattle.payloads.specs.Checks.{numberBy};
 ghost use Rattle.payloads.specs.Payloads.{layoutFor, knownFor};
 ghost use Rattle.row_writer.specs.WriteRow.{alone, writeRow, rowWritten};
-ghost use Rattle.row_writer.specs.Parts.{testingRow};
+ghost use Rattle.row_writer.specs.Inner.{testingRow};
 use crate::send::send;
 use formats::Shape;
-use frames::Sender;
+use frame_writer::Sender;
 
 // Whether a type has a reading, and nothing after its fields.
 fn is_alone(kind: u16) -> bool

@@ -1,5 +1,5 @@
 -- Runs of packets: what the front of a history says of a run, that it has one key and one total, how large the total is, and document 01's
--- words for it. Assumes nothing.
+-- words for it.
 use mathlib.Core.Path.{_≡_, refl, sym, ap, ap₂, _∙_, subst}
 use mathlib.Core.List.{List, [], _∷_, _++_, map}
 use mathlib.Core.Logic.{_↔_}

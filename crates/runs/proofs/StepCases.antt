@@ -1,4 +1,4 @@
--- What a step can come to, and that nothing is open once an epoch ended. Assumes nothing.
+-- What a step can come to, and that nothing is open once an epoch ended.
 use mathlib.Core.Path.{_≡_, refl}
 use mathlib.Core.Bool.{Bool, true, false, cond}
 use Prim.Native.Nat.{ℕ, _+_, _%_, _<_}

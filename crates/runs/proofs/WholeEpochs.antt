@@ -1,5 +1,5 @@
 -- The step ends an epoch exactly when document 01 says that one ends: folded over packets from nothing on, it comes to a whole epoch with a
--- packet and a total exactly when `EpochEnds`. The open part is the run that is still unfinished. Assumes nothing.
+-- packet and a total exactly when `EpochEnds`. The open part is the run that is still unfinished.
 use mathlib.Core.Path.{_≡_, refl, sym, ap, _∙_, subst}
 use mathlib.Core.Bool.{Bool, true, false, cond, true≢false, and-eq-true-iff}
 use mathlib.Core.List.{List, [], _∷_}

@@ -1,4 +1,4 @@
--- An epoch in document 01's words, over the packets of one sender. Assumes nothing.
+-- An epoch in document 01's words, over the packets of one sender.
 use Prim.Native.Nat.{ℕ, zero, suc, _+_}
 use mathlib.Core.Path.{_≡_}
 use mathlib.Core.Bool.{true}

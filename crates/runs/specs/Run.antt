@@ -1,4 +1,4 @@
--- A run of packets in counter order, step by step. Assumes nothing.
+-- A run of packets in counter order, step by step.
 use Prim.Native.Nat.{ℕ, _+_, _%_}
 use mathlib.Core.Bool.{Bool, _&&_, cond}
 use mathlib.Core.List.{List, [], _∷_}

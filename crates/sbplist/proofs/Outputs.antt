@@ -1,4 +1,4 @@
--- What the program puts into its text is document 01's whole output. Assumes nothing.
+-- What the program puts into its text is document 01's whole output.
 use mathlib.Core.Path.{_≡_, refl, sym, ap, _∙_}
 use mathlib.Core.Bool.{true, true≢false}
 use mathlib.Core.List.{List, [], _∷_, _++_}
@@ -10,9 +10,9 @@ use lib.ListN.{length, take, drop, length-append}
 use lib.Seq.{sets, sets-eq, length-sets, take-append-seam}
 use borrow.Author.Tests.{le-leb, lt-leb, leb-true, leb-false}
 use Rattle.wire.specs.Number.{Bytes}
-use Rattle.wire.specs.Refusals.{refused, given, Answer, leaves, FirstFails}
-use Rattle.frames.specs.Writer.{startingWith}
-use Rattle.wire.proofs.Ordered.{exactly-first, exactly-all}
+use Rattle.refusals.specs.Refusals.{refused, given, Answer, leaves, FirstFails}
+use Rattle.frame_writer.specs.Writer.{startingWith}
+use Rattle.refusals.proofs.Ordered.{exactly-first, exactly-all}
 use Rattle.text.specs.Decimal.{digitsOf}
 use Rattle.text.specs.Line.{line}
 use Rattle.listing.specs.Listing.{textOf, mostListed, longestText, listing, listAnswer, withListing, output}

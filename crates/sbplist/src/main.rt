@@ -5,7 +5,7 @@ ghost use Prim.Native.Nat.{_≤_};
 ghost use mathlib.Core.Path.{_≡_};
 ghost use lib.ListN.{length, take};
 ghost use Rattle.listing.specs.Listing.{longestText, output};
-use frames::Written;
+use frame_writer::Written;
 
 // How reading standard input ended: with so many bytes, or with an error.
 enum Input {

@@ -1,5 +1,4 @@
 -- A sender enlisted in the bytes of a collator: the ways through it, and that the bytes then stand for the collator with that sender enlisted.
--- Assumes nothing.
 use mathlib.Core.Path.{_≡_, refl, sym, ap, _∙_}
 use mathlib.Core.Bool.{Bool, true, false, cond}
 use mathlib.Core.List.{List, []}
@@ -8,9 +7,9 @@ use native.Mathlib.Omega.{arith}
 use lib.Dec.{leb, ltb}
 use lib.ListN.{length, set}
 use borrow.Author.Tests.{le-leb, lt-leb, leb-false, ltb-true, ltb-false}
-use Rattle.wire.specs.Field.{Row, size, decode, rowStored}
-use Rattle.wire.proofs.Fields.{length-row}
-use Rattle.crc.specs.Table.{tabulated}
+use Rattle.layouts.specs.Field.{Row, size, decode, rowStored}
+use Rattle.layouts.proofs.Fields.{length-row}
+use Rattle.wire.specs.Tabulated.{tabulated}
 use Rattle.observation.specs.Edition.{isObs}
 use Rattle.epochs.specs.Search.{seatOf}
 use Rattle.epochs.specs.Collator.{rosterOf, made}
@@ -22,8 +21,8 @@ use Rattle.epochs.proofs.Making.{nobody, made-seated}
 use Rattle.enlisting.specs.Enlisting.{seatedIn, enlistedTo}
 use Rattle.states.specs.State.{countFields, seatFields, slotFields, stateSize, seatAt, slotAt, slotMake, placeOf, placeIn, sendersIn, seatIn, stateIn, collatorStored}
 use Rattle.states.specs.Enlist.{growingIn, growingAnswer, growingStored, seatTaken, seatedBy, joinedIn, enlistedIn, enlistIn, enlistAnswer, enlistStored}
-use Rattle.states.proofs.Parts.{decode-stored, decode-before, decode-after}
-use Rattle.states.proofs.Tables.{tabulated-set, tabulated-same}
+use Rattle.lent_rows.proofs.Parts.{decode-stored, decode-before, decode-after}
+use Rattle.wire.proofs.Tables.{tabulated-set, tabulated-same}
 use Rattle.states.proofs.States.{state-stored, length-collator}
 use Rattle.states.proofs.Makes.{fresh-held}
 

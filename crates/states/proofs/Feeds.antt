@@ -1,5 +1,4 @@
 -- A frame fed to a collator in bytes: what `feed` answers, case by case, and that it is what the collator does that the bytes stand for.
--- Assumes nothing.
 use mathlib.Core.Path.{_≡_, refl, sym, ap, _∙_, subst}
 use mathlib.Core.List.{List}
 use Prim.Native.Nat.{ℕ, _≤_, _<_}
@@ -7,10 +6,10 @@ use native.Mathlib.Omega.{arith}
 use lib.ListN.{length, getD, set, length-take}
 use borrow.Author.Tests.{le-leb, lt-leb}
 use Rattle.wire.specs.Number.{Bytes}
-use Rattle.wire.specs.Refusals.{refused, given, Answer}
-use Rattle.wire.specs.Field.{decode}
-use Rattle.crc.specs.Table.{tabulated}
-use Rattle.crc.proofs.ByTable.{tabulated-at}
+use Rattle.refusals.specs.Refusals.{refused, given, Answer}
+use Rattle.layouts.specs.Field.{decode}
+use Rattle.wire.specs.Tabulated.{tabulated}
+use Rattle.wire.proofs.Tables.{tabulated-at}
 use Rattle.frames.specs.Frame.{Content}
 use Rattle.packets.specs.declared.packet.Packet.{Packet}
 use Rattle.packets.proofs.Recognitions.{formed, n-small, time-small}
@@ -26,10 +25,10 @@ use Rattle.epochs.specs.declared.collating.Happened.{Happened}
 use Rattle.epochs.specs.declared.collating.Happened.the-variants as H
 use Rattle.epochs.proofs.Placings.{placed, placed-below}
 use Rattle.epochs.proofs.Reports.{SmallIn, Small, report-small}
-use Rattle.states.specs.Lent.{atFront}
+use Rattle.lent_rows.specs.Lent.{atFront}
 use Rattle.states.specs.State.{stateSize, placeIn, placeStored, stateIn}
 use Rattle.states.specs.Feed.{reportFields, reportSize, reportRow, endedNumber, endedStored, forPlaceIn, stepIn, FedIn, cameOut, fedIn}
-use Rattle.states.proofs.Parts.{stored-front, decode-stored}
+use Rattle.lent_rows.proofs.Parts.{stored-front, decode-stored}
 use Rattle.states.proofs.States.{SmallPacket, stepped-small, state-place}
 
 module _ (s : List ℕ) (x : Content) (report : List ℕ) where

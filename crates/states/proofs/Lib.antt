@@ -1,9 +1,4 @@
-pub mod Parts
-pub mod Tables
 pub mod States
 pub mod Feeds
 pub mod Makes
-pub mod Tells
-pub mod Lives
 pub mod Enlists
-pub mod Grows

@@ -1,5 +1,4 @@
 -- A collator made in bytes: what `make` answers, case by case, and that the bytes stand for the collator of that roster.
--- Assumes nothing.
 use mathlib.Core.Path.{_≡_, refl, sym, ap, _∙_, subst}
 use mathlib.Core.Bool.{Bool, true, false, _&&_, not, cond}
 use mathlib.Core.List.{List, _++_}
@@ -9,8 +8,8 @@ use lib.Dec.{leb}
 use lib.ListN.{length, getD, replicate, length-append, getD-replicate}
 use lib.Seq.{length-take-le, getD-take}
 use borrow.Author.Tests.{le-leb, lt-leb}
-use Rattle.wire.specs.Refusals.{refused, given, Answer, ordered, leaves, zeroOr, roomFor}
-use Rattle.wire.proofs.Joined.{ordered-joined, andThen}
+use Rattle.refusals.specs.Refusals.{refused, given, Answer, ordered, leaves, zeroOr, roomFor}
+use Rattle.refusals.proofs.Joined.{ordered-joined, andThen}
 use Rattle.epochs.specs.Search.{repeats}
 use Rattle.epochs.specs.Collator.{idle, fresh, rostering, asMade, made}
 use Rattle.epochs.specs.declared.collating.Collator.{Collator}

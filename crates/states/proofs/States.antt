@@ -1,4 +1,4 @@
--- What the bytes of a collator stand for after a place, or a whole collator, is stored among them. Assumes nothing.
+-- What the bytes of a collator stand for after a place, or a whole collator, is stored among them.
 use mathlib.Core.Path.{_≡_, refl, sym, ap, _∙_}
 use mathlib.Core.Bool.{Bool, true, false}
 use mathlib.Core.List.{List}
@@ -7,9 +7,9 @@ use native.Mathlib.Omega.{arith}
 use lib.Dec.{ltb}
 use lib.ListN.{length, getD, set}
 use borrow.Author.Tests.{ltb-true, ltb-false}
-use Rattle.wire.specs.Field.{HeldRow, SettledRow, Row, size}
-use Rattle.wire.proofs.Fields.{length-row}
-use Rattle.crc.specs.Table.{tabulated}
+use Rattle.layouts.specs.Field.{HeldRow, SettledRow, Row, size}
+use Rattle.layouts.proofs.Fields.{length-row}
+use Rattle.wire.specs.Tabulated.{tabulated}
 use Rattle.runs.specs.Run.{stepped}
 use Rattle.epochs.specs.Collator.{idle}
 use Rattle.packets.specs.declared.packet.Packet.{Packet}
@@ -21,8 +21,9 @@ use Rattle.runs.specs.declared.running.Stepped.{Stepped}
 use Rattle.epochs.specs.declared.collating.Collator.{Collator}
 use Rattle.runs.proofs.StepCases.{step-cases}
 use Rattle.states.specs.State.{countFields, seatFields, slotFields, seatsAt, placesAt, stateSize, seatAt, slotAt, slotRow, slotMake, placeOf, slotFor, slotOf, placeIn, placeStored, sendersIn, seatIn, seatsIn, stateIn, countStored, seatRow, seatsStored, placeRow, collatorStored}
-use Rattle.states.proofs.Parts.{decode-stored, decode-before, decode-after}
-use Rattle.states.proofs.Tables.{tabulated-set, tabulated-same, tabulated-all, rows-own, rows-before, length-stored}
+use Rattle.lent_rows.proofs.Parts.{decode-stored, decode-before, decode-after}
+use Rattle.wire.proofs.Tables.{tabulated-set, tabulated-same, tabulated-all}
+use Rattle.lent_rows.proofs.Tables.{rows-own, rows-before, length-stored}
 
 -- ---- a place that its bytes hold
 

@@ -1,11 +1,11 @@
--- What `grow` and `enlist` answer and leave in the bytes of a collator, whose roster takes senders as they come. Assumes nothing.
+-- What `grow` and `enlist` answer and leave in the bytes of a collator, whose roster takes senders as they come.
 use Prim.Native.Nat.{ℕ, _+_}
 use mathlib.Core.Bool.{cond}
 use mathlib.Core.List.{List, []}
 use lib.Dec.{leb}
 use lib.ListN.{length}
-use Rattle.wire.specs.Refusals.{Answer, ordered, leaves, zeroOr, roomFor}
-use Rattle.wire.specs.Field.{rowStored}
+use Rattle.refusals.specs.Refusals.{Answer, ordered, leaves, zeroOr, roomFor}
+use Rattle.layouts.specs.Field.{rowStored}
 use Rattle.observation.specs.Edition.{isObs}
 use Rattle.epochs.specs.Search.{seatOf}
 use Rattle.epochs.specs.Collator.{rosterOf, made}

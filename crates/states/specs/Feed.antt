@@ -1,9 +1,10 @@
--- What `make` and `feed` answer and leave in the bytes that they are lent, step by step. Assumes nothing.
+-- What `make` and `feed` answer and leave in the bytes that they are lent, step by step.
 use Prim.Native.Nat.{ℕ}
 use mathlib.Core.List.{List, [], _∷_, _++_}
 use lib.ListN.{length}
-use Rattle.wire.specs.Refusals.{Answer, Tests, ordered, leaves, asNumber, zeroOr, roomFor}
-use Rattle.wire.specs.Field.{Field, any, u8, u16, u32, Row, size}
+use Rattle.refusals.specs.Refusals.{Answer, Tests, ordered, leaves, asNumber, zeroOr, roomFor}
+use Rattle.wire.specs.Value.{u8, u16, u32}
+use Rattle.layouts.specs.Field.{Field, any, Row, size}
 use Rattle.frames.specs.Frame.{Content}
 use Rattle.packets.specs.declared.packet.Packet.{Packet}
 use Rattle.runs.specs.Run.{stepped}
@@ -13,7 +14,7 @@ use Rattle.runs.specs.declared.running.Stepped.{Stepped}
 use Rattle.epochs.specs.Collator.{feeding, ownPlace, reportOf, rosterOf, fresh, rostering}
 use Rattle.epochs.specs.declared.collating.Collator.{Collator}
 use Rattle.epochs.specs.declared.collating.Report.{Report}
-use Rattle.states.specs.Lent.{atFront}
+use Rattle.lent_rows.specs.Lent.{atFront}
 use Rattle.states.specs.State.{stateSize, placeIn, placeStored, stateIn, collatorStored}
 
 -- ---- made

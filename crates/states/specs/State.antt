@@ -1,18 +1,19 @@
--- A collator in 105 bytes: how many senders are listed, the eight seats of the roster, the eight places. Assumes nothing.
+-- A collator in 105 bytes: how many senders are listed, the eight seats of the roster, the eight places.
 use Prim.Native.Nat.{ℕ, _+_, _*_}
 use mathlib.Core.Bool.{cond}
 use mathlib.Core.List.{List, [], _∷_}
 use lib.Dec.{eqb}
 use lib.ListN.{getD}
 use Rattle.wire.specs.Number.{numberAt}
-use Rattle.wire.specs.Field.{Field, any, u8, u16, u32, Row, size, decode, rowStored}
-use Rattle.crc.specs.Table.{tabulated}
+use Rattle.wire.specs.Value.{u8, u16, u32}
+use Rattle.layouts.specs.Field.{Field, any, Row, size, decode, rowStored}
+use Rattle.wire.specs.Tabulated.{tabulated}
 use Rattle.epochs.specs.Collator.{idle}
 use Rattle.runs.specs.declared.running.Run.{Run}
 use Rattle.runs.specs.declared.running.Run.the-variants.{Idle, Open}
 use Rattle.epochs.specs.declared.collating.Place.{Place}
 use Rattle.epochs.specs.declared.collating.Collator.{Collator}
-use Rattle.states.specs.Lent.{firstRowsStored}
+use Rattle.lent_rows.specs.Lent.{firstRowsStored}
 use Rattle.states.specs.declared.placing.Slot.{Slot}
 
 -- ---- where the parts stand

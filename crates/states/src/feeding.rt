@@ -2,7 +2,7 @@
 ghost use mathlib.Core.Path.{_≡_};
 ghost use Prim.Native.Nat.{_<_, _≤_};
 ghost use lib.ListN.{length};
-ghost use Rattle.wire.specs.Field.{rowStored};
+ghost use Rattle.layouts.specs.Field.{rowStored};
 ghost use Rattle.epochs.specs.Collator.{recognisedAnswer, forPlace, rosterOf};
 ghost use Rattle.states.specs.State.{seatIn, seatsIn, stateIn, placeStored};
 ghost use Rattle.states.specs.Feed.{reportFields, reportSize, reportRow, endedNumber, endedStored, stepIn, fedIn};

@@ -1,10 +1,10 @@
--- SETTINGS_SAVE, 0x00A1, and READ_BY_INDEX_DONE, 0x00A6: no payload. Assumes nothing.
+-- SETTINGS_SAVE, 0x00A1, and READ_BY_INDEX_DONE, 0x00A6: no payload.
 use Prim.Native.Nat.{ℕ}
 use mathlib.Core.Path.{refl}
 use mathlib.Core.List.{[]}
-use Rattle.wire.specs.Layout.{run}
-use Rattle.wire.specs.Description.{Description}
-use Rattle.wire.specs.Refusals.{refused, given, Answer}
+use Rattle.layouts.specs.Layout.{run}
+use Rattle.layouts.specs.Description.{Description}
+use Rattle.refusals.specs.Refusals.{refused, given, Answer}
 use Rattle.system.specs.declared.empty.EmptyRead.{EmptyRead}
 use Rattle.system.specs.declared.empty.EmptyRead.the-variants.{Empty, Refused}
 

@@ -1,10 +1,11 @@
--- HEARTBEAT, 0xFFFF: the device runs, with its status flags. Assumes nothing.
+-- HEARTBEAT, 0xFFFF: the device runs, with its status flags.
 use mathlib.Core.Path.{refl}
 use mathlib.Core.List.{[], _∷_}
-use Rattle.wire.specs.Field.{any, u32}
-use Rattle.wire.specs.Layout.{run}
-use Rattle.wire.specs.Description.{Description}
-use Rattle.wire.specs.Refusals.{refused, given, Answer}
+use Rattle.wire.specs.Value.{u32}
+use Rattle.layouts.specs.Field.{any}
+use Rattle.layouts.specs.Layout.{run}
+use Rattle.layouts.specs.Description.{Description}
+use Rattle.refusals.specs.Refusals.{refused, given, Answer}
 use Rattle.system.specs.declared.heartbeat.Heartbeat.{Heartbeat}
 use Rattle.system.specs.declared.heartbeat.HeartbeatRead.{HeartbeatRead}
 use Rattle.system.specs.declared.heartbeat.HeartbeatRead.the-variants.{Record, Refused}

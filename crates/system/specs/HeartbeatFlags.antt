@@ -1,4 +1,4 @@
--- What the flags of a HEARTBEAT mean (003, tables 6.5.3 to 6.5.6). Assumes nothing.
+-- What the flags of a HEARTBEAT mean (003, tables 6.5.3 to 6.5.6).
 use Prim.Native.Nat.{ℕ}
 use mathlib.Core.Bool.{Bool}
 use Rattle.wire.specs.Number.{flagAt}

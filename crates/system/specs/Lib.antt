@@ -1,5 +1,3 @@
-pub mod Log
-pub mod LogFaithful
 pub mod Empty
 pub mod ReadByIndexReq
 pub mod Startup

@@ -1,10 +1,11 @@
--- READ_BY_INDEX_REQ, 0x00A2: asks for the setting at an index. Assumes nothing.
+-- READ_BY_INDEX_REQ, 0x00A2: asks for the setting at an index.
 use mathlib.Core.Path.{refl}
 use mathlib.Core.List.{[], _∷_}
-use Rattle.wire.specs.Field.{any, u16}
-use Rattle.wire.specs.Layout.{run}
-use Rattle.wire.specs.Description.{Description}
-use Rattle.wire.specs.Refusals.{refused, given, Answer}
+use Rattle.wire.specs.Value.{u16}
+use Rattle.layouts.specs.Field.{any}
+use Rattle.layouts.specs.Layout.{run}
+use Rattle.layouts.specs.Description.{Description}
+use Rattle.refusals.specs.Refusals.{refused, given, Answer}
 use Rattle.system.specs.declared.settings.ReadByIndexReq.{ReadByIndexReq}
 use Rattle.system.specs.declared.settings.ReadByIndexReqRead.{ReadByIndexReqRead}
 use Rattle.system.specs.declared.settings.ReadByIndexReqRead.the-variants.{Record, Refused}

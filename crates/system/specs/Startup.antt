@@ -1,10 +1,11 @@
--- STARTUP, 0xFF00: the device has started. Assumes nothing.
+-- STARTUP, 0xFF00: the device has started.
 use mathlib.Core.Path.{refl}
 use mathlib.Core.List.{[], _∷_}
-use Rattle.wire.specs.Field.{any, u32}
-use Rattle.wire.specs.Layout.{run}
-use Rattle.wire.specs.Description.{Description}
-use Rattle.wire.specs.Refusals.{refused, given, Answer}
+use Rattle.wire.specs.Value.{u32}
+use Rattle.layouts.specs.Field.{any}
+use Rattle.layouts.specs.Layout.{run}
+use Rattle.layouts.specs.Description.{Description}
+use Rattle.refusals.specs.Refusals.{refused, given, Answer}
 use Rattle.system.specs.declared.startup.Startup.{Startup}
 use Rattle.system.specs.declared.startup.StartupRead.{StartupRead}
 use Rattle.system.specs.declared.startup.StartupRead.the-variants.{Record, Refused}

@@ -2,12 +2,12 @@
 ghost use Prim.Native.Nat.{ℕ};
 ghost use mathlib.Core.Path.{_≡_};
 ghost use lib.ListN.{length};
-ghost use Rattle.wire.specs.Description.{readAs};
-ghost use Rattle.frames.specs.Writer.{senderOf, writtenAnswer};
-ghost use Rattle.frames.specs.Faithful.{writeAnswer, writtenAs};
+ghost use Rattle.layouts.specs.Description.{readAs};
+ghost use Rattle.frame_writer.specs.Writer.{senderOf, writtenAnswer};
+ghost use Rattle.frame_writer.specs.Faithful.{writeAnswer, writtenAs};
 ghost use Rattle.system.specs.Empty.{empty, settingsSave, readByIndexDone, emptyAnswer};
-use frames::Sender;
-use frames::Written;
+use frame_writer::Sender;
+use frame_writer::Written;
 
 pub enum EmptyRead {
     Empty,
@@ -27,9 +27,9 @@ fn write_empty(buf: &mut [u8], kind: u16, sender: Sender) -> Written
     ensures { λ w. ⌜ writtenAnswer w ≡ writeAnswer (empty kind) tt (length (now (buf .entry))) ⌝ }
     ensures { λ _. ⌜ now (buf .exit) ≡ writtenAs (empty kind) (senderOf sender) tt (now (buf .entry)) ⌝ }
 {
-    let answer = frames::plan(0, buf.len());
+    let answer = frame_writer::plan(0, buf.len());
     if let Written::Bytes(_) = answer {
-        frames::seal(buf, kind, sender, 0);
+        frame_writer::seal(buf, kind, sender, 0);
     }
     answer
 }

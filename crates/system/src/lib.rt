@@ -1,10 +1,9 @@
-// The logging, settings and system messages of 003, sections 6.1, 6.4 and 6.5: records, readers and writers.
-// Read specs/Log.antt first, whose text and zeros take what is left of the payload, then the other descriptions, a line of document 01 each;
-// specs/Empty.antt has the two messages without a payload, specs/HeartbeatFlags.antt the bits that 003 names.
+// The settings and system messages of 003, sections 6.4 and 6.5: records, readers and writers.
+// Read the descriptions, a line of document 01 each; specs/Empty.antt has the two messages without a payload, specs/HeartbeatFlags.antt the bits
+// that 003 names.
 mod empty;
 mod flags;
 mod heartbeat;
-mod log;
 mod settings;
 mod startup;
 
@@ -22,14 +21,6 @@ pub use heartbeat::HeartbeatRead;
 pub use heartbeat::read_heartbeat;
 pub use heartbeat::take_heartbeat;
 pub use heartbeat::write_heartbeat;
-pub use log::Log;
-pub use log::LogRead;
-pub use log::is_log_length;
-pub use log::log_padded;
-pub use log::log_text;
-pub use log::read_log;
-pub use log::take_log;
-pub use log::write_log;
 pub use settings::ReadByIndexReq;
 pub use settings::ReadByIndexReqRead;
 pub use settings::read_read_by_index_req;

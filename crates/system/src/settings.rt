@@ -1,13 +1,13 @@
 // READ_BY_INDEX_REQ, 0x00A2: asks for the setting at an index.
 ghost use mathlib.Core.Path.{_≡_};
 ghost use lib.ListN.{length};
-ghost use Rattle.wire.specs.Layout.{bodyStored};
-ghost use Rattle.wire.specs.Description.{inside, readAs};
-ghost use Rattle.frames.specs.Writer.{senderOf, writtenAnswer};
-ghost use Rattle.frames.specs.Faithful.{writeAnswer, writtenAs};
+ghost use Rattle.layouts.specs.Layout.{bodyStored};
+ghost use Rattle.layouts.specs.Description.{inside, readAs};
+ghost use Rattle.frame_writer.specs.Writer.{senderOf, writtenAnswer};
+ghost use Rattle.frame_writer.specs.Faithful.{writeAnswer, writtenAs};
 ghost use Rattle.system.specs.ReadByIndexReq.{readByIndexReq, answerOf};
-use frames::Sender;
-use frames::Written;
+use frame_writer::Sender;
+use frame_writer::Written;
 
 pub struct ReadByIndexReq {
     pub index: u16,
@@ -45,10 +45,10 @@ pub fn write_read_by_index_req(buf: &mut [u8], sender: Sender, r: ReadByIndexReq
     ensures { λ w. ⌜ writtenAnswer w ≡ writeAnswer readByIndexReq r (length (now (buf .entry))) ⌝ }
     ensures { λ _. ⌜ now (buf .exit) ≡ writtenAs readByIndexReq (senderOf sender) r (now (buf .entry)) ⌝ }
 {
-    let answer = frames::plan(2, buf.len());
+    let answer = frame_writer::plan(2, buf.len());
     if let Written::Bytes(_) = answer {
         put(buf, r);
-        frames::seal(buf, 0x00a2, sender, 2);
+        frame_writer::seal(buf, 0x00a2, sender, 2);
     }
     answer
 }

@@ -1,13 +1,13 @@
 // STARTUP, 0xFF00: the device has started.
 ghost use mathlib.Core.Path.{_≡_};
 ghost use lib.ListN.{length};
-ghost use Rattle.wire.specs.Layout.{bodyStored};
-ghost use Rattle.wire.specs.Description.{inside, readAs};
-ghost use Rattle.frames.specs.Writer.{senderOf, writtenAnswer};
-ghost use Rattle.frames.specs.Faithful.{writeAnswer, writtenAs};
+ghost use Rattle.layouts.specs.Layout.{bodyStored};
+ghost use Rattle.layouts.specs.Description.{inside, readAs};
+ghost use Rattle.frame_writer.specs.Writer.{senderOf, writtenAnswer};
+ghost use Rattle.frame_writer.specs.Faithful.{writeAnswer, writtenAs};
 ghost use Rattle.system.specs.Startup.{startup, answerOf};
-use frames::Sender;
-use frames::Written;
+use frame_writer::Sender;
+use frame_writer::Written;
 
 pub struct Startup {
     pub reserved: u32,
@@ -45,10 +45,10 @@ pub fn write_startup(buf: &mut [u8], sender: Sender, r: Startup) -> Written
     ensures { λ w. ⌜ writtenAnswer w ≡ writeAnswer startup r (length (now (buf .entry))) ⌝ }
     ensures { λ _. ⌜ now (buf .exit) ≡ writtenAs startup (senderOf sender) r (now (buf .entry)) ⌝ }
 {
-    let answer = frames::plan(4, buf.len());
+    let answer = frame_writer::plan(4, buf.len());
     if let Written::Bytes(_) = answer {
         put(buf, r);
-        frames::seal(buf, 0xff00, sender, 4);
+        frame_writer::seal(buf, 0xff00, sender, 4);
     }
     answer
 }

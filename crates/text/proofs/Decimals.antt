@@ -1,4 +1,4 @@
--- Numbers in decimal: one digit and one more, how many there are, and that they stand for the number. Assumes nothing.
+-- Numbers in decimal: one digit and one more, how many there are, and that they stand for the number.
 use mathlib.Core.Path.{_≡_, refl, ap, _∙_}
 use mathlib.Core.Bool.{Bool, true, false}
 use mathlib.Core.List.{List, [], _∷_, _++_}

@@ -1,4 +1,4 @@
--- A text put into a buffer from its last piece to its first: what the loops of `put_digits` and `put_fields` keep. Assumes nothing.
+-- A text put into a buffer from its last piece to its first: what the loops of `put_digits` and `put_fields` keep.
 use mathlib.Core.Path.{_≡_, refl, sym, ap, _∙_}
 use mathlib.Core.List.{List, [], _∷_, _++_}
 use Prim.Native.Nat.{ℕ, suc, _+_, _-_, _≤_, _<_}

@@ -1,4 +1,4 @@
--- Lines: their lengths, and their fields one number more at a time. Assumes nothing.
+-- Lines: their lengths, and their fields one number more at a time.
 use mathlib.Core.Path.{_≡_, refl, sym, ap, ap₂, _∙_, subst, subst⁻¹}
 use mathlib.Core.List.{List, [], _∷_, _++_, append-assoc, append-nil}
 use Prim.Native.Nat.{ℕ, suc, _+_, _*_, _-_, _%_, _^_, _≤_, _<_}
@@ -6,7 +6,7 @@ use native.Mathlib.Omega.{arith}
 use lib.ListN.{length, getD, set, take, length-append}
 use lib.Seq.{sets, take-all, take-suc}
 use Rattle.wire.specs.Number.{bytesStored}
-use Rattle.wire.proofs.Layouts.{bytes-sets, bytes-nowhere}
+use Rattle.wire.proofs.Stored.{bytes-sets, bytes-nowhere}
 use Rattle.text.specs.Decimal.{decimal}
 use Rattle.text.specs.Line.{fields, line}
 use Rattle.text.proofs.Filling.{last-first, Filling, filling-begun, filling-length, filling-more}

@@ -1,4 +1,4 @@
--- What is left to store of a text, while it is put into a buffer piece by piece. Assumes nothing.
+-- What is left to store of a text, while it is put into a buffer piece by piece.
 use mathlib.Core.Path.{_≡_, refl, sym, ap, ap₂, _∙_, subst}
 use mathlib.Core.List.{List, [], _++_, append-nil}
 use Prim.Native.Nat.{ℕ, _+_, _%_, _^_, _≤_, _<_}
@@ -7,7 +7,7 @@ use lib.ListN.{length, length-append}
 use lib.Seq.{sets, length-sets}
 use Rattle.wire.specs.Number.{bytesStored}
 use Rattle.wire.proofs.Numbers.{sets-append}
-use Rattle.wire.proofs.Layouts.{bytes-sets, length-bytes-stored}
+use Rattle.wire.proofs.Stored.{bytes-sets, length-bytes-stored}
 
 -- rest, stored from `at` on, ends at `end` and makes the goal; where the text may have no room, that is said for P alone
 pub record Pending (P : Type 0) (goal : List ℕ) (end : ℕ) (buf : List ℕ) (at : ℕ) (rest : List ℕ) : Type 0 where

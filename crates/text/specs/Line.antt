@@ -1,4 +1,4 @@
--- A line of text: a letter, each number behind a space, and the line's end. Assumes nothing.
+-- A line of text: a letter, each number behind a space, and the line's end.
 use Prim.Native.Nat.{ℕ}
 use mathlib.Core.List.{List, [], _∷_, _++_}
 use Rattle.text.specs.Decimal.{decimal}

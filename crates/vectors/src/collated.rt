@@ -398,7 +398,7 @@ fn replay(name: &[u8], s: &[u8]) {
     reports(s);
     print::end();
     print::word(name);
-    let c = epochs::collate(s, &[1228, 0]);
+    let c = captures::collate(s, &[1228, 0]);
     print::number(c.number as u64);
     let reports = c.reports;
     print::number(reports[0] as u64);

@@ -22,12 +22,12 @@ fn answer(kind: u16, s: &[u8]) {
     print::number(payloads::answer(kind, s) as u64);
 }
 
-fn mode(fix: navigation::Fix) {
+fn mode(fix: flags::Fix) {
     match fix {
-        navigation::Fix::SinglePoint => print::word(b" single"),
-        navigation::Fix::Float => print::word(b" float"),
-        navigation::Fix::Fixed => print::word(b" fixed"),
-        navigation::Fix::Reserved => print::word(b" reserved"),
+        flags::Fix::SinglePoint => print::word(b" single"),
+        flags::Fix::Float => print::word(b" float"),
+        flags::Fix::Fixed => print::word(b" fixed"),
+        flags::Fix::Reserved => print::word(b" reserved"),
     }
 }
 
@@ -45,11 +45,11 @@ fn fix(flags: u8) {
     positions(flags);
     baseline(flags);
     other_baselines(flags);
-    bit(navigation::raim_available(flags));
-    bit(navigation::raim_repaired(flags));
-    bit(navigation::pos_llh_above_sea(flags));
-    bit(navigation::pos_llh_raim_available(flags));
-    bit(navigation::pos_llh_raim_repaired(flags));
+    bit(flags::raim_available(flags));
+    bit(flags::raim_repaired(flags));
+    bit(flags::pos_llh_above_sea(flags));
+    bit(flags::pos_llh_raim_available(flags));
+    bit(flags::pos_llh_raim_repaired(flags));
     print::end();
 }
 
@@ -57,17 +57,17 @@ fn positions(flags: u8) {
     let mut s = [0u8; 34];
     wire::store_u8(&mut s, 31, flags);
     answer(0x0200, front(&s, 32));
-    mode(navigation::pos_ecef_fix(flags));
+    mode(flags::pos_ecef_fix(flags));
     wire::store_u8(&mut s, 33, flags);
     answer(0x0201, &s);
-    mode(navigation::pos_llh_fix(flags));
+    mode(flags::pos_llh_fix(flags));
 }
 
 fn baseline(flags: u8) {
     let mut s = [0u8; 20];
     wire::store_u8(&mut s, 19, flags);
     answer(0x0202, &s);
-    mode(navigation::baseline_fix(flags));
+    mode(flags::baseline_fix(flags));
 }
 
 fn other_baselines(flags: u8) {

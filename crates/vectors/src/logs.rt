@@ -3,8 +3,8 @@ use crate::payload::front;
 use crate::payload::mixed;
 use crate::print;
 use crate::written;
-use frames::Sender;
-use system::LogRead;
+use frame_writer::Sender;
+use logs::LogRead;
 
 // A place past every payload and text, where a store does nothing.
 const NOWHERE: usize = 300;
@@ -55,7 +55,7 @@ fn read(s: &[u8], k: usize, letter: usize, n: usize) {
 fn told(payload: &[u8]) {
     print::word(b"log");
     print::number(payload.len() as u64);
-    match system::read_log(payload) {
+    match logs::read_log(payload) {
         LogRead::Record(r) => {
             print::number(r.level as u64);
             print::number(r.length as u64);
@@ -63,7 +63,7 @@ fn told(payload: &[u8]) {
         }
         LogRead::Refused(n) => print::refused(n),
     }
-    print::bytes(system::log_text(payload));
+    print::bytes(logs::log_text(payload));
     print::end();
 }
 
@@ -122,7 +122,7 @@ fn put(buf: &mut [u8], text: &[u8], padding: usize) {
     print::word(b"write-log");
     print::number(text.len() as u64);
     print::number(padding as u64);
-    written::outcome(system::write_log(buf, Sender::Unnamed, 6, text, padding));
+    written::outcome(logs::write_log(buf, Sender::Unnamed, 6, text, padding));
     print::bytes(buf);
     print::end();
 }

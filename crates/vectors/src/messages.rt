@@ -2,26 +2,26 @@
 // What prints a record stands apart from what reads it: a short function is proved in a fraction of a long one's time.
 use crate::payload::front;
 use crate::print;
-use frames::Sender;
-use frames::Written;
-use navigation::BaselineHeading;
-use navigation::BaselineHeadingRead;
+use frame_writer::Sender;
+use frame_writer::Written;
+use baselines::BaselineHeading;
+use baselines::BaselineHeadingRead;
 use navigation::Dops;
 use navigation::DopsRead;
-use navigation::EcefVector;
-use navigation::EcefVectorRead;
+use baselines::EcefVector;
+use baselines::EcefVectorRead;
 use navigation::GpsTime;
 use navigation::GpsTimeRead;
-use navigation::NedVector;
-use navigation::NedVectorRead;
+use baselines::NedVector;
+use baselines::NedVectorRead;
 use navigation::PosEcef;
 use navigation::PosEcefRead;
 use navigation::PosLlh;
 use navigation::PosLlhRead;
-use observation::BasePosEcef;
-use observation::BasePosEcefRead;
-use observation::BasePosLlh;
-use observation::BasePosLlhRead;
+use base_positions::BasePosEcef;
+use base_positions::BasePosEcefRead;
+use base_positions::BasePosLlh;
+use base_positions::BasePosLlhRead;
 use system::EmptyRead;
 use system::Heartbeat;
 use system::HeartbeatRead;
@@ -125,7 +125,7 @@ fn pos_llh_again(r: PosLlh) {
 
 pub fn baseline_ecef(s: &[u8]) {
     print::word(b"baseline-ecef");
-    match navigation::read_baseline_ecef(s) {
+    match baselines::read_baseline_ecef(s) {
         EcefVectorRead::Record(r) => baseline_ecef_again(r),
         EcefVectorRead::Refused(n) => print::refused(n),
     }
@@ -135,13 +135,13 @@ pub fn baseline_ecef(s: &[u8]) {
 fn baseline_ecef_again(r: EcefVector) {
     ecef(r);
     let mut buf = [0u8; 64];
-    let w = navigation::write_baseline_ecef(&mut buf, Sender::Named(0x0201), r);
+    let w = baselines::write_baseline_ecef(&mut buf, Sender::Named(0x0201), r);
     written(&buf, w);
 }
 
 pub fn vel_ecef(s: &[u8]) {
     print::word(b"vel-ecef");
-    match navigation::read_vel_ecef(s) {
+    match baselines::read_vel_ecef(s) {
         EcefVectorRead::Record(r) => vel_ecef_again(r),
         EcefVectorRead::Refused(n) => print::refused(n),
     }
@@ -151,7 +151,7 @@ pub fn vel_ecef(s: &[u8]) {
 fn vel_ecef_again(r: EcefVector) {
     ecef(r);
     let mut buf = [0u8; 64];
-    let w = navigation::write_vel_ecef(&mut buf, Sender::Named(0x0201), r);
+    let w = baselines::write_vel_ecef(&mut buf, Sender::Named(0x0201), r);
     written(&buf, w);
 }
 
@@ -167,7 +167,7 @@ fn ecef(r: EcefVector) {
 
 pub fn baseline_ned(s: &[u8]) {
     print::word(b"baseline-ned");
-    match navigation::read_baseline_ned(s) {
+    match baselines::read_baseline_ned(s) {
         NedVectorRead::Record(r) => baseline_ned_again(r),
         NedVectorRead::Refused(n) => print::refused(n),
     }
@@ -177,13 +177,13 @@ pub fn baseline_ned(s: &[u8]) {
 fn baseline_ned_again(r: NedVector) {
     ned(r);
     let mut buf = [0u8; 64];
-    let w = navigation::write_baseline_ned(&mut buf, Sender::Named(0x0201), r);
+    let w = baselines::write_baseline_ned(&mut buf, Sender::Named(0x0201), r);
     written(&buf, w);
 }
 
 pub fn vel_ned(s: &[u8]) {
     print::word(b"vel-ned");
-    match navigation::read_vel_ned(s) {
+    match baselines::read_vel_ned(s) {
         NedVectorRead::Record(r) => vel_ned_again(r),
         NedVectorRead::Refused(n) => print::refused(n),
     }
@@ -193,7 +193,7 @@ pub fn vel_ned(s: &[u8]) {
 fn vel_ned_again(r: NedVector) {
     ned(r);
     let mut buf = [0u8; 64];
-    let w = navigation::write_vel_ned(&mut buf, Sender::Named(0x0201), r);
+    let w = baselines::write_vel_ned(&mut buf, Sender::Named(0x0201), r);
     written(&buf, w);
 }
 
@@ -210,7 +210,7 @@ fn ned(r: NedVector) {
 
 pub fn baseline_heading(s: &[u8]) {
     print::word(b"baseline-heading");
-    match navigation::read_baseline_heading(s) {
+    match baselines::read_baseline_heading(s) {
         BaselineHeadingRead::Record(r) => baseline_heading_again(r),
         BaselineHeadingRead::Refused(n) => print::refused(n),
     }
@@ -223,13 +223,13 @@ fn baseline_heading_again(r: BaselineHeading) {
     print::number(r.n_sats as u64);
     print::number(r.flags as u64);
     let mut buf = [0u8; 64];
-    let w = navigation::write_baseline_heading(&mut buf, Sender::Named(0x0201), r);
+    let w = baselines::write_baseline_heading(&mut buf, Sender::Named(0x0201), r);
     written(&buf, w);
 }
 
 pub fn base_pos_llh(s: &[u8]) {
     print::word(b"base-pos-llh");
-    match observation::read_base_pos_llh(s) {
+    match base_positions::read_base_pos_llh(s) {
         BasePosLlhRead::Record(r) => base_pos_llh_again(r),
         BasePosLlhRead::Refused(n) => print::refused(n),
     }
@@ -241,13 +241,13 @@ fn base_pos_llh_again(r: BasePosLlh) {
     print::hex(r.lon.bits(), 16);
     print::hex(r.height.bits(), 16);
     let mut buf = [0u8; 64];
-    let w = observation::write_base_pos_llh(&mut buf, Sender::Named(0x0201), r);
+    let w = base_positions::write_base_pos_llh(&mut buf, Sender::Named(0x0201), r);
     written(&buf, w);
 }
 
 pub fn base_pos_ecef(s: &[u8]) {
     print::word(b"base-pos-ecef");
-    match observation::read_base_pos_ecef(s) {
+    match base_positions::read_base_pos_ecef(s) {
         BasePosEcefRead::Record(r) => base_pos_ecef_again(r),
         BasePosEcefRead::Refused(n) => print::refused(n),
     }
@@ -259,7 +259,7 @@ fn base_pos_ecef_again(r: BasePosEcef) {
     print::hex(r.y.bits(), 16);
     print::hex(r.z.bits(), 16);
     let mut buf = [0u8; 64];
-    let w = observation::write_base_pos_ecef(&mut buf, Sender::Named(0x0201), r);
+    let w = base_positions::write_base_pos_ecef(&mut buf, Sender::Named(0x0201), r);
     written(&buf, w);
 }
 

@@ -4,13 +4,13 @@ use crate::payload::front;
 use crate::payload::mixed;
 use crate::print;
 use crate::written;
-use frames::Sender;
+use frame_writer::Sender;
 use observation::Obs;
 use observation::ObsRead;
 use observation::Observation;
 use observation::ObservationRead;
-use observation::Phase;
-use observation::PhaseParts;
+use phases::Phase;
+use phases::PhaseParts;
 
 pub fn run() {
     let s = mixed(3, 37);
@@ -150,14 +150,14 @@ fn phase(l_i: i32, l_f: u8) {
     print::word(b"phase");
     print::signed_32(l_i);
     print::number(l_f as u64);
-    print::signed(observation::carrier_phase(Phase { l_i, l_f }));
+    print::signed(phases::carrier_phase(Phase { l_i, l_f }));
     print::end();
 }
 
 fn parts(z: i64) {
     print::word(b"parts");
     print::signed(z);
-    match observation::phase_parts(z) {
+    match phases::phase_parts(z) {
         PhaseParts::Parts(p) => {
             print::signed_32(p.l_i);
             print::number(p.l_f as u64);

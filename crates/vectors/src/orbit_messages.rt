@@ -2,7 +2,7 @@
 // one function each.
 use crate::messages::written;
 use crate::print;
-use frames::Sender;
+use frame_writer::Sender;
 use orbits::Clock;
 use orbits::Cubic;
 use orbits::Ellipse;

@@ -5,9 +5,9 @@ use crate::payload::mixed;
 use crate::print;
 use frames::Cursor;
 use frames::Next;
-use frames::Sender;
+use frame_writer::Sender;
 use frames::Step;
-use frames::Written;
+use frame_writer::Written;
 
 pub fn run() {
     let mut n = 0;
@@ -33,7 +33,7 @@ fn length(n: usize) {
     let mut buf = [0xeeu8; 300];
     print::word(b"length");
     print::number(n as u64);
-    outcome(frames::write_frame(&mut buf, 0x1234, Sender::Named(0x5678), front(&payload, n)));
+    outcome(frame_writer::write_frame(&mut buf, 0x1234, Sender::Named(0x5678), front(&payload, n)));
     after(&buf, n);
     print::end();
 }
@@ -58,7 +58,7 @@ fn cuts() {
     let payload = mixed(255, 3);
     let mut buf = [0u8; 263];
     print::word(b"write 255-into-263");
-    outcome(frames::write_frame(&mut buf, 0x1234, Sender::Unnamed, front(&payload, 255)));
+    outcome(frame_writer::write_frame(&mut buf, 0x1234, Sender::Unnamed, front(&payload, 255)));
     print::end();
     each_cut(&buf);
 }
@@ -104,7 +104,7 @@ fn refusals() {
 
 fn tried(name: &[u8], buf: &mut [u8], payload: &[u8]) {
     print::word(name);
-    outcome(frames::write_frame(buf, 0x0102, Sender::Unnamed, payload));
+    outcome(frame_writer::write_frame(buf, 0x0102, Sender::Unnamed, payload));
     print::bytes(buf);
     print::end();
 }

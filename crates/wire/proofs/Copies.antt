@@ -1,4 +1,4 @@
--- The loop that copies bytes into a buffer. Assumes nothing.
+-- The loop that copies bytes into a buffer.
 use mathlib.Core.Path.{_≡_, refl, sym, ap, _∙_}
 use mathlib.Core.List.{List}
 use Prim.Native.Nat.{ℕ, suc, _+_, _≤_, _<_, zero-le}

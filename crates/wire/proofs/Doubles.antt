@@ -1,4 +1,4 @@
--- What 64 bits stand for has those bits: for every pattern, minus zero and every NaN's included. Assumes nothing.
+-- What 64 bits stand for has those bits: for every pattern, minus zero and every NaN's included.
 use mathlib.Core.Path.{_≡_, refl, sym, ap, _∙_}
 use mathlib.Core.Bool.{Bool, true, false, not, false≢true}
 use Prim.Native.Nat.{ℕ, _^_, _<_}

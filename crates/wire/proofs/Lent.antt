@@ -1,4 +1,4 @@
--- What is lent of a list from some place on, as code denotes it, and the list once that has come back. Assumes nothing.
+-- What is lent of a list from some place on, as code denotes it, and the list once that has come back.
 use mathlib.Core.Path.{_≡_, ap, _∙_}
 use mathlib.Core.List.{List, _++_}
 use Prim.Native.Nat.{ℕ, _-_}

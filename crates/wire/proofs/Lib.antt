@@ -2,13 +2,8 @@ pub mod Numbers
 pub mod Lent
 pub mod Signed
 pub mod Doubles
-pub mod Fields
 pub mod Texts
-pub mod Layouts
 pub mod Copies
-pub mod Distinct
-pub mod Ordered
-pub mod Joined
-pub mod Descriptions
 pub mod OneBit
-pub mod Together
+pub mod Stored
+pub mod Tables

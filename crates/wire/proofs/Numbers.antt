@@ -1,5 +1,5 @@
 -- Laws of numbers in bytes, over the width: a number read or stored is its two halves read or stored, a number as bytes comes back,
--- and so do bytes as a number. Assumes nothing.
+-- and so do bytes as a number.
 use mathlib.Core.Path.{_≡_, refl, sym, ap, ap₂, _∙_}
 use mathlib.Core.Bool.{Bool, cond, true, false}
 use mathlib.Core.List.{List, [], _∷_, _++_, append-nil}

@@ -1,4 +1,4 @@
--- One bit of a number: by shift and mask, and none past the number's width. Assumes nothing.
+-- One bit of a number: by shift and mask, and none past the number's width.
 use mathlib.Core.Path.{_≡_, sym, ap}
 use mathlib.Core.Bool.{false}
 use Prim.Native.Nat.{ℕ, _/_, _%_, _^_, _≤_, _<_}

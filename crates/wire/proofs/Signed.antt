@@ -1,5 +1,5 @@
 -- The bits of a signed number, over the width. Of a number that is not negative they stand for it unsigned too; of a negative one they do
--- so once they are turned over. Assumes nothing.
+-- so once they are turned over.
 use mathlib.Core.Path.{_≡_, sym, ap, _∙_}
 use mathlib.Core.Bool.{Bool, true, false, true≢false}
 use Prim.Native.Nat.{ℕ, _-_, _^_, _≤_, _<_}

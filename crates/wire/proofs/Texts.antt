@@ -1,5 +1,5 @@
 -- A text and the zeros after it: bytes split at the first zero, joined again, are the same, and no other split has a text without a zero and
--- zeros alone after it. Assumes nothing.
+-- zeros alone after it.
 use mathlib.Core.Path.{_≡_, refl, sym, ap, ap₂, _∙_}
 use mathlib.Core.Bool.{Bool, true, false, _&&_, not, cond, false≢true, and-eq-true-iff, and-true}
 use mathlib.Core.List.{List, [], _∷_, _++_, append-nil}

@@ -1,5 +1,4 @@
 -- A double kept to the bit. The logic has one NaN, so the pattern of a NaN stands beside the value.
--- Assumes nothing.
 use Prim.Native.Nat.{ℕ}
 use mathlib.Core.Bool.{cond}
 use lib.Ieee.{binary64, ofBits, toBits, isNan, nanBits}

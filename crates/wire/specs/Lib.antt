@@ -1,8 +1,5 @@
 pub mod Number
 pub mod Padded
 pub mod Double
-pub mod Field
-pub mod Layout
-pub mod Refusals
-pub mod Description
-pub mod Together
+pub mod Value
+pub mod Tabulated

@@ -1,5 +1,4 @@
 -- A text in bytes with zeros after it: 003's string, "NULL padded/terminated". Document 02, P1.
--- Assumes nothing.
 use Prim.Native.Nat.{ℕ}
 use mathlib.Core.Bool.{Bool, true, _&&_, not, cond}
 use mathlib.Core.List.{List, [], _∷_}

@@ -1,6 +1,5 @@
-// Numbers and doubles in bytes, little-endian, and the description of fields that every message is made of.
-// Read specs/Number.antt, specs/Double.antt and specs/Padded.antt first, then specs/Field.antt, specs/Layout.antt and
-// specs/Description.antt.
+// Numbers, doubles and padded texts in bytes, little-endian.
+// Read specs/Number.antt, specs/Double.antt and specs/Padded.antt; specs/Tabulated.antt has lists by their index.
 // Nothing here has a requires, and all are inner parts: a byte past the end reads 0, a store that runs past the end changes nothing.
 mod bits;
 mod double;

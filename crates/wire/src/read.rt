@@ -2,7 +2,7 @@
 ghost use mathlib.Core.Path.{_≡_};
 ghost use mir.Syntax.{w16, w32};
 ghost use mir.Val.{toZ};
-ghost use Rattle.wire.specs.Field.{valueAt, u8, u16, u32, u64, s16, s32, double};
+ghost use Rattle.wire.specs.Value.{valueAt, u8, u16, u32, u64, s16, s32, double};
 use crate::double::Double;
 
 pub fn read_u8(s: &[u8], at: usize) -> u8

@@ -5,7 +5,7 @@ ghost use lib.Dec.{leb};
 ghost use mir.Syntax.{w16, w32};
 ghost use mir.Val.{ofZ};
 ghost use Rattle.wire.specs.Number.{bytesStored};
-ghost use Rattle.wire.specs.Field.{valueStored, u8, u16, u32, u64, s16, s32, double};
+ghost use Rattle.wire.specs.Value.{valueStored, u8, u16, u32, u64, s16, s32, double};
 use crate::double::Double;
 
 // Whether w bytes from an offset on lie within the length.

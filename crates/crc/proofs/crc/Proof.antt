@@ -1,5 +1,4 @@
 -- `crc::crc` meets its contract: by the table's rule, what the table makes of the bytes is their CRC.
--- Assumes nothing.
 use mathlib.Core.Path.{_∙_}
 use native.Mathlib.Omega.{arith}
 use borrow.Author.Needs.{needs}

@@ -1,4 +1,4 @@
--- `crc::crc_apart` meets its contract: the second part goes on from what the first came to. Assumes nothing.
+-- `crc::crc_apart` meets its contract: the second part goes on from what the first came to.
 use native.Mathlib.Omega.{arith}
 use borrow.Author.Needs.{needs}
 use Rattle.crc.proofs.ByTable.{crc-by-parts}

@@ -1,5 +1,5 @@
 -- `crc::crc_by` meets its contract. Both loops keep that what the table makes of the bytes left from the register is what it makes of all from
--- 0; the second has no byte left to add. Assumes nothing.
+-- 0; the second has no byte left to add.
 use mathlib.Core.Path.{ap, _∙_}
 use Prim.Native.Nat.{_+_, _-_, _%_, _≤_}
 use native.Mathlib.Omega.{arith}

@@ -1,8 +1,7 @@
 -- `crc::entries` meets its contract: the table's rule, by one test over all of it, that two lists of numbers are one. antt computes them.
--- Assumes nothing.
 use mathlib.Core.Path.{refl}
 use Rattle.crc.specs.Crc.{bitStep, bitSteps}
-use Rattle.crc.specs.Table.{tabulated}
+use Rattle.wire.specs.Tabulated.{tabulated}
 use Rattle.crc.proofs.entries.Statement.{statement}
 use Rattle.crc.proofs.entries.Tie as tie
 

@@ -1,4 +1,4 @@
--- `crc::met` meets its contract: the xor of two numbers of 8 bits has 8. Assumes nothing.
+-- `crc::met` meets its contract: the xor of two numbers of 8 bits has 8.
 use mathlib.Core.Path.{refl, sym, ap, _∙_}
 use native.Mathlib.Omega.{arith}
 use borrow.Author.Needs.{needs}

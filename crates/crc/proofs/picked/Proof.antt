@@ -1,4 +1,4 @@
--- `crc::picked` meets its contract: the xor of two numbers of 8 bits has 8. Assumes nothing.
+-- `crc::picked` meets its contract: the xor of two numbers of 8 bits has 8.
 use mathlib.Core.Path.{refl}
 use Prim.Native.Nat.{_/_}
 use native.Mathlib.Omega.{arith}

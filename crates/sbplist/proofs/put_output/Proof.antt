@@ -3,7 +3,7 @@ use mathlib.Core.Path.{sym, ap, _∙_}
 use native.Mathlib.Omega.{arith}
 use mathlib.Core.List.{[], _∷_}
 use lib.Seq.{length-sets}
-use Rattle.frames.specs.Writer.{writtenAnswer}
+use Rattle.frame_writer.specs.Writer.{writtenAnswer}
 use Rattle.sbplist.proofs.Outputs.{puts-listing, puts-refusal}
 use borrow.Author.Needs.{needs}
 use Rattle.sbplist.proofs.put_output.Statement.{statement}

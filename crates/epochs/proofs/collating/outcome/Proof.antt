@@ -1,5 +1,4 @@
 -- `epochs::collating::outcome` meets its contract.
--- Assumes nothing.
 use borrow.Author.Needs.{needs}
 use Rattle.epochs.proofs.collating.outcome.Statement.{statement}
 use Rattle.epochs.proofs.collating.outcome.Tie as tie

@@ -1,5 +1,4 @@
 -- `epochs::collating::repeated` meets its contract. The loop's invariant: the answer is that of what is left.
--- Assumes nothing.
 use mathlib.Core.Path.{_≡_, refl, sym, ap, _∙_}
 use mathlib.Core.Bool.{true, cond}
 use Prim.Native.Nat.{_+_, _-_}

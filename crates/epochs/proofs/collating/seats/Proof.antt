@@ -1,5 +1,4 @@
 -- `epochs::collating::seats` meets its contract. The loop's invariant: the first i seats are filled.
--- Assumes nothing.
 use mathlib.Core.Path.{_≡_, refl, ap, _∙_}
 use Prim.Native.Nat.{_≤_, _-_}
 use native.Mathlib.Omega.{arith}

@@ -1,5 +1,4 @@
 -- `epochs::collating::sender_at` meets its contract.
--- Assumes nothing.
 use mathlib.Core.Path.{sym}
 use lib.ListN.{List·getD-eq-default}
 use borrow.Author.Needs.{needs}

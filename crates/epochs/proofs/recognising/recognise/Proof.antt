@@ -1,9 +1,8 @@
 -- `epochs::recognising::recognise` meets its contract.
--- Assumes nothing.
 use Rattle.epochs.specs.Collator.{forPlace}
 use Rattle.epochs.proofs.Placings.{at, placed-unread, placed-43, placed-listed}
 use Rattle.packets.proofs.Recognitions.{read-recognised}
-use Rattle.wire.specs.Refusals.{mapped}
+use Rattle.refusals.specs.Refusals.{mapped}
 use Rattle.packets.specs.Packet.{numbered, packetAnswer}
 use Rattle.frames.specs.Frame.{Content}
 use lib.ListN.{take}

@@ -1,5 +1,4 @@
 -- `epochs::seating::search` meets its contract. The loop's invariant: the answer is that of what is left.
--- Assumes nothing.
 use mathlib.Core.Path.{_≡_, refl, sym, _∙_}
 use Prim.Native.Nat.{_-_}
 use native.Mathlib.Omega.{arith}

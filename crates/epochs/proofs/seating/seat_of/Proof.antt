@@ -1,5 +1,4 @@
 -- `epochs::seating::seat_of` meets its contract.
--- Assumes nothing.
 use mathlib.Core.Path.{_≡_, sym, ap, _∙_}
 use mathlib.Core.List.{List}
 use Prim.Native.Nat.{ℕ, min, _≤_}

@@ -7,8 +7,8 @@ use lib.IntN.{ℤ}
 use mir.Syntax.{w32, w64}
 use mir.Val.{toZ, ofZ}
 use Rattle.wire.proofs.Signed.{came-back}
-use Rattle.observation.specs.Phase.{phaseOf}
-use Rattle.observation.proofs.Phases.{phase-lt}
+use Rattle.phases.specs.Phase.{phaseOf}
+use Rattle.phases.proofs.Phases.{phase-lt}
 use borrow.Author.Needs.{needs}
 use Rattle.exports.proofs.phasing.sbp_carrier_phase.Statement.{statement}
 use Rattle.exports.proofs.phasing.sbp_carrier_phase.Tie as tie

@@ -1,10 +1,10 @@
 -- `exports::phasing::sbp_phase_parts` meets its contract: it hands on the pair, or leaves both numbers.
 use mathlib.Core.Path.{refl, sym, ap, _∙_}
 use mir.Syntax.{w32, w64}
-use Rattle.wire.specs.Refusals.{Answer, leaves, asNumber}
+use Rattle.refusals.specs.Refusals.{Answer, leaves, asNumber}
 use Rattle.wire.proofs.Signed.{came-back}
-use Rattle.observation.specs.Phase.{readPhase, partsAnswer}
-use Rattle.observation.specs.declared.phase.Phase.{Phase}
+use Rattle.phases.specs.Phase.{readPhase, partsAnswer}
+use Rattle.phases.specs.declared.phase.Phase.{Phase}
 use borrow.Author.Needs.{needs}
 use Rattle.exports.proofs.phasing.sbp_phase_parts.Statement.{statement}
 use Rattle.exports.proofs.phasing.sbp_phase_parts.Tie as tie

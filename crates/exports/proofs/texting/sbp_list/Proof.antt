@@ -1,8 +1,8 @@
 -- `exports::texting::sbp_list` meets its contract: it hands on what the listing answers.
 use mathlib.Core.Path.{ap, _∙_}
 use Prim.Native.Nat.{ℕ}
-use Rattle.wire.specs.Refusals.{Answer, zeroOr}
-use Rattle.frames.specs.Writer.{sizeLeft}
+use Rattle.refusals.specs.Refusals.{Answer, zeroOr}
+use Rattle.frame_writer.specs.Writer.{sizeLeft}
 use borrow.Author.Needs.{needs}
 use Rattle.exports.proofs.texting.sbp_list.Statement.{statement}
 use Rattle.exports.proofs.texting.sbp_list.Tie as tie

@@ -1,11 +1,11 @@
 -- `exports::writing::sbp_write_log` meets its contract: it hands on what the writer answers.
 use mathlib.Core.Path.{ap, _∙_}
 use Prim.Native.Nat.{ℕ}
-use Rattle.wire.specs.Refusals.{Answer, zeroOr}
-use Rattle.frames.specs.Faithful.{writtenAs}
-use Rattle.frames.specs.Writer.{senderOf, sizeLeft}
-use Rattle.frames.specs.declared.write.Sender.{Sender}
-use Rattle.system.specs.Log.{log, logged}
+use Rattle.refusals.specs.Refusals.{Answer, zeroOr}
+use Rattle.frame_writer.specs.Faithful.{writtenAs}
+use Rattle.frame_writer.specs.Writer.{senderOf, sizeLeft}
+use Rattle.frame_writer.specs.declared.write.Sender.{Sender}
+use Rattle.logs.specs.Log.{log, logged}
 use borrow.Author.Needs.{needs}
 use Rattle.exports.proofs.writing.sbp_write_log.Statement.{statement}
 use Rattle.exports.proofs.writing.sbp_write_log.Tie as tie

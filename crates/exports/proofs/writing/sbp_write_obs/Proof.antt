@@ -1,7 +1,7 @@
 -- `exports::writing::sbp_write_obs` meets its contract: it hands on what the writer answers and leaves.
 use mathlib.Core.Path.{ap, _∙_}
-use Rattle.frames.specs.Writer.{senderOf}
-use Rattle.frames.specs.declared.write.Sender.{Sender}
+use Rattle.frame_writer.specs.Writer.{senderOf}
+use Rattle.frame_writer.specs.declared.write.Sender.{Sender}
 use Rattle.row_writer.specs.WriteObsRow.{obsRowWritten}
 use borrow.Author.Needs.{needs}
 use Rattle.exports.proofs.writing.sbp_write_obs.Statement.{statement}

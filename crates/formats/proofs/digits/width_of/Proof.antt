@@ -2,7 +2,7 @@
 use mathlib.Core.Path.{refl, sym, ap}
 use mathlib.Core.Logic.{inl, inr}
 use Prim.Native.Nat.{ℕ}
-use Rattle.wire.specs.Field.{width}
+use Rattle.wire.specs.Value.{width}
 use Rattle.formats.specs.Digits.{formatBy}
 use Rattle.formats.proofs.Formats.{either, otherwise}
 use Rattle.formats.proofs.digits.width_of.Statement.{statement}

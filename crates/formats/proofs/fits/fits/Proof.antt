@@ -3,7 +3,7 @@ use mathlib.Core.Path.{sym, ap, _∙_}
 use mathlib.Core.Bool.{Bool}
 use Prim.Native.Nat.{ℕ}
 use borrow.Author.Needs.{needs}
-use Rattle.wire.specs.Field.{Format}
+use Rattle.wire.specs.Value.{Format}
 use Rattle.formats.specs.Wide.{fitsIn}
 use Rattle.formats.specs.Digits.{formatBy}
 use Rattle.formats.proofs.Formats.{otherwise}

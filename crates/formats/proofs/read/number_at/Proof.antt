@@ -6,7 +6,7 @@ use borrow.Author.Needs.{needs}
 use mir.Syntax.{w16, w32, w64}
 use mir.Val.{toZ, ofZ}
 use Rattle.wire.specs.Number.{numberAt}
-use Rattle.wire.specs.Field.{Format, valueAt}
+use Rattle.wire.specs.Value.{Format, valueAt}
 use Rattle.wire.proofs.Numbers.{number-lt}
 use Rattle.wire.proofs.Doubles.{bits-doubleOf}
 use Rattle.formats.specs.Wide.{wideOf}

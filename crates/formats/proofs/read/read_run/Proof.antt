@@ -6,7 +6,7 @@ use native.Mathlib.Omega.{arith}
 use borrow.Author.Needs.{needs}
 use lib.ListN.{length}
 use lib.Seq.{sets, length-sets}
-use Rattle.wire.proofs.Layouts.{bytes-sets, bytes-nowhere}
+use Rattle.wire.proofs.Stored.{bytes-sets, bytes-nowhere}
 use Rattle.formats.specs.Digits.{formatsBy, numbersAt}
 use Rattle.formats.proofs.Formats.{at-most-eight}
 use Rattle.formats.proofs.Steps.{Counted, Sized, counted-none, counted-more, counted-few, counted-some, sized-none, sized-more, sized-few, below}

@@ -5,7 +5,7 @@ use mathlib.Core.List.{List}
 use Prim.Native.Nat.{ℕ}
 use borrow.Author.Needs.{needs}
 use Rattle.wire.specs.Number.{storedAt}
-use Rattle.wire.specs.Field.{width}
+use Rattle.wire.specs.Value.{width}
 use Rattle.formats.specs.Digits.{formatBy}
 use Rattle.formats.proofs.Formats.{either, otherwise}
 use Rattle.formats.proofs.Cut.{cut}

@@ -1,4 +1,4 @@
--- `frames::apart::frame_crc` meets its contract: the header but for its preamble, then the payload. Assumes nothing.
+-- `frames::apart::frame_crc` meets its contract: the header but for its preamble, then the payload.
 use borrow.Author.Needs.{needs}
 use Rattle.frames.proofs.SumsApart.{sums}
 use Rattle.frames.proofs.apart.frame_crc.Statement.{statement}

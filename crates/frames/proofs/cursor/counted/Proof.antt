@@ -1,5 +1,4 @@
 -- `frames::cursor::counted` meets its contract: each arm by what the match tells.
--- Assumes nothing.
 use borrow.Author.Needs.{needs}
 use Rattle.frames.proofs.cursor.counted.Statement.{statement}
 use Rattle.frames.proofs.cursor.counted.Tie as tie

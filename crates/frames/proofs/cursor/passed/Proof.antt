@@ -1,5 +1,4 @@
 -- `frames::cursor::passed` meets its contract.
--- Assumes nothing.
 use borrow.Author.Needs.{needs}
 use Rattle.frames.proofs.cursor.passed.Statement.{statement}
 use Rattle.frames.proofs.cursor.passed.Tie as tie

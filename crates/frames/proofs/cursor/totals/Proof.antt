@@ -1,5 +1,5 @@
 -- `frames::cursor::totals` meets its contract. The loop's invariant: the cursor is honest, so where the reading stops its counts are the
--- whole reading's. Assumes nothing.
+-- whole reading's.
 use mathlib.Core.Path.{sym, _∙_, subst⁻¹}
 use mathlib.Core.Bool.{false}
 use Prim.Native.Nat.{_-_}

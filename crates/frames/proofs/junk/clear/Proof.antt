@@ -1,5 +1,4 @@
 -- `frames::junk::clear` meets its contract. The loop's invariant: a hit says that the run is shorter than the bytes looked at.
--- Assumes nothing.
 use mathlib.Core.Path.{_≡_, sym, ap, ap₂, _∙_}
 use mathlib.Core.Bool.{Bool, true, not, cond, Bool·not-not}
 use Prim.Native.Nat.{ℕ, _-_, _≤_, _<_}
@@ -8,7 +7,7 @@ use borrow.Author.Needs.{needs}
 use lib.Dec.{eqb, leb}
 use lib.ListN.{length, drop, length-drop}
 use lib.Seq.{getD-drop}
-use Rattle.frames.specs.Junk.{junkRun}
+use Rattle.frames.specs.Inner.{junkRun}
 use Rattle.frames.proofs.JunkRuns.{Hit, hit-none, hit-more}
 use Rattle.frames.proofs.junk.clear.Statement.{statement}
 use Rattle.frames.proofs.junk.clear.Tie as tie

@@ -1,5 +1,4 @@
 -- `frames::junk::junk_run` meets its contract. The loop's invariant: the run reaches to where it stands.
--- Assumes nothing.
 use Prim.Native.Nat.{_-_}
 use native.Mathlib.Omega.{arith}
 use borrow.Author.Needs.{needs}

@@ -1,4 +1,4 @@
--- `frames::junk::marked` meets its contract. Assumes nothing.
+-- `frames::junk::marked` meets its contract.
 use borrow.Author.Tests.{eq-eqb, ne-eqb}
 use Rattle.frames.proofs.junk.marked.Statement.{statement}
 use Rattle.frames.proofs.junk.marked.Tie as tie

@@ -1,12 +1,11 @@
 -- `frames::junk::past_blocks` meets its contract. The loop's invariant: the run reaches to where it stands.
--- Assumes nothing.
 use mathlib.Core.Path.{sym, _∙_}
 use Prim.Native.Nat.{_-_}
 use native.Mathlib.Omega.{arith}
 use borrow.Author.Needs.{needs}
 use borrow.Author.Tests.{leb-true}
 use lib.ListN.{length, drop}
-use Rattle.frames.specs.Junk.{junkRun}
+use Rattle.frames.specs.Inner.{junkRun}
 use Rattle.frames.proofs.JunkRuns.{Reaches, reaches-on}
 use Rattle.frames.proofs.junk.past_blocks.Statement.{statement}
 use Rattle.frames.proofs.junk.past_blocks.Tie as tie

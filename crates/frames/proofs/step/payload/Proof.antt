@@ -1,5 +1,4 @@
 -- `frames::step::payload` meets its contract: both ends are brought inside the capture.
--- Assumes nothing.
 use Prim.Native.Nat.{_+_}
 use borrow.Author.Needs.{needs}
 use Rattle.frames.specs.Step.{payloadIn}

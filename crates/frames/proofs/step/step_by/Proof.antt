@@ -1,5 +1,4 @@
 -- `frames::step::step_by` meets its contract: each return is one of the five lines.
--- Assumes nothing.
 use mathlib.Core.Path.{sym, ap₂, _∙_}
 use Prim.Native.Nat.{ℕ, _+_}
 use native.Mathlib.Omega.{arith}

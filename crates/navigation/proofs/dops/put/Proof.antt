@@ -1,6 +1,6 @@
 -- `navigation::dops::put` meets its contract: one store after the other.
 use borrow.Author.Needs.{needs}
-use Rattle.wire.proofs.Fields.{then}
+use Rattle.layouts.proofs.Fields.{then}
 use Rattle.navigation.proofs.dops.put.Statement.{statement}
 use Rattle.navigation.proofs.dops.put.Tie as tie
 

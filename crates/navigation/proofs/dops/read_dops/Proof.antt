@@ -1,7 +1,7 @@
 -- `navigation::dops::read_dops` meets its contract.
 use mathlib.Core.Path.{refl}
 use borrow.Author.Needs.{needs}
-use Rattle.wire.proofs.Descriptions.{gives-22, gives}
+use Rattle.layouts.proofs.Descriptions.{gives-22, gives}
 use Rattle.navigation.specs.Dops.{dops}
 use Rattle.navigation.proofs.dops.read_dops.Statement.{statement}
 use Rattle.navigation.proofs.dops.read_dops.Tie as tie

@@ -1,9 +1,9 @@
 -- `navigation::dops::write_dops` meets its contract.
 use mathlib.Core.Path.{refl}
 use borrow.Author.Needs.{needs}
-use Rattle.frames.specs.Writer.{senderOf}
-use Rattle.frames.proofs.WrittenPlan.{known}
-use Rattle.frames.proofs.Promised.{wrote, wrote-nothing}
+use Rattle.frame_writer.specs.Writer.{senderOf}
+use Rattle.frame_writer.proofs.WrittenPlan.{known}
+use Rattle.frame_writer.proofs.Promised.{wrote, wrote-nothing}
 use Rattle.navigation.specs.Dops.{dops}
 use Rattle.navigation.proofs.dops.write_dops.Statement.{statement}
 use Rattle.navigation.proofs.dops.write_dops.Tie as tie

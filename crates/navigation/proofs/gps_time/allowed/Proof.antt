@@ -4,7 +4,7 @@ use mathlib.Core.Bool.{and-true}
 use borrow.Author.Needs.{needs}
 use mir.Syntax.{w32}
 use Rattle.wire.proofs.Signed.{came-back}
-use Rattle.navigation.specs.Range.{inNs}
+use Rattle.flags.specs.Range.{inNs}
 use Rattle.navigation.proofs.gps_time.allowed.Statement.{statement}
 use Rattle.navigation.proofs.gps_time.allowed.Tie as tie
 

@@ -1,7 +1,7 @@
 -- `navigation::gps_time::put` meets its contract: one store after the other.
 use borrow.Author.Needs.{needs}
 use mir.Syntax.{w32}
-use Rattle.wire.proofs.Fields.{then, then-signed}
+use Rattle.layouts.proofs.Fields.{then, then-signed}
 use Rattle.navigation.proofs.gps_time.put.Statement.{statement}
 use Rattle.navigation.proofs.gps_time.put.Tie as tie
 

@@ -1,7 +1,7 @@
 -- `navigation::gps_time::read_gps_time` meets its contract.
 use mathlib.Core.Path.{sym, _∙_}
 use borrow.Author.Needs.{needs}
-use Rattle.wire.proofs.Descriptions.{gives-22, gives-23, gives}
+use Rattle.layouts.proofs.Descriptions.{gives-22, gives-23, gives}
 use Rattle.navigation.specs.GpsTime.{gpsTime}
 use Rattle.navigation.proofs.gps_time.read_gps_time.Statement.{statement}
 use Rattle.navigation.proofs.gps_time.read_gps_time.Tie as tie

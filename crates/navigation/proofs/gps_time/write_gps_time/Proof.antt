@@ -1,9 +1,9 @@
 -- `navigation::gps_time::write_gps_time` meets its contract.
 use mathlib.Core.Path.{refl, sym, _∙_}
 use borrow.Author.Needs.{needs}
-use Rattle.frames.specs.Writer.{senderOf}
-use Rattle.frames.proofs.WrittenPlan.{known}
-use Rattle.frames.proofs.Promised.{wrote, wrote-nothing, wrote-23}
+use Rattle.frame_writer.specs.Writer.{senderOf}
+use Rattle.frame_writer.proofs.WrittenPlan.{known}
+use Rattle.frame_writer.proofs.Promised.{wrote, wrote-nothing, wrote-23}
 use Rattle.navigation.specs.GpsTime.{gpsTime}
 use Rattle.navigation.proofs.gps_time.write_gps_time.Statement.{statement}
 use Rattle.navigation.proofs.gps_time.write_gps_time.Tie as tie

@@ -2,8 +2,8 @@
 use mathlib.Core.Path.{ap, _∙_}
 use lib.ListN.{length}
 use borrow.Author.Needs.{needs}
-use Rattle.wire.proofs.Fields.{then}
-use Rattle.wire.proofs.Layouts.{length-body-stored}
+use Rattle.layouts.proofs.Fields.{then}
+use Rattle.layouts.proofs.Layouts.{length-body-stored}
 use Rattle.navigation.specs.PosEcef.{posEcef}
 use Rattle.navigation.proofs.pos_ecef.put.Statement.{statement}
 use Rattle.navigation.proofs.pos_ecef.put.Tie as tie

@@ -2,7 +2,7 @@
 use mathlib.Core.Path.{sym, _∙_}
 use mathlib.Core.Bool.{and-true}
 use borrow.Author.Needs.{needs}
-use Rattle.wire.proofs.Descriptions.{gives-22, gives-23, gives}
+use Rattle.layouts.proofs.Descriptions.{gives-22, gives-23, gives}
 use Rattle.navigation.specs.PosEcef.{posEcef}
 use Rattle.navigation.proofs.pos_ecef.read_pos_ecef.Statement.{statement}
 use Rattle.navigation.proofs.pos_ecef.read_pos_ecef.Tie as tie

@@ -2,9 +2,9 @@
 use mathlib.Core.Path.{refl, sym, _∙_}
 use mathlib.Core.Bool.{and-true}
 use borrow.Author.Needs.{needs}
-use Rattle.frames.specs.Writer.{senderOf}
-use Rattle.frames.proofs.WrittenPlan.{known}
-use Rattle.frames.proofs.Promised.{wrote, wrote-nothing, wrote-23}
+use Rattle.frame_writer.specs.Writer.{senderOf}
+use Rattle.frame_writer.proofs.WrittenPlan.{known}
+use Rattle.frame_writer.proofs.Promised.{wrote, wrote-nothing, wrote-23}
 use Rattle.navigation.specs.PosEcef.{posEcef}
 use Rattle.navigation.proofs.pos_ecef.write_pos_ecef.Statement.{statement}
 use Rattle.navigation.proofs.pos_ecef.write_pos_ecef.Tie as tie

@@ -1,7 +1,7 @@
 -- `observation::entry::put` meets its contract: one store after the other.
 use borrow.Author.Needs.{needs}
 use mir.Syntax.{w32}
-use Rattle.wire.proofs.Fields.{then, then-signed}
+use Rattle.layouts.proofs.Fields.{then, then-signed}
 use Rattle.observation.proofs.entry.put.Statement.{statement}
 use Rattle.observation.proofs.entry.put.Tie as tie
 

@@ -4,9 +4,9 @@ use Prim.Native.Nat.{ℕ, _+_, _-_}
 use native.Mathlib.Omega.{arith}
 use lib.ListN.{length, take, drop}
 use borrow.Author.Needs.{needs}
-use Rattle.wire.specs.Field.{decode}
-use Rattle.wire.specs.Refusals.{given}
-use Rattle.wire.proofs.Fields.{decode-drop, decode-take}
+use Rattle.layouts.specs.Field.{decode}
+use Rattle.refusals.specs.Refusals.{given}
+use Rattle.layouts.proofs.Fields.{decode-drop, decode-take}
 use Rattle.observation.specs.Edition.{startOf, observation, first}
 use Rattle.observation.proofs.Editions.{whole}
 use Rattle.observation.proofs.ObsReading.{entry-22, entry-25, entry-given}

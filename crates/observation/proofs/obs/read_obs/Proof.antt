@@ -4,7 +4,7 @@ use mathlib.Core.Bool.{true}
 use native.Mathlib.Omega.{arith}
 use lib.ListN.{length}
 use borrow.Author.Needs.{needs}
-use Rattle.wire.specs.Refusals.{given}
+use Rattle.refusals.specs.Refusals.{given}
 use Rattle.observation.specs.Edition.{fitting, countIn, first}
 use Rattle.observation.proofs.Editions.{whole}
 use Rattle.observation.proofs.ObsReading.{obs-22, obs-given}

@@ -1,6 +1,6 @@
 -- `observation::obs_write::put_head` meets its contract: one store after the other.
 use borrow.Author.Needs.{needs}
-use Rattle.wire.proofs.Fields.{then}
+use Rattle.layouts.proofs.Fields.{then}
 use Rattle.observation.proofs.obs_write.put_head.Statement.{statement}
 use Rattle.observation.proofs.obs_write.put_head.Tie as tie
 

@@ -4,8 +4,8 @@ use Prim.Native.Nat.{_≤_}
 use native.Mathlib.Omega.{arith}
 use lib.ListN.{length}
 use borrow.Author.Needs.{needs}
-use Rattle.frames.specs.Writer.{senderOf}
-use Rattle.frames.proofs.WrittenPlan.{known, fits}
+use Rattle.frame_writer.specs.Writer.{senderOf}
+use Rattle.frame_writer.proofs.WrittenPlan.{known, fits}
 use Rattle.observation.specs.Edition.{startOf, first}
 use Rattle.observation.specs.ObsWriter.{headOf}
 use Rattle.observation.proofs.ObsWritten.{wrote-31, wrote-nothing, wrote}

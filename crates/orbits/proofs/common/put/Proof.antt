@@ -1,7 +1,7 @@
 -- `orbits::common::put` meets its contract: one store after the other.
 use borrow.Author.Needs.{needs}
-use Rattle.wire.proofs.Fields.{then}
-use Rattle.wire.proofs.Together.{then-part}
+use Rattle.layouts.proofs.Fields.{then}
+use Rattle.layouts.proofs.Together.{then-part}
 use Rattle.orbits.specs.Common.{timeOfWeek}
 use Rattle.orbits.proofs.common.put.Statement.{statement}
 use Rattle.orbits.proofs.common.put.Tie as tie

@@ -1,6 +1,6 @@
 -- `orbits::elements::put_ellipse` meets its contract: one store after the other.
 use borrow.Author.Needs.{needs}
-use Rattle.wire.proofs.Fields.{then}
+use Rattle.layouts.proofs.Fields.{then}
 use Rattle.orbits.proofs.elements.put_ellipse.Statement.{statement}
 use Rattle.orbits.proofs.elements.put_ellipse.Tie as tie
 

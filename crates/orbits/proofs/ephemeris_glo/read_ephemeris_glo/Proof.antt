@@ -1,7 +1,7 @@
 -- `orbits::ephemeris_glo::read_ephemeris_glo` meets its contract.
 use mathlib.Core.Path.{refl}
 use borrow.Author.Needs.{needs}
-use Rattle.wire.proofs.Descriptions.{gives-22, gives}
+use Rattle.layouts.proofs.Descriptions.{gives-22, gives}
 use Rattle.orbits.specs.EphemerisGlo.{ephemerisGlo}
 use Rattle.orbits.proofs.ephemeris_glo.read_ephemeris_glo.Statement.{statement}
 use Rattle.orbits.proofs.ephemeris_glo.read_ephemeris_glo.Tie as tie

@@ -1,9 +1,9 @@
 -- `orbits::ephemeris_glo::write_ephemeris_glo` meets its contract.
 use mathlib.Core.Path.{refl}
 use borrow.Author.Needs.{needs}
-use Rattle.frames.specs.Writer.{senderOf}
-use Rattle.frames.proofs.WrittenPlan.{known}
-use Rattle.frames.proofs.Promised.{wrote, wrote-nothing}
+use Rattle.frame_writer.specs.Writer.{senderOf}
+use Rattle.frame_writer.proofs.WrittenPlan.{known}
+use Rattle.frame_writer.proofs.Promised.{wrote, wrote-nothing}
 use Rattle.orbits.specs.EphemerisGlo.{ephemerisGlo}
 use Rattle.orbits.proofs.ephemeris_glo.write_ephemeris_glo.Statement.{statement}
 use Rattle.orbits.proofs.ephemeris_glo.write_ephemeris_glo.Tie as tie

@@ -1,7 +1,7 @@
 -- `orbits::ephemeris_gps::read_ephemeris_gps` meets its contract.
 use mathlib.Core.Path.{refl}
 use borrow.Author.Needs.{needs}
-use Rattle.wire.proofs.Descriptions.{gives-22, gives}
+use Rattle.layouts.proofs.Descriptions.{gives-22, gives}
 use Rattle.orbits.specs.EphemerisGps.{ephemerisGps}
 use Rattle.orbits.proofs.ephemeris_gps.read_ephemeris_gps.Statement.{statement}
 use Rattle.orbits.proofs.ephemeris_gps.read_ephemeris_gps.Tie as tie

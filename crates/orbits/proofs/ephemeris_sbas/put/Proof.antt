@@ -1,7 +1,7 @@
 -- `orbits::ephemeris_sbas::put` meets its contract: one store after the other.
 use borrow.Author.Needs.{needs}
-use Rattle.wire.proofs.Fields.{then}
-use Rattle.wire.proofs.Together.{then-part}
+use Rattle.layouts.proofs.Fields.{then}
+use Rattle.layouts.proofs.Together.{then-part}
 use Rattle.orbits.specs.Motion.{motion}
 use Rattle.orbits.proofs.ephemeris_sbas.put.Statement.{statement}
 use Rattle.orbits.proofs.ephemeris_sbas.put.Tie as tie

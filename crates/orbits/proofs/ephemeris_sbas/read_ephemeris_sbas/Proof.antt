@@ -1,7 +1,7 @@
 -- `orbits::ephemeris_sbas::read_ephemeris_sbas` meets its contract.
 use mathlib.Core.Path.{refl}
 use borrow.Author.Needs.{needs}
-use Rattle.wire.proofs.Descriptions.{gives-22, gives}
+use Rattle.layouts.proofs.Descriptions.{gives-22, gives}
 use Rattle.orbits.specs.EphemerisSbas.{ephemerisSbas}
 use Rattle.orbits.proofs.ephemeris_sbas.read_ephemeris_sbas.Statement.{statement}
 use Rattle.orbits.proofs.ephemeris_sbas.read_ephemeris_sbas.Tie as tie

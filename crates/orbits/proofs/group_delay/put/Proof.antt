@@ -3,8 +3,8 @@ use mathlib.Core.Path.{ap, _∙_}
 use lib.ListN.{length}
 use borrow.Author.Needs.{needs}
 use mir.Syntax.{w16}
-use Rattle.wire.proofs.Fields.{then, then-signed}
-use Rattle.wire.proofs.Layouts.{length-body-stored}
+use Rattle.layouts.proofs.Fields.{then, then-signed}
+use Rattle.layouts.proofs.Layouts.{length-body-stored}
 use Rattle.orbits.specs.GroupDelay.{groupDelay}
 use Rattle.orbits.proofs.group_delay.put.Statement.{statement}
 use Rattle.orbits.proofs.group_delay.put.Tie as tie

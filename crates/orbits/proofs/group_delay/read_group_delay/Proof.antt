@@ -1,7 +1,7 @@
 -- `orbits::group_delay::read_group_delay` meets its contract.
 use mathlib.Core.Path.{refl}
 use borrow.Author.Needs.{needs}
-use Rattle.wire.proofs.Descriptions.{gives-22, gives}
+use Rattle.layouts.proofs.Descriptions.{gives-22, gives}
 use Rattle.orbits.specs.GroupDelay.{groupDelay}
 use Rattle.orbits.proofs.group_delay.read_group_delay.Statement.{statement}
 use Rattle.orbits.proofs.group_delay.read_group_delay.Tie as tie

@@ -1,6 +1,6 @@
 -- `orbits::iono::put` meets its contract: one store after the other.
 use borrow.Author.Needs.{needs}
-use Rattle.wire.proofs.Together.{then-part}
+use Rattle.layouts.proofs.Together.{then-part}
 use Rattle.orbits.specs.Iono.{cubic}
 use Rattle.orbits.proofs.iono.put.Statement.{statement}
 use Rattle.orbits.proofs.iono.put.Tie as tie

@@ -1,6 +1,6 @@
 -- `orbits::iono::put_cubic` meets its contract: one store after the other.
 use borrow.Author.Needs.{needs}
-use Rattle.wire.proofs.Fields.{then}
+use Rattle.layouts.proofs.Fields.{then}
 use Rattle.orbits.proofs.iono.put_cubic.Statement.{statement}
 use Rattle.orbits.proofs.iono.put_cubic.Tie as tie
 

@@ -1,7 +1,7 @@
 -- `orbits::iono::read_iono` meets its contract.
 use mathlib.Core.Path.{refl}
 use borrow.Author.Needs.{needs}
-use Rattle.wire.proofs.Descriptions.{gives-22, gives}
+use Rattle.layouts.proofs.Descriptions.{gives-22, gives}
 use Rattle.orbits.specs.Iono.{iono}
 use Rattle.orbits.proofs.iono.read_iono.Statement.{statement}
 use Rattle.orbits.proofs.iono.read_iono.Tie as tie

@@ -1,9 +1,9 @@
 -- `orbits::iono::write_iono` meets its contract.
 use mathlib.Core.Path.{refl}
 use borrow.Author.Needs.{needs}
-use Rattle.frames.specs.Writer.{senderOf}
-use Rattle.frames.proofs.WrittenPlan.{known}
-use Rattle.frames.proofs.Promised.{wrote, wrote-nothing}
+use Rattle.frame_writer.specs.Writer.{senderOf}
+use Rattle.frame_writer.proofs.WrittenPlan.{known}
+use Rattle.frame_writer.proofs.Promised.{wrote, wrote-nothing}
 use Rattle.orbits.specs.Iono.{iono}
 use Rattle.orbits.proofs.iono.write_iono.Statement.{statement}
 use Rattle.orbits.proofs.iono.write_iono.Tie as tie

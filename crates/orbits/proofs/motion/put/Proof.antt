@@ -2,7 +2,7 @@
 use Prim.Native.Nat.{_+_}
 use mathlib.Core.Path.{sym, _∙_}
 use borrow.Author.Needs.{needs}
-use Rattle.wire.proofs.Together.{then-part}
+use Rattle.layouts.proofs.Together.{then-part}
 use Rattle.orbits.specs.Motion.{vector}
 use Rattle.orbits.proofs.Motions.{put-motion}
 use Rattle.orbits.proofs.motion.put.Statement.{statement}

@@ -1,6 +1,6 @@
 -- `orbits::motion::put_vector` meets its contract: one store after the other.
 use borrow.Author.Needs.{needs}
-use Rattle.wire.proofs.Fields.{then}
+use Rattle.layouts.proofs.Fields.{then}
 use Rattle.orbits.proofs.motion.put_vector.Statement.{statement}
 use Rattle.orbits.proofs.motion.put_vector.Tie as tie
 

@@ -1,6 +1,6 @@
 -- `orbits::satellite::put` meets its contract: one store after the other.
 use borrow.Author.Needs.{needs}
-use Rattle.wire.proofs.Fields.{then}
+use Rattle.layouts.proofs.Fields.{then}
 use Rattle.orbits.proofs.satellite.put.Statement.{statement}
 use Rattle.orbits.proofs.satellite.put.Tie as tie
 

@@ -1,7 +1,7 @@
 -- `orbits::sv_configuration_gps::read_sv_configuration_gps` meets its contract.
 use mathlib.Core.Path.{refl}
 use borrow.Author.Needs.{needs}
-use Rattle.wire.proofs.Descriptions.{gives-22, gives}
+use Rattle.layouts.proofs.Descriptions.{gives-22, gives}
 use Rattle.orbits.specs.SvConfigurationGps.{svConfigurationGps}
 use Rattle.orbits.proofs.sv_configuration_gps.read_sv_configuration_gps.Statement.{statement}
 use Rattle.orbits.proofs.sv_configuration_gps.read_sv_configuration_gps.Tie as tie

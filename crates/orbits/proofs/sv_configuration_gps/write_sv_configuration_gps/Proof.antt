@@ -1,9 +1,9 @@
 -- `orbits::sv_configuration_gps::write_sv_configuration_gps` meets its contract.
 use mathlib.Core.Path.{refl}
 use borrow.Author.Needs.{needs}
-use Rattle.frames.specs.Writer.{senderOf}
-use Rattle.frames.proofs.WrittenPlan.{known}
-use Rattle.frames.proofs.Promised.{wrote, wrote-nothing}
+use Rattle.frame_writer.specs.Writer.{senderOf}
+use Rattle.frame_writer.proofs.WrittenPlan.{known}
+use Rattle.frame_writer.proofs.Promised.{wrote, wrote-nothing}
 use Rattle.orbits.specs.SvConfigurationGps.{svConfigurationGps}
 use Rattle.orbits.proofs.sv_configuration_gps.write_sv_configuration_gps.Statement.{statement}
 use Rattle.orbits.proofs.sv_configuration_gps.write_sv_configuration_gps.Tie as tie

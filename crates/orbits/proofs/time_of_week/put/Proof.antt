@@ -1,6 +1,6 @@
 -- `orbits::time_of_week::put` meets its contract: one store after the other.
 use borrow.Author.Needs.{needs}
-use Rattle.wire.proofs.Fields.{then}
+use Rattle.layouts.proofs.Fields.{then}
 use Rattle.orbits.proofs.time_of_week.put.Statement.{statement}
 use Rattle.orbits.proofs.time_of_week.put.Tie as tie
 

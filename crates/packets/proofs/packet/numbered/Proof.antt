@@ -1,5 +1,4 @@
 -- `packets::packet::numbered` meets its contract.
--- Assumes nothing.
 use Rattle.packets.proofs.Recognitions.{numbered-44, numbered-45, numbered-given}
 use Rattle.packets.proofs.packet.numbered.Statement.{statement}
 use Rattle.packets.proofs.packet.numbered.Tie as tie

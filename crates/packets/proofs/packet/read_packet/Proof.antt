@@ -1,8 +1,7 @@
 -- `packets::packet::read_packet` meets its contract.
--- Assumes nothing.
 use mathlib.Core.Path.{sym, ap, _∙_}
 use Rattle.observation.specs.Obs.{obsAnswer}
-use Rattle.wire.specs.Refusals.{given, mapped}
+use Rattle.refusals.specs.Refusals.{given, mapped}
 use Rattle.packets.specs.Packet.{packetOf}
 use Rattle.packets.proofs.Recognitions.{read-46, read-obs}
 use borrow.Author.Needs.{needs}

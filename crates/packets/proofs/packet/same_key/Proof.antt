@@ -1,5 +1,4 @@
 -- `packets::packet::same_key` meets its contract, test by test.
--- Assumes nothing.
 use borrow.Author.Tests.{eq-eqb, ne-eqb}
 use Rattle.packets.specs.Packet.{sameKey}
 use Rattle.packets.proofs.packet.same_key.Statement.{statement}

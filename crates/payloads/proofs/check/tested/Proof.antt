@@ -7,8 +7,8 @@ use mir.Syntax.{w32}
 use lib.Dec.{eqb}
 use lib.ListN.{length}
 use Rattle.wire.proofs.Signed.{came-back}
-use Rattle.navigation.specs.Range.{inNs, fixUpTo}
-use Rattle.system.specs.Log.{logLength}
+use Rattle.flags.specs.Range.{inNs, fixUpTo}
+use Rattle.logs.specs.Log.{logLength}
 use Rattle.payloads.specs.Checks.{tests, testsBy, numberBy}
 use Rattle.payloads.specs.declared.check.Check.{Check}
 use borrow.Author.Needs.{needs}

@@ -3,7 +3,8 @@ use mathlib.Core.Path.{_≡_, sym, ap, _∙_}
 use mathlib.Core.List.{List, map}
 use Prim.Native.Nat.{ℕ}
 use borrow.Author.Needs.{needs}
-use Rattle.payloads.specs.Payloads.{others, Entry, entryOf, entryFor, recordIn}
+use Rattle.payloads.specs.Payloads.{others, Entry, entryOf, entryFor}
+use Rattle.payloads.specs.Inner.{recordIn}
 use Rattle.payloads.specs.declared.Message.the-variants as M
 use Rattle.payloads.proofs.Entries.{no-entry}
 use Rattle.payloads.proofs.record.record_in.Statement.{statement}

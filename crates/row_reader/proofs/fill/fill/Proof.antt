@@ -5,7 +5,7 @@ use lib.ListN.{length}
 use borrow.Author.Needs.{needs}
 use Rattle.formats.specs.Digits.{formatsBy, sizeOf}
 use Rattle.formats.proofs.Steps.{few}
-use Rattle.row_reader.specs.ByDigits.{restIn}
+use Rattle.row_reader.specs.Inner.{restIn}
 use Rattle.wire.proofs.Lent.{lentFrom, lent-length}
 use Rattle.row_reader.proofs.Filling.{has-start, lent-room, run-then}
 use Rattle.row_reader.proofs.fill.fill.Statement.{statement}

@@ -2,7 +2,7 @@
 use native.Mathlib.Omega.{arith}
 use borrow.Author.Needs.{needs}
 use Rattle.formats.proofs.Steps.{few}
-use Rattle.row_reader.specs.ByDigits.{tailIn}
+use Rattle.row_reader.specs.Inner.{tailIn}
 use Rattle.row_reader.proofs.Filling.{has-start, lent-room, run-then}
 use Rattle.row_reader.proofs.fill.fill_rest.Statement.{statement}
 use Rattle.row_reader.proofs.fill.fill_rest.Tie as tie

@@ -3,7 +3,7 @@ use mathlib.Core.Path.{_≡_, sym, ap, _∙_}
 use mathlib.Core.Bool.{true}
 use mathlib.Core.List.{List}
 use borrow.Author.Needs.{needs}
-use Rattle.wire.specs.Field.{Format}
+use Rattle.wire.specs.Value.{Format}
 use Rattle.formats.specs.Wide.{fitsRow}
 use Rattle.formats.specs.Digits.{runFits}
 use Rattle.formats.proofs.Narrow.{fits-row}

@@ -6,7 +6,7 @@ use lib.ListN.{length}
 use lib.Seq.{length-take-le}
 use borrow.Author.Needs.{needs}
 use Rattle.formats.proofs.Narrow.{Words}
-use Rattle.frames.specs.Writer.{senderOf}
+use Rattle.frame_writer.specs.Writer.{senderOf}
 use Rattle.row_writer.proofs.ObsPacked.{payload-packed}
 use Rattle.row_writer.proofs.ObsSent.{Fitting, fitting, few-rows, fitting-rows, wrote-refused, wrote-sent}
 use Rattle.row_writer.proofs.obs.write_obs_row.Statement.{statement}

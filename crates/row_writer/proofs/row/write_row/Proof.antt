@@ -6,11 +6,11 @@ use lib.ListN.{length}
 use lib.Seq.{length-take-le}
 use borrow.Author.Needs.{needs}
 use borrow.Author.Tests.{eqb-true}
-use Rattle.wire.specs.Field.{size}
+use Rattle.layouts.specs.Field.{size}
 use Rattle.formats.specs.Wide.{numberCount}
 use Rattle.formats.specs.Digits.{frontOf}
 use Rattle.formats.proofs.Narrow.{Words}
-use Rattle.frames.specs.Writer.{senderOf}
+use Rattle.frame_writer.specs.Writer.{senderOf}
 use Rattle.payloads.specs.Payloads.{layoutFor}
 use Rattle.row_writer.proofs.Alone.{plain-for, size-shaped, counted-as}
 use Rattle.row_writer.proofs.RowsSent.{Fitting, fitting, payload-packed, wrote-refused, wrote-sent}

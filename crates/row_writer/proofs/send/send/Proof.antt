@@ -1,6 +1,6 @@
 -- `row_writer::send::send` meets its contract: the frame's writer is asked where the payload is taken.
 use borrow.Author.Needs.{needs}
-use Rattle.frames.specs.Writer.{senderOf}
+use Rattle.frame_writer.specs.Writer.{senderOf}
 use Rattle.row_writer.proofs.Sends.{sent-on, sent-not}
 use Rattle.row_writer.proofs.send.send.Statement.{statement}
 use Rattle.row_writer.proofs.send.send.Tie as tie

@@ -2,8 +2,8 @@
 use mathlib.Core.Path.{ap, _∙_}
 use Prim.Native.Nat.{ℕ}
 use borrow.Author.Needs.{needs}
-use Rattle.wire.specs.Refusals.{Answer, zeroOr}
-use Rattle.frames.specs.Writer.{sizeLeft}
+use Rattle.refusals.specs.Refusals.{Answer, zeroOr}
+use Rattle.frame_writer.specs.Writer.{sizeLeft}
 use Rattle.row_writer.proofs.send.send_frame.Statement.{statement}
 use Rattle.row_writer.proofs.send.send_frame.Tie as tie
 

@@ -1,5 +1,4 @@
 -- `runs::running::step` meets its contract, way by way.
--- Assumes nothing.
 use mathlib.Core.Path.{_≡_, sym, _∙_}
 use mathlib.Core.Bool.{cond}
 use borrow.Author.Needs.{needs}

@@ -3,7 +3,7 @@ use mathlib.Core.Path.{sym, ap, _∙_}
 use Rattle.epochs.specs.Collator.{reportOf}
 use Rattle.runs.specs.declared.running.Ended.{Ended}
 use Rattle.states.specs.Feed.{reportFields, reportRow, endedNumber, endedStored}
-use Rattle.states.proofs.Parts.{stored-front}
+use Rattle.lent_rows.proofs.Parts.{stored-front}
 use borrow.Author.Needs.{needs}
 use Rattle.states.proofs.feeding.put_ended.Statement.{statement}
 use Rattle.states.proofs.feeding.put_ended.Tie as tie

@@ -1,5 +1,5 @@
 -- `states::feeding::put_report` meets its contract: one store after the other.
-use Rattle.wire.proofs.Fields.{then}
+use Rattle.layouts.proofs.Fields.{then}
 use borrow.Author.Needs.{needs}
 use Rattle.states.proofs.feeding.put_report.Statement.{statement}
 use Rattle.states.proofs.feeding.put_report.Tie as tie

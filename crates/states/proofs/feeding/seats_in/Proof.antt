@@ -1,7 +1,7 @@
 -- `states::feeding::seats_in` meets its contract, seat by seat.
 use mathlib.Core.List.{[], _∷_}
 use borrow.Author.Needs.{needs}
-use Rattle.crc.specs.Table.{tabulated}
+use Rattle.wire.specs.Tabulated.{tabulated}
 use Rattle.states.proofs.feeding.seats_in.Statement.{statement}
 use Rattle.states.proofs.feeding.seats_in.Tie as tie
 

@@ -1,7 +1,7 @@
 -- `states::growing::take_seat` meets its contract: the seat, then the count.
 use mathlib.Core.Path.{ap, _∙_}
 use Prim.Native.Nat.{ℕ, _+_}
-use Rattle.wire.specs.Field.{rowStored}
+use Rattle.layouts.specs.Field.{rowStored}
 use Rattle.states.specs.State.{seatFields, seatAt, countStored}
 use Rattle.states.specs.Enlist.{seatTaken}
 use borrow.Author.Needs.{needs}

@@ -4,9 +4,9 @@ use Prim.Native.Nat.{ℕ, _-_, _≤_}
 use native.Mathlib.Omega.{arith}
 use borrow.Author.Needs.{needs}
 use lib.ListN.{length}
-use Rattle.states.specs.Lent.{firstRowsStored}
+use Rattle.lent_rows.specs.Lent.{firstRowsStored}
 use Rattle.states.specs.State.{seatFields, seatsAt, seatRow}
-use Rattle.states.proofs.Tables.{rows-none, rows-more, length-stored}
+use Rattle.lent_rows.proofs.Tables.{rows-none, rows-more, length-stored}
 use Rattle.states.proofs.making.put_seats.Statement.{statement}
 use Rattle.states.proofs.making.put_seats.Tie as tie
 

@@ -3,8 +3,8 @@ use mathlib.Core.Path.{ap, _∙_}
 use Prim.Native.Nat.{ℕ}
 use native.Mathlib.Omega.{arith}
 use borrow.Author.Needs.{needs}
-use Rattle.wire.specs.Field.{rowStored}
-use Rattle.wire.proofs.Fields.{then}
+use Rattle.layouts.specs.Field.{rowStored}
+use Rattle.layouts.proofs.Fields.{then}
 use Rattle.states.specs.State.{slotFields, slotRow}
 use Rattle.states.proofs.placing.put_slot.Statement.{statement}
 use Rattle.states.proofs.placing.put_slot.Tie as tie

@@ -3,7 +3,7 @@ use mathlib.Core.Path.{_≡_, ap, _∙_}
 use Prim.Native.Nat.{ℕ}
 use native.Mathlib.Omega.{arith}
 use borrow.Author.Needs.{needs}
-use Rattle.wire.specs.Field.{decode}
+use Rattle.layouts.specs.Field.{decode}
 use Rattle.states.specs.State.{slotFields, slotMake}
 use Rattle.states.specs.declared.placing.Slot.{Slot}
 use Rattle.states.proofs.placing.slot_in.Statement.{statement}

@@ -1,6 +1,6 @@
 -- `system::empty::read_empty` meets its contract.
 use mathlib.Core.Path.{refl}
-use Rattle.wire.proofs.Descriptions.{gives-22, gives}
+use Rattle.layouts.proofs.Descriptions.{gives-22, gives}
 use Rattle.system.specs.Empty.{empty}
 use Rattle.system.proofs.empty.read_empty.Statement.{statement}
 use Rattle.system.proofs.empty.read_empty.Tie as tie

@@ -1,8 +1,8 @@
 -- `system::empty::write_empty` meets its contract.
 use mathlib.Core.Path.{refl}
-use Rattle.frames.specs.Writer.{senderOf}
-use Rattle.frames.proofs.WrittenPlan.{known}
-use Rattle.frames.proofs.Promised.{wrote, wrote-nothing}
+use Rattle.frame_writer.specs.Writer.{senderOf}
+use Rattle.frame_writer.proofs.WrittenPlan.{known}
+use Rattle.frame_writer.proofs.Promised.{wrote, wrote-nothing}
 use Rattle.system.specs.Empty.{empty}
 use borrow.Author.Needs.{needs}
 use Rattle.system.proofs.empty.write_empty.Statement.{statement}

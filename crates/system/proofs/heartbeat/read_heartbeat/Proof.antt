@@ -1,7 +1,7 @@
 -- `system::heartbeat::read_heartbeat` meets its contract.
 use mathlib.Core.Path.{refl}
 use borrow.Author.Needs.{needs}
-use Rattle.wire.proofs.Descriptions.{gives-22, gives}
+use Rattle.layouts.proofs.Descriptions.{gives-22, gives}
 use Rattle.system.specs.Heartbeat.{heartbeat}
 use Rattle.system.proofs.heartbeat.read_heartbeat.Statement.{statement}
 use Rattle.system.proofs.heartbeat.read_heartbeat.Tie as tie

@@ -1,9 +1,9 @@
 -- `system::heartbeat::write_heartbeat` meets its contract.
 use mathlib.Core.Path.{refl}
 use borrow.Author.Needs.{needs}
-use Rattle.frames.specs.Writer.{senderOf}
-use Rattle.frames.proofs.WrittenPlan.{known}
-use Rattle.frames.proofs.Promised.{wrote, wrote-nothing}
+use Rattle.frame_writer.specs.Writer.{senderOf}
+use Rattle.frame_writer.proofs.WrittenPlan.{known}
+use Rattle.frame_writer.proofs.Promised.{wrote, wrote-nothing}
 use Rattle.system.specs.Heartbeat.{heartbeat}
 use Rattle.system.proofs.heartbeat.write_heartbeat.Statement.{statement}
 use Rattle.system.proofs.heartbeat.write_heartbeat.Tie as tie

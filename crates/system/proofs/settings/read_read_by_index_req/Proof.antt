@@ -1,7 +1,7 @@
 -- `system::settings::read_read_by_index_req` meets its contract.
 use mathlib.Core.Path.{refl}
 use borrow.Author.Needs.{needs}
-use Rattle.wire.proofs.Descriptions.{gives-22, gives}
+use Rattle.layouts.proofs.Descriptions.{gives-22, gives}
 use Rattle.system.specs.ReadByIndexReq.{readByIndexReq}
 use Rattle.system.proofs.settings.read_read_by_index_req.Statement.{statement}
 use Rattle.system.proofs.settings.read_read_by_index_req.Tie as tie

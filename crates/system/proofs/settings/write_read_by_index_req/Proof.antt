@@ -1,9 +1,9 @@
 -- `system::settings::write_read_by_index_req` meets its contract.
 use mathlib.Core.Path.{refl}
 use borrow.Author.Needs.{needs}
-use Rattle.frames.specs.Writer.{senderOf}
-use Rattle.frames.proofs.WrittenPlan.{known}
-use Rattle.frames.proofs.Promised.{wrote, wrote-nothing}
+use Rattle.frame_writer.specs.Writer.{senderOf}
+use Rattle.frame_writer.proofs.WrittenPlan.{known}
+use Rattle.frame_writer.proofs.Promised.{wrote, wrote-nothing}
 use Rattle.system.specs.ReadByIndexReq.{readByIndexReq}
 use Rattle.system.proofs.settings.write_read_by_index_req.Statement.{statement}
 use Rattle.system.proofs.settings.write_read_by_index_req.Tie as tie

@@ -1,7 +1,7 @@
 -- `system::startup::read_startup` meets its contract.
 use mathlib.Core.Path.{refl}
 use borrow.Author.Needs.{needs}
-use Rattle.wire.proofs.Descriptions.{gives-22, gives}
+use Rattle.layouts.proofs.Descriptions.{gives-22, gives}
 use Rattle.system.specs.Startup.{startup}
 use Rattle.system.proofs.startup.read_startup.Statement.{statement}
 use Rattle.system.proofs.startup.read_startup.Tie as tie

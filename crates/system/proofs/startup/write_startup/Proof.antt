@@ -1,9 +1,9 @@
 -- `system::startup::write_startup` meets its contract.
 use mathlib.Core.Path.{refl}
 use borrow.Author.Needs.{needs}
-use Rattle.frames.specs.Writer.{senderOf}
-use Rattle.frames.proofs.WrittenPlan.{known}
-use Rattle.frames.proofs.Promised.{wrote, wrote-nothing}
+use Rattle.frame_writer.specs.Writer.{senderOf}
+use Rattle.frame_writer.proofs.WrittenPlan.{known}
+use Rattle.frame_writer.proofs.Promised.{wrote, wrote-nothing}
 use Rattle.system.specs.Startup.{startup}
 use Rattle.system.proofs.startup.write_startup.Statement.{statement}
 use Rattle.system.proofs.startup.write_startup.Tie as tie

@@ -9,7 +9,7 @@ use borrow.Author.Tests.{leb-true, leb-false}
 use lib.Dec.{leb}
 use lib.ListN.{length, set, length-replicate, getD-replicate}
 use Rattle.wire.specs.Padded.{zeros}
-use Rattle.wire.proofs.Layouts.{bytes-sets, bytes-nowhere}
+use Rattle.wire.proofs.Stored.{bytes-sets, bytes-nowhere}
 use Rattle.wire.proofs.Copies.{Copied, copied-none, copied-more, copied-all, copied-length}
 use Rattle.wire.proofs.padded.store_zeros.Statement.{statement}
 use Rattle.wire.proofs.padded.store_zeros.Tie as tie

@@ -5,7 +5,7 @@ use native.Mathlib.Omega.{arith}
 use borrow.Author.Needs.{needs}
 use borrow.Author.Tests.{leb-true, leb-false}
 use lib.ListN.{length}
-use Rattle.wire.proofs.Layouts.{bytes-sets, bytes-nowhere}
+use Rattle.wire.proofs.Stored.{bytes-sets, bytes-nowhere}
 use Rattle.wire.proofs.Copies.{Copied, copied-none, copied-more, copied-all, copied-length}
 use Rattle.wire.proofs.store.store_bytes.Statement.{statement}
 use Rattle.wire.proofs.store.store_bytes.Tie as tie

@@ -1,10 +1,9 @@
 -- `epochs::collating::Collator::feed` meets its contract: the packet's own place takes it.
--- Assumes nothing.
 use mathlib.Core.Path.{_≡_, sym, ap, _∙_}
 use Prim.Native.Nat.{_<_}
 use native.Mathlib.Omega.{arith}
 use lib.ListN.{length, length-take}
-use Rattle.wire.specs.Refusals.{given}
+use Rattle.refusals.specs.Refusals.{given}
 use Rattle.epochs.specs.Collator.{recognisedAnswer, forPlace, rosterOf}
 use Rattle.epochs.proofs.Placings.{placed-below}
 use Rattle.epochs.proofs.Feeding.{fed-refused, fed-taken}

@@ -1,5 +1,4 @@
 -- `epochs::collating::Collator::made` meets its contract, refusal by refusal.
--- Assumes nothing.
 use mathlib.Core.Path.{sym, ap, _∙_}
 use mathlib.Core.List.{List}
 use Prim.Native.Nat.{ℕ}

@@ -1,5 +1,4 @@
 -- `frames::cursor::Cursor::ended` meets its contract: each arm by what the match tells.
--- Assumes nothing.
 use borrow.Author.Needs.{needs}
 use Rattle.frames.proofs.cursor.Cursor.ended.Statement.{statement}
 use Rattle.frames.proofs.cursor.Cursor.ended.Tie as tie

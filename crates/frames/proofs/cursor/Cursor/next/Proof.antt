@@ -1,5 +1,4 @@
 -- `frames::cursor::Cursor::next` meets its contract. The loop's invariant: the answer is still that of the cursor handed in.
--- Assumes nothing.
 use mathlib.Core.Path.{_≡_, refl, sym, _∙_}
 use Prim.Native.Nat.{_-_}
 use native.Mathlib.Omega.{arith}

@@ -1,4 +1,4 @@
--- `frames::cursor::Cursor::over` meets its contract: past what `passed` and `counted` give. Assumes nothing.
+-- `frames::cursor::Cursor::over` meets its contract: past what `passed` and `counted` give.
 use mathlib.Core.Path.{ap₂, _∙_}
 use borrow.Author.Needs.{needs}
 use Rattle.frames.specs.Cursors.{past}

@@ -1,5 +1,4 @@
 -- `frames::cursor::Cursor::past` meets its contract: its five sums.
--- Assumes nothing.
 use borrow.Author.Needs.{needs}
 use Rattle.frames.proofs.cursor.Cursor.past.Statement.{statement}
 use Rattle.frames.proofs.cursor.Cursor.past.Tie as tie

@@ -1,5 +1,4 @@
 -- `frames::cursor::Cursor::past_junk` meets its contract: at the end and at a 0x55 the cursor stays, else it passes the run.
--- Assumes nothing.
 use mathlib.Core.Path.{ap, _∙_}
 use borrow.Author.Needs.{needs}
 use Rattle.frames.specs.Cursors.{past}

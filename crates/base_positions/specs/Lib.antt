@@ -1,0 +1,2 @@
+pub mod BasePosEcef
+pub mod BasePosLlh

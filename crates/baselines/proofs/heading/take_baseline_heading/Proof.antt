@@ -1,0 +1,27 @@
+-- `baselines::heading::take_baseline_heading` meets its contract, field by field.
+use borrow.Author.Needs.{needs}
+use Rattle.baselines.proofs.heading.take_baseline_heading.Statement.{statement}
+use Rattle.baselines.proofs.heading.take_baseline_heading.Tie as tie
+
+read-u32-requires : tie.Need-read-u32-requires
+read-u32-requires c κs = search needs
+
+read-u32-requires-2 : tie.Need-read-u32-requires-2
+read-u32-requires-2 c κs = search needs
+
+read-u8-requires : tie.Need-read-u8-requires
+read-u8-requires c κs = search needs
+
+read-u8-requires-2 : tie.Need-read-u8-requires-2
+read-u8-requires-2 c κs = search needs
+
+returns : tie.Need-returns
+returns c = λ i. record {
+  tow = c .before .before .before .read-u32 .ensures i;
+  heading = c .before .before .read-u322 .ensures i;
+  «n_sats» = c .before .read-u8 .ensures i;
+  flags = c .read-u82 .ensures i;
+}
+
+pub take-baseline-heading-spec : {M : Type 1} → statement M
+take-baseline-heading-spec = tie.close (tie.spec read-u32-requires read-u32-requires-2 read-u8-requires read-u8-requires-2 returns)

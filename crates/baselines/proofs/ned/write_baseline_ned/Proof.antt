@@ -1,0 +1,53 @@
+-- `baselines::ned::write_baseline_ned` meets its contract.
+use mathlib.Core.Path.{refl, sym, _∙_}
+use mathlib.Core.Bool.{and-true}
+use borrow.Author.Needs.{needs}
+use Rattle.frame_writer.specs.Writer.{senderOf}
+use Rattle.frame_writer.proofs.WrittenPlan.{known}
+use Rattle.frame_writer.proofs.Promised.{wrote, wrote-nothing, wrote-23}
+use Rattle.baselines.specs.Ned.{baselineNed}
+use Rattle.baselines.proofs.ned.write_baseline_ned.Statement.{statement}
+use Rattle.baselines.proofs.ned.write_baseline_ned.Tie as tie
+
+fix-allowed-requires : tie.Need-fix-allowed-requires
+fix-allowed-requires c κs = search needs
+
+plan-requires : tie.Need-plan-requires
+plan-requires c κs = search needs
+
+enum-told : tie.Need-enum-told
+enum-told c = search needs
+
+put-requires : tie.Need-put-requires
+put-requires c κs = search needs
+
+seal-requires : tie.Need-seal-requires
+seal-requires c κs = search needs
+
+enum-told-2 : tie.Need-enum-told-2
+enum-told-2 c = search needs
+
+same-length : tie.Need-same-length
+same-length c = search needs
+
+returns : tie.Need-returns
+returns c =
+    let p = c .before .before .before .before .before .before in
+    let at = p .before .before in
+    let a = at .before .before .before .before .before .before .args in
+    let plan = at .before .before .plan .ensures in
+    wrote baselineNed (senderOf (a .sender)) (a .r) (a .buf .now) (and-true _ ∙ sym (at .before .before .before .before .fix-allowed .ensures) ∙ at .before .before .before .if1 .taken) refl plan (known plan (at .enum-told .given .1)) (p .put .ensures) (c .before .before .seal .ensures)
+
+returns-2 : tie.Need-returns-2
+returns-2 c =
+    let a = c .before .before .before .before .before .before .args in
+    let plan = c .before .before .plan .ensures in
+    wrote-nothing baselineNed (senderOf (a .sender)) (a .r) (a .buf .now) (and-true _ ∙ sym (c .before .before .before .before .fix-allowed .ensures) ∙ c .before .before .before .if1 .taken) refl plan (known plan (c .enum-told2 .given .1))
+
+returns-3 : tie.Need-returns-3
+returns-3 c =
+    let a = c .before .before .before .args in
+    wrote-23 baselineNed (senderOf (a .sender)) (a .r) (a .buf .now) (and-true _ ∙ sym (c .before .fix-allowed .ensures) ∙ c .if1 .left)
+
+pub write-baseline-ned-spec : {M : Type 1} → statement M
+write-baseline-ned-spec = tie.close (tie.spec fix-allowed-requires plan-requires enum-told put-requires seal-requires enum-told-2 same-length returns returns-2 returns-3)

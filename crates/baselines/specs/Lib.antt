@@ -1,0 +1,3 @@
+pub mod Ecef
+pub mod Ned
+pub mod Heading

@@ -1,0 +1,2 @@
+pub mod LentRows
+pub mod ReadBack

@@ -1,0 +1,3 @@
+pub mod Writer
+pub mod Faithful
+pub mod Inner

@@ -1,0 +1,4 @@
+pub mod Field
+pub mod Layout
+pub mod Description
+pub mod Together

@@ -1,0 +1,3 @@
+pub mod Longer
+pub mod Staying
+pub mod WatchedCalls

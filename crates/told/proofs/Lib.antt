@@ -1,0 +1,3 @@
+pub mod Tells
+pub mod Lives
+pub mod Grows

@@ -1,0 +1,103 @@
+-- What a call of `feed` tells of a frame is what comes of it at the collator that the bytes stand for.
+use mathlib.Core.Path.{_≡_, refl, sym, ap, _∙_}
+use mathlib.Core.List.{List, [], _∷_}
+use mathlib.Core.Logic.{inl, inr}
+use Prim.Native.Nat.{ℕ, _≤_, _<_}
+use native.Mathlib.Omega.{arith}
+use lib.ListN.{length, getD}
+use borrow.Author.Tests.{eq-eqb, ne-eqb}
+use Rattle.wire.specs.Number.{Bytes}
+use Rattle.refusals.specs.Refusals.{refused, given, Answer, Tests, FirstFails}
+use Rattle.layouts.specs.Field.{Row, decode}
+use Rattle.layouts.proofs.Fields.{length-row}
+use Rattle.refusals.proofs.Ordered.{exactly-first}
+use Rattle.frames.specs.Frame.{Content}
+use Rattle.packets.specs.Packet.{shape, numbering}
+use Rattle.packets.specs.declared.packet.Packet.{Packet}
+use Rattle.runs.specs.Run.{stepped}
+use Rattle.runs.specs.declared.running.Ended.{Ended}
+use Rattle.runs.specs.declared.running.Ended.the-variants.{Not, Whole}
+use Rattle.epochs.specs.Collator.{feeding, forPlace, ownPlace, idle, outcome, acted, rosterOf, fedFrame}
+use Rattle.epochs.specs.declared.collating.Collator.{Collator}
+use Rattle.epochs.specs.declared.collating.Report.{Report}
+use Rattle.epochs.specs.declared.collating.Happened.{Happened}
+use Rattle.epochs.specs.declared.collating.Happened.the-variants as H
+use Rattle.states.specs.State.{stateSize, slotFields, slotAt, slotRow, slotOf, stateIn}
+use Rattle.states.specs.Feed.{reportFields, reportSize, reportRow, endedStored, forPlaceIn, stepIn, FedIn, cameOut, fedIn}
+use Rattle.told.specs.Told.{toldBy, told}
+use Rattle.lent_rows.proofs.Parts.{stored-front}
+use Rattle.states.proofs.Feeds.{happenedNumber, feeds, report-back}
+
+-- ---- a refusal is none of 0 and 1
+
+abbrev From : ℕ → Tests → Type 0
+From k [] = Unit {0}
+From k (t ∷ ts) = (k ≤ t .1) × From k ts
+
+first-from : (k : ℕ) (ts : Tests) {n : ℕ} → From k ts → FirstFails ts n → k ≤ n
+first-from k (t ∷ ts) h (inl f) = omega (arith, h .0, f .1)
+first-from k (t ∷ ts) h (inr f) = first-from k ts (h .1) (f .1)
+
+pub refusal-from : (roster : List ℕ) (x : Content) {n : ℕ} → forPlace roster x ≡ refused n → 22 ≤ n
+unfolding forPlace shape numbering
+refusal-from roster x {n} e =
+    first-from 22 (feeding roster x) (omega arith, (omega arith, (omega arith, (omega arith, (omega arith, tt))))) (exactly-first (ownPlace roster x) (feeding roster x) n .0 e)
+
+refused-from : (c : Collator) (x : Content) {n : ℕ} → fedFrame c x .happened ≡ H.Refused n → 2 ≤ n
+unfolding fedFrame
+refused-from c x {n} = by (forPlace (rosterOf c) x) refl
+  where
+    ended : (p : Packet) (y : Ended) → outcome (x .sender) p y ≡ H.Refused n → 2 ≤ n
+    ended p Not q = let z : _≡_ {A = ℕ} 0 1 = cc in absurd (omega arith)
+    ended p (Whole t) q = let z : _≡_ {A = ℕ} 0 1 = cc in absurd (omega arith)
+
+    by : (a : Answer (ℕ × Packet)) → forPlace (rosterOf c) x ≡ a → acted c (x .sender) a .happened ≡ H.Refused n → 2 ≤ n
+    by (refused m) q e = let same : m ≡ n = cc in omega (arith, refusal-from (rosterOf c) x q)
+    by (given t) q e = ended (t .1) (stepped (getD (c .places) (t .0) idle .run) (t .1) .ended) e
+
+-- ---- the three numbers
+
+module _ (answer : ℕ) (report : List ℕ) where
+  tells-taken : answer ≡ 0 → toldBy answer report ≡ H.Taken
+  tells-taken e = rw (eq-eqb answer 0 e)
+
+  tells-epoch : {r : Report} → answer ≡ 1 → decode reportFields report 0 ≡ reportRow r → toldBy answer report ≡ H.Epoch r
+  tells-epoch e q =
+      rw (ne-eqb answer 0 (λ z. omega arith), eq-eqb answer 1 e)
+      (ap (λ (v : Row reportFields). H.Epoch (record { sender = v .0; wn = v .1 .0; tow = v .1 .1 .0; n = v .1 .1 .1 .0; observations = v .1 .1 .1 .1 .0 })) q)
+
+  tells-refused : {n : ℕ} → answer ≡ n → 2 ≤ n → toldBy answer report ≡ H.Refused n
+  tells-refused e h = rw (ne-eqb answer 0 (λ z. omega arith), ne-eqb answer 1 (λ z. omega arith)) (ap (λ (n : ℕ). H.Refused n) e)
+
+-- ---- a frame
+
+module _ (s : List ℕ) (x : Content) (report : List ℕ) (room : reportSize ≤ length report) where
+  -- lent bytes keep their length
+  abbrev KeptLong : FedIn → Type 0
+  KeptLong out = (length (out .state) ≡ length s) × (length (out .report) ≡ length report)
+
+  length-ended : (p : Packet) (y : Ended) → length (endedStored (x .sender) p y report) ≡ length report
+  length-ended p Not = refl
+  length-ended p (Whole total) = ap length (sym (stored-front reportFields _ report room)) ∙ length-row reportFields _ report 0
+
+  pub lengths : KeptLong (fedIn s x report)
+  unfolding fedIn
+  lengths = by (forPlaceIn s (length report) x)
+    where
+      by : (a : Answer (ℕ × Packet)) → KeptLong (cameOut s x report a)
+      by (refused n) = (refl, refl)
+      by (given t) =
+          let next = stepIn s (t .0) (t .1) in
+          (length-row slotFields (slotRow (slotOf (record { run = next .run }))) s (slotAt (t .0)), length-ended (t .1) (next .ended))
+
+  module _ (long : stateSize ≤ length s) (bytes : Bytes (x .payload)) (small : x .sender < 65536) where
+    pub tells : told (fedIn s x report) ≡ fedFrame (stateIn s) x .happened
+    tells = by (fedFrame (stateIn s) x .happened) refl
+      where
+        by : (h : Happened) → fedFrame (stateIn s) x .happened ≡ h → told (fedIn s x report) ≡ h
+        by (H.Refused n) e =
+            tells-refused (fedIn s x report .answer) (fedIn s x report .report) (feeds s x report long room bytes .answer ∙ ap happenedNumber e) (refused-from (stateIn s) x e)
+        by H.Taken e = tells-taken (fedIn s x report .answer) (fedIn s x report .report) (feeds s x report long room bytes .answer ∙ ap happenedNumber e)
+        by (H.Epoch r) e =
+            tells-epoch (fedIn s x report .answer) (fedIn s x report .report) (feeds s x report long room bytes .answer ∙ ap happenedNumber e)
+            (report-back s x report long room bytes small e)
