@@ -48,8 +48,14 @@ module _ {M : Type 1} (𝓤 : URA M) (H : Heap 𝓤) (A : Atoms 𝓤) (mem : Mem
   pub base-positions : public.BasePositions 𝓤 H A mem run
   base-positions = search determinations
 
+  pub times : public.Times 𝓤 H A mem run
+  times = search determinations
+
   pub orbits : public.Orbits 𝓤 H A mem run
   orbits = search determinations
+
+  pub atmosphere : public.Atmosphere 𝓤 H A mem run
+  atmosphere = search determinations
 
   pub logs : public.Logs 𝓤 H A mem run
   logs = search determinations

@@ -22,7 +22,9 @@ use Rattle.baselines.proofs as baselines
 use Rattle.phases.proofs as phases
 use Rattle.observation.proofs as observation
 use Rattle.base_positions.proofs as base_positions
+use Rattle.times.proofs as times
 use Rattle.orbits.proofs as orbits
+use Rattle.atmosphere.proofs as atmosphere
 use Rattle.logs.proofs as logs
 use Rattle.system.proofs as system
 use Rattle.obs_reader.proofs as obs_reader
@@ -162,6 +164,10 @@ module _ {M : Type 1} (𝓤 : URA M) (H : Heap 𝓤) (A : Atoms 𝓤) (mem : Mem
     pub read-base-pos-llh : Determined 𝓤 base_positions.read_base_pos_llh.ended (base_positions.read_base_pos_llh.clauses 𝓤 H A mem run)
     pub write-base-pos-llh : Determined 𝓤 base_positions.write_base_pos_llh.ended (base_positions.write_base_pos_llh.clauses 𝓤 H A mem run)
 
+  pub record Times : Type 1 where
+    pub take : Determined 𝓤 times.take.ended (times.take.clauses 𝓤 H A mem run)
+    pub put : Determined 𝓤 times.put.ended (times.put.clauses 𝓤 H A mem run)
+
   pub record Orbits : Type 1 where
     pub take-ephemeris-gps : Determined 𝓤 orbits.take_ephemeris_gps.ended (orbits.take_ephemeris_gps.clauses 𝓤 H A mem run)
     pub read-ephemeris-gps : Determined 𝓤 orbits.read_ephemeris_gps.ended (orbits.read_ephemeris_gps.clauses 𝓤 H A mem run)
@@ -172,15 +178,17 @@ module _ {M : Type 1} (𝓤 : URA M) (H : Heap 𝓤) (A : Atoms 𝓤) (mem : Mem
     pub take-ephemeris-glo : Determined 𝓤 orbits.take_ephemeris_glo.ended (orbits.take_ephemeris_glo.clauses 𝓤 H A mem run)
     pub read-ephemeris-glo : Determined 𝓤 orbits.read_ephemeris_glo.ended (orbits.read_ephemeris_glo.clauses 𝓤 H A mem run)
     pub write-ephemeris-glo : Determined 𝓤 orbits.write_ephemeris_glo.ended (orbits.write_ephemeris_glo.clauses 𝓤 H A mem run)
-    pub take-iono : Determined 𝓤 orbits.take_iono.ended (orbits.take_iono.clauses 𝓤 H A mem run)
-    pub read-iono : Determined 𝓤 orbits.read_iono.ended (orbits.read_iono.clauses 𝓤 H A mem run)
-    pub write-iono : Determined 𝓤 orbits.write_iono.ended (orbits.write_iono.clauses 𝓤 H A mem run)
-    pub take-sv-configuration-gps : Determined 𝓤 orbits.take_sv_configuration_gps.ended (orbits.take_sv_configuration_gps.clauses 𝓤 H A mem run)
-    pub read-sv-configuration-gps : Determined 𝓤 orbits.read_sv_configuration_gps.ended (orbits.read_sv_configuration_gps.clauses 𝓤 H A mem run)
-    pub write-sv-configuration-gps : Determined 𝓤 orbits.write_sv_configuration_gps.ended (orbits.write_sv_configuration_gps.clauses 𝓤 H A mem run)
-    pub take-group-delay : Determined 𝓤 orbits.take_group_delay.ended (orbits.take_group_delay.clauses 𝓤 H A mem run)
-    pub read-group-delay : Determined 𝓤 orbits.read_group_delay.ended (orbits.read_group_delay.clauses 𝓤 H A mem run)
-    pub write-group-delay : Determined 𝓤 orbits.write_group_delay.ended (orbits.write_group_delay.clauses 𝓤 H A mem run)
+
+  pub record Atmosphere : Type 1 where
+    pub take-iono : Determined 𝓤 atmosphere.take_iono.ended (atmosphere.take_iono.clauses 𝓤 H A mem run)
+    pub read-iono : Determined 𝓤 atmosphere.read_iono.ended (atmosphere.read_iono.clauses 𝓤 H A mem run)
+    pub write-iono : Determined 𝓤 atmosphere.write_iono.ended (atmosphere.write_iono.clauses 𝓤 H A mem run)
+    pub take-sv-configuration-gps : Determined 𝓤 atmosphere.take_sv_configuration_gps.ended (atmosphere.take_sv_configuration_gps.clauses 𝓤 H A mem run)
+    pub read-sv-configuration-gps : Determined 𝓤 atmosphere.read_sv_configuration_gps.ended (atmosphere.read_sv_configuration_gps.clauses 𝓤 H A mem run)
+    pub write-sv-configuration-gps : Determined 𝓤 atmosphere.write_sv_configuration_gps.ended (atmosphere.write_sv_configuration_gps.clauses 𝓤 H A mem run)
+    pub take-group-delay : Determined 𝓤 atmosphere.take_group_delay.ended (atmosphere.take_group_delay.clauses 𝓤 H A mem run)
+    pub read-group-delay : Determined 𝓤 atmosphere.read_group_delay.ended (atmosphere.read_group_delay.clauses 𝓤 H A mem run)
+    pub write-group-delay : Determined 𝓤 atmosphere.write_group_delay.ended (atmosphere.write_group_delay.clauses 𝓤 H A mem run)
 
   pub record Logs : Type 1 where
     pub is-log-length : Determined 𝓤 logs.is_log_length.ended (logs.is_log_length.clauses 𝓤 H A mem run)

@@ -7,7 +7,7 @@ use Rattle.layouts.specs.Field.{any}
 use Rattle.layouts.specs.Description.{Part}
 use Rattle.layouts.specs.Together.{loose, both, named}
 use Rattle.orbits.specs.declared.satellite.Satellite.{Satellite}
-use Rattle.orbits.specs.declared.time_of_week.TimeOfWeek.{TimeOfWeek}
+use Rattle.times.specs.TimeOfWeek.{timeOfWeek}
 use Rattle.orbits.specs.declared.common.EphemerisCommon.{EphemerisCommon}
 
 -- constellation-specific number; constellation, band and code of the signal; reserved
@@ -16,16 +16,6 @@ satellite = record {
   fields = any u16 ∷ any u8 ∷ any u8 ∷ [];
   row = λ r. (r .sat, (r .code, (r .reserved, tt)));
   make = λ v. record { sat = v .0; code = v .1 .0; reserved = v .1 .1 .0 };
-  row-make = λ v. refl;
-  make-row = λ r. refl;
-}
-
--- ms of the GPS week, and the week
-abbrev pub timeOfWeek : Part TimeOfWeek
-timeOfWeek = record {
-  fields = any u32 ∷ any u16 ∷ [];
-  row = λ r. (r .tow, (r .wn, tt));
-  make = λ v. record { tow = v .0; wn = v .1 .0 };
   row-make = λ v. refl;
   make-row = λ r. refl;
 }

@@ -6,7 +6,8 @@ use Rattle.layouts.specs.Field.{any}
 use Rattle.layouts.specs.Description.{Description, Part}
 use Rattle.layouts.specs.Together.{loose, both, named, message}
 use Rattle.refusals.specs.Refusals.{refused, given, Answer}
-use Rattle.orbits.specs.Common.{timeOfWeek, common}
+use Rattle.times.specs.TimeOfWeek.{timeOfWeek}
+use Rattle.orbits.specs.Common.{common}
 use Rattle.orbits.specs.declared.elements.Harmonics.{Harmonics}
 use Rattle.orbits.specs.declared.elements.Ellipse.{Ellipse}
 use Rattle.orbits.specs.declared.elements.Plane.{Plane}

@@ -3,6 +3,3 @@ pub mod Motion
 pub mod EphemerisGps
 pub mod EphemerisSbas
 pub mod EphemerisGlo
-pub mod Iono
-pub mod SvConfigurationGps
-pub mod GroupDelay

@@ -2,8 +2,7 @@
 ghost use mathlib.Core.Path.{_≡_};
 ghost use Rattle.layouts.specs.Together.{takenAt, putAt};
 ghost use Rattle.orbits.specs.EphemerisGps.{clock};
-use crate::time_of_week;
-use crate::time_of_week::TimeOfWeek;
+use times::TimeOfWeek;
 use wire::Double;
 
 pub struct Clock {
@@ -20,7 +19,7 @@ pub(crate) fn take(s: &[u8]) -> Clock
         af0: wire::read_double(s, 152),
         af1: wire::read_double(s, 160),
         af2: wire::read_double(s, 168),
-        toc: time_of_week::take(s, 176),
+        toc: times::take(s, 176),
     }
 }
 
@@ -30,5 +29,5 @@ pub(crate) fn put(buf: &mut [u8], r: Clock)
     wire::store_double(buf, 158, r.af0);
     wire::store_double(buf, 166, r.af1);
     wire::store_double(buf, 174, r.af2);
-    time_of_week::put(buf, 182, r.toc);
+    times::put(buf, 182, r.toc);
 }

@@ -4,8 +4,7 @@ ghost use Rattle.layouts.specs.Together.{takenAt, putAt};
 ghost use Rattle.orbits.specs.Common.{common};
 use crate::satellite;
 use crate::satellite::Satellite;
-use crate::time_of_week;
-use crate::time_of_week::TimeOfWeek;
+use times::TimeOfWeek;
 use wire::Double;
 
 pub struct EphemerisCommon {
@@ -22,7 +21,7 @@ pub(crate) fn take(s: &[u8]) -> EphemerisCommon
 {
     EphemerisCommon {
         sid: satellite::take(s),
-        toe: time_of_week::take(s, 4),
+        toe: times::take(s, 4),
         ura: wire::read_double(s, 10),
         fit_interval: wire::read_u32(s, 18),
         valid: wire::read_u8(s, 22),
@@ -34,7 +33,7 @@ pub(crate) fn put(buf: &mut [u8], r: EphemerisCommon)
     ensures { λ _. ⌜ now (buf .exit) ≡ putAt common r (now (buf .entry)) 6 ⌝ }
 {
     satellite::put(buf, r.sid);
-    time_of_week::put(buf, 10, r.toe);
+    times::put(buf, 10, r.toe);
     wire::store_double(buf, 16, r.ura);
     wire::store_u32(buf, 24, r.fit_interval);
     wire::store_u8(buf, 28, r.valid);

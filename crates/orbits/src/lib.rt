@@ -1,18 +1,14 @@
-// The ephemerides of 003, section 6.3, and what goes with them: the ionosphere, L2C capability, group delays. No field has a range.
-// Read specs/Common.antt and specs/Motion.antt first, the parts that repeat; then each message in a file of its own. A message is its parts put together
-// (wire/specs/Together.antt), and is read and written part after part.
+// The ephemerides of 003, section 6.3. No field has a range.
+// Read specs/Common.antt and specs/Motion.antt first, the parts that repeat; then each message in a file of its own. A message is its parts put
+// together (layouts/specs/Together.antt), and is read and written part after part.
 mod clock;
 mod common;
 mod elements;
 mod ephemeris_glo;
 mod ephemeris_gps;
 mod ephemeris_sbas;
-mod group_delay;
-mod iono;
 mod motion;
 mod satellite;
-mod sv_configuration_gps;
-mod time_of_week;
 
 pub use clock::Clock;
 pub use common::EphemerisCommon;
@@ -34,23 +30,6 @@ pub use ephemeris_sbas::EphemerisSbasRead;
 pub use ephemeris_sbas::read_ephemeris_sbas;
 pub use ephemeris_sbas::take_ephemeris_sbas;
 pub use ephemeris_sbas::write_ephemeris_sbas;
-pub use group_delay::GroupDelay;
-pub use group_delay::GroupDelayRead;
-pub use group_delay::read_group_delay;
-pub use group_delay::take_group_delay;
-pub use group_delay::write_group_delay;
-pub use iono::Cubic;
-pub use iono::Iono;
-pub use iono::IonoRead;
-pub use iono::read_iono;
-pub use iono::take_iono;
-pub use iono::write_iono;
 pub use motion::Motion;
 pub use motion::Vector;
 pub use satellite::Satellite;
-pub use sv_configuration_gps::SvConfigurationGps;
-pub use sv_configuration_gps::SvConfigurationGpsRead;
-pub use sv_configuration_gps::read_sv_configuration_gps;
-pub use sv_configuration_gps::take_sv_configuration_gps;
-pub use sv_configuration_gps::write_sv_configuration_gps;
-pub use time_of_week::TimeOfWeek;

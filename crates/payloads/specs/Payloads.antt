@@ -25,9 +25,9 @@ use Rattle.observation.specs.Obs as observation
 use Rattle.orbits.specs.EphemerisGlo.{ephemerisGlo}
 use Rattle.orbits.specs.EphemerisGps.{ephemerisGps}
 use Rattle.orbits.specs.EphemerisSbas.{ephemerisSbas}
-use Rattle.orbits.specs.GroupDelay.{groupDelay}
-use Rattle.orbits.specs.Iono.{iono}
-use Rattle.orbits.specs.SvConfigurationGps.{svConfigurationGps}
+use Rattle.atmosphere.specs.GroupDelay.{groupDelay}
+use Rattle.atmosphere.specs.Iono.{iono}
+use Rattle.atmosphere.specs.SvConfigurationGps.{svConfigurationGps}
 use Rattle.system.specs.Empty.{settingsSave, readByIndexDone}
 use Rattle.system.specs.Heartbeat.{heartbeat}
 use Rattle.logs.specs.Log as system

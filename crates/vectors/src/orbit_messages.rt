@@ -4,7 +4,7 @@ use crate::messages::written;
 use crate::print;
 use frame_writer::Sender;
 use orbits::Clock;
-use orbits::Cubic;
+use atmosphere::Cubic;
 use orbits::Ellipse;
 use orbits::EphemerisCommon;
 use orbits::EphemerisGlo;
@@ -13,17 +13,17 @@ use orbits::EphemerisGps;
 use orbits::EphemerisGpsRead;
 use orbits::EphemerisSbas;
 use orbits::EphemerisSbasRead;
-use orbits::GroupDelay;
-use orbits::GroupDelayRead;
+use atmosphere::GroupDelay;
+use atmosphere::GroupDelayRead;
 use orbits::Harmonics;
-use orbits::Iono;
-use orbits::IonoRead;
+use atmosphere::Iono;
+use atmosphere::IonoRead;
 use orbits::Motion;
 use orbits::Plane;
 use orbits::Satellite;
-use orbits::SvConfigurationGps;
-use orbits::SvConfigurationGpsRead;
-use orbits::TimeOfWeek;
+use atmosphere::SvConfigurationGps;
+use atmosphere::SvConfigurationGpsRead;
+use times::TimeOfWeek;
 use orbits::Vector;
 use wire::Double;
 
@@ -168,7 +168,7 @@ fn ephemeris_glo_again(r: EphemerisGlo) {
 
 pub fn iono(s: &[u8]) {
     print::word(b"iono");
-    match orbits::read_iono(s) {
+    match atmosphere::read_iono(s) {
         IonoRead::Record(r) => iono_again(r),
         IonoRead::Refused(n) => print::refused(n),
     }
@@ -180,13 +180,13 @@ fn iono_again(r: Iono) {
     cubic(r.a);
     cubic(r.b);
     let mut buf = [0u8; 78];
-    let w = orbits::write_iono(&mut buf, Sender::Named(0x0201), r);
+    let w = atmosphere::write_iono(&mut buf, Sender::Named(0x0201), r);
     written(&buf, w);
 }
 
 pub fn sv_configuration_gps(s: &[u8]) {
     print::word(b"sv-configuration-gps");
-    match orbits::read_sv_configuration_gps(s) {
+    match atmosphere::read_sv_configuration_gps(s) {
         SvConfigurationGpsRead::Record(r) => sv_configuration_gps_again(r),
         SvConfigurationGpsRead::Refused(n) => print::refused(n),
     }
@@ -197,13 +197,13 @@ fn sv_configuration_gps_again(r: SvConfigurationGps) {
     time_of_week(r.t_nmct);
     print::number(r.l2c_mask as u64);
     let mut buf = [0u8; 18];
-    let w = orbits::write_sv_configuration_gps(&mut buf, Sender::Named(0x0201), r);
+    let w = atmosphere::write_sv_configuration_gps(&mut buf, Sender::Named(0x0201), r);
     written(&buf, w);
 }
 
 pub fn group_delay(s: &[u8]) {
     print::word(b"group-delay");
-    match orbits::read_group_delay(s) {
+    match atmosphere::read_group_delay(s) {
         GroupDelayRead::Record(r) => group_delay_again(r),
         GroupDelayRead::Refused(n) => print::refused(n),
     }
@@ -218,6 +218,6 @@ fn group_delay_again(r: GroupDelay) {
     print::signed_16(r.isc_l1ca);
     print::signed_16(r.isc_l2c);
     let mut buf = [0u8; 22];
-    let w = orbits::write_group_delay(&mut buf, Sender::Named(0x0201), r);
+    let w = atmosphere::write_group_delay(&mut buf, Sender::Named(0x0201), r);
     written(&buf, w);
 }

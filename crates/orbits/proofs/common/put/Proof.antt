@@ -2,7 +2,7 @@
 use borrow.Author.Needs.{needs}
 use Rattle.layouts.proofs.Fields.{then}
 use Rattle.layouts.proofs.Together.{then-part}
-use Rattle.orbits.specs.Common.{timeOfWeek}
+use Rattle.times.specs.TimeOfWeek.{timeOfWeek}
 use Rattle.orbits.proofs.common.put.Statement.{statement}
 use Rattle.orbits.proofs.common.put.Tie as tie
 

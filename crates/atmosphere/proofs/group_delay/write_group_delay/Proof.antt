@@ -1,0 +1,44 @@
+-- `atmosphere::group_delay::write_group_delay` meets its contract.
+use mathlib.Core.Path.{refl}
+use borrow.Author.Needs.{needs}
+use Rattle.frame_writer.specs.Writer.{senderOf}
+use Rattle.frame_writer.proofs.WrittenPlan.{known}
+use Rattle.frame_writer.proofs.Promised.{wrote, wrote-nothing}
+use Rattle.atmosphere.specs.GroupDelay.{groupDelay}
+use Rattle.atmosphere.proofs.group_delay.write_group_delay.Statement.{statement}
+use Rattle.atmosphere.proofs.group_delay.write_group_delay.Tie as tie
+
+plan-requires : tie.Need-plan-requires
+plan-requires c κs = search needs
+
+enum-told : tie.Need-enum-told
+enum-told c = search needs
+
+put-requires : tie.Need-put-requires
+put-requires c κs = search needs
+
+seal-requires : tie.Need-seal-requires
+seal-requires c κs = search needs
+
+enum-told-2 : tie.Need-enum-told-2
+enum-told-2 c = search needs
+
+same-length : tie.Need-same-length
+same-length c = search needs
+
+returns : tie.Need-returns
+returns c =
+    let p = c .before .before .before .before .before .before in
+    let at = p .before .before in
+    let a = at .before .before .before .before .args in
+    let plan = at .before .before .plan .ensures in
+    wrote groupDelay (senderOf (a .sender)) (a .r) (a .buf .now) refl refl plan (known plan (at .enum-told .given .1)) (p .put .ensures) (c .before .before .seal .ensures)
+
+returns-2 : tie.Need-returns-2
+returns-2 c =
+    let a = c .before .before .before .before .args in
+    let plan = c .before .before .plan .ensures in
+    wrote-nothing groupDelay (senderOf (a .sender)) (a .r) (a .buf .now) refl refl plan (known plan (c .enum-told2 .given .1))
+
+pub write-group-delay-spec : {M : Type 1} → statement M
+write-group-delay-spec = tie.close (tie.spec plan-requires enum-told put-requires seal-requires enum-told-2 same-length returns returns-2)

@@ -1,0 +1,3 @@
+pub mod GroupDelay
+pub mod Iono
+pub mod SvConfigurationGps
