@@ -8,9 +8,9 @@ ghost use Rattle.layouts.specs.Description.{inside, readAs};
 ghost use Rattle.frame_writer.specs.Writer.{senderOf, writtenAnswer};
 ghost use Rattle.frame_writer.specs.Faithful.{writeAnswer, writtenAs};
 ghost use Rattle.atmosphere.specs.Iono.{iono, cubic, answerOf};
-use times::TimeOfWeek;
 use frame_writer::Sender;
 use frame_writer::Written;
+use times::TimeOfWeek;
 use wire::Double;
 
 // 003's a0 to a3, or b0 to b3.

@@ -6,9 +6,9 @@ ghost use Rattle.layouts.specs.Description.{inside, readAs};
 ghost use Rattle.frame_writer.specs.Writer.{senderOf, writtenAnswer};
 ghost use Rattle.frame_writer.specs.Faithful.{writeAnswer, writtenAs};
 ghost use Rattle.atmosphere.specs.SvConfigurationGps.{svConfigurationGps, answerOf};
-use times::TimeOfWeek;
 use frame_writer::Sender;
 use frame_writer::Written;
+use times::TimeOfWeek;
 
 pub struct SvConfigurationGps {
     pub t_nmct: TimeOfWeek,

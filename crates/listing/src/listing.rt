@@ -9,11 +9,11 @@ ghost use Rattle.wire.specs.Number.{bytesStored};
 ghost use Rattle.listing.specs.Listing.{frameShown, totalsShown, epochPart, textOf, mostListed, listAnswer, withListing};
 use epochs::Collator;
 use epochs::Happened;
+use frame_writer::Written;
 use frames::Counts;
 use frames::Cursor;
 use frames::Frame;
 use frames::Next;
-use frame_writer::Written;
 
 // `F` offset type sender length payload-answer
 fn put_frame(buf: &mut [u8], at: usize, f: Frame, answer: u8) -> usize

@@ -2,9 +2,15 @@
 // one function each.
 use crate::messages::written;
 use crate::print;
+use atmosphere::Cubic;
+use atmosphere::GroupDelay;
+use atmosphere::GroupDelayRead;
+use atmosphere::Iono;
+use atmosphere::IonoRead;
+use atmosphere::SvConfigurationGps;
+use atmosphere::SvConfigurationGpsRead;
 use frame_writer::Sender;
 use orbits::Clock;
-use atmosphere::Cubic;
 use orbits::Ellipse;
 use orbits::EphemerisCommon;
 use orbits::EphemerisGlo;
@@ -13,18 +19,12 @@ use orbits::EphemerisGps;
 use orbits::EphemerisGpsRead;
 use orbits::EphemerisSbas;
 use orbits::EphemerisSbasRead;
-use atmosphere::GroupDelay;
-use atmosphere::GroupDelayRead;
 use orbits::Harmonics;
-use atmosphere::Iono;
-use atmosphere::IonoRead;
 use orbits::Motion;
 use orbits::Plane;
 use orbits::Satellite;
-use atmosphere::SvConfigurationGps;
-use atmosphere::SvConfigurationGpsRead;
-use times::TimeOfWeek;
 use orbits::Vector;
+use times::TimeOfWeek;
 use wire::Double;
 
 fn double(d: Double) {

@@ -3,11 +3,11 @@ use crate::captures;
 use crate::payload::front;
 use crate::payload::mixed;
 use crate::print;
+use frame_writer::Sender;
+use frame_writer::Written;
 use frames::Cursor;
 use frames::Next;
-use frame_writer::Sender;
 use frames::Step;
-use frame_writer::Written;
 
 pub fn run() {
     let mut n = 0;

@@ -1,18 +1,8 @@
 -- `crc::crc_apart` meets its contract: the second part goes on from what the first came to.
 use native.Mathlib.Omega.{arith}
-use borrow.Author.Needs.{needs}
 use Rattle.crc.proofs.ByTable.{crc-by-parts}
 use Rattle.crc.proofs.crc_apart.Statement.{statement}
 use Rattle.crc.proofs.crc_apart.Tie as tie
-
-entries-requires : tie.Need-entries-requires
-entries-requires c κs = search needs
-
-crc-by-requires : tie.Need-crc-by-requires
-crc-by-requires c κs = search needs
-
-crc-by-requires-2 : tie.Need-crc-by-requires-2
-crc-by-requires-2 c κs = search needs
 
 returns : tie.Need-returns
 returns c =
@@ -26,4 +16,4 @@ returns c =
     (c .crc-by2 .ensures)
 
 pub crc-apart-spec : {M : Type 1} → statement M
-crc-apart-spec = tie.close (tie.spec entries-requires crc-by-requires crc-by-requires-2 returns)
+crc-apart-spec = tie.close (tie.spec (λ c κs. tt) (λ c κs. tt) (λ c κs. tt) returns)

@@ -23,12 +23,6 @@ Inv-loop2 table start s upper₀ lower₀ i₀ upper lower i = (length s ≤ i +
 abbrev μ-loop2 : tie.MeasureT-loop2
 μ-loop2 table start s upper₀ lower₀ i₀ upper lower i = length s - i
 
-met-requires : tie.Need-met-requires Inv-loop μ-loop Inv-loop2 μ-loop2
-met-requires c κs = search needs
-
-met-requires-2 : tie.Need-met-requires-2 Inv-loop μ-loop Inv-loop2 μ-loop2
-met-requires-2 c κs = search needs
-
 loop-holds : tie.Need-loop-holds Inv-loop μ-loop Inv-loop2 μ-loop2
 loop-holds c =
     let a = c .before .before .before .args in
@@ -46,9 +40,6 @@ element-copy-out-entry c = c .before .loop .inv .upper-fits
 picked-requires : tie.Need-picked-requires Inv-loop μ-loop Inv-loop2 μ-loop2
 picked-requires c κs = c .before .before .loop .inv .lower-fits
 
-add-waits : tie.Need-add-waits Inv-loop μ-loop Inv-loop2 μ-loop2
-add-waits c = search needs
-
 shared-slice-read-waits : tie.Need-shared-slice-read-waits Inv-loop μ-loop Inv-loop2 μ-loop2
 shared-slice-read-waits c = omega (arith, c .before .before .before .loop-test .taken)
 
@@ -57,9 +48,6 @@ cast-waits c = omega (arith, c .shared-slice-known2 .given (c .before .before .b
 
 waits-requires : tie.Need-waits-requires Inv-loop μ-loop Inv-loop2 μ-loop2
 waits-requires c κs = c .shared-slice-known2 .given (c .before .before .before .before .loop .i + 2) .fits
-
-add-i : tie.Need-add-i Inv-loop μ-loop Inv-loop2 μ-loop2
-add-i c = search needs
 
 loop-less : tie.Need-loop-less Inv-loop μ-loop Inv-loop2 μ-loop2
 loop-less c = omega (arith, c .before .before .before .before .loop-test .taken)
@@ -84,9 +72,6 @@ picked-requires-2 c κs = c .before .before .loop2 .inv .1 .lower-fits
 
 waits-requires-2 : tie.Need-waits-requires-2 Inv-loop μ-loop Inv-loop2 μ-loop2
 waits-requires-2 c κs = lit< tt
-
-add-i-2 : tie.Need-add-i-2 Inv-loop μ-loop Inv-loop2 μ-loop2
-add-i-2 c = search needs
 
 loop2-less : tie.Need-loop2-less Inv-loop μ-loop Inv-loop2 μ-loop2
 loop2-less c = omega (arith, c .before .before .before .loop2-test .taken)
@@ -121,18 +106,18 @@ crc-by-spec =
     μ-loop
     Inv-loop2
     μ-loop2
-    met-requires
-    met-requires-2
+    (λ c κs. search needs)
+    (λ c κs. search needs)
     loop-holds
     sub-loop
     mul-entry
     element-copy-out-entry
     picked-requires
-    add-waits
+    (λ c. search needs)
     shared-slice-read-waits
     cast-waits
     waits-requires
-    add-i
+    (λ c. search needs)
     loop-less
     loop-again
     loop2-holds
@@ -140,7 +125,7 @@ crc-by-spec =
     element-copy-out-entry-2
     picked-requires-2
     waits-requires-2
-    add-i-2
+    (λ c. search needs)
     loop2-less
     loop2-again
     mul-result

@@ -8,9 +8,6 @@ use Rattle.crc.proofs.Fold.{none-later}
 use Rattle.crc.proofs.met.Statement.{statement}
 use Rattle.crc.proofs.met.Tie as tie
 
-shared-slice-read-result : tie.Need-shared-slice-read-result
-shared-slice-read-result c = search needs
-
 cast-result : tie.Need-cast-result
 cast-result c = omega (arith, c .shared-slice-known .given (c .before .before .args .i) .fits)
 
@@ -25,4 +22,4 @@ returns-2 c =
     (sym (ap (bitXor (a .half)) (sym (none-later (a .s .now) (a .i) (c .if1 .left))) ∙ xor-zero-r (a .half)), c .before .pre)
 
 pub met-spec : {M : Type 1} → statement M
-met-spec = tie.close (tie.spec shared-slice-read-result cast-result returns returns-2)
+met-spec = tie.close (tie.spec (λ c. search needs) cast-result returns returns-2)

@@ -6,15 +6,6 @@ use Rattle.payloads.proofs.Entries.{under-name}
 use Rattle.payloads.proofs.obs.Statement.{statement}
 use Rattle.payloads.proofs.obs.Tie as tie
 
-read-obs-requires : tie.Need-read-obs-requires
-read-obs-requires c κs = search needs
-
-enum-known-r : tie.Need-enum-known-r
-enum-known-r c = search needs
-
-enum-known-n : tie.Need-enum-known-n
-enum-known-n c = search needs
-
 returns : tie.Need-returns
 returns c = under-name (λ r. M.Obs r) obsAnswer (c .before .before .before .read-obs .ensures) (c .before .r .given .1)
 
@@ -22,4 +13,4 @@ returns-2 : tie.Need-returns-2
 returns-2 c = under-name (λ r. M.Obs r) obsAnswer (c .before .before .before .read-obs .ensures) (c .before .n .given .1)
 
 pub obs-spec : {M : Type 1} → statement M
-obs-spec = tie.close (tie.spec read-obs-requires enum-known-r enum-known-n returns returns-2)
+obs-spec = tie.close (tie.spec (λ c κs. tt) (λ c. search needs) (λ c. search needs) returns returns-2)

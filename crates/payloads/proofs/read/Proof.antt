@@ -1,18 +1,8 @@
 -- `payloads::read` meets its contract: a refusal by its number, an OBS by its own reader, any other type by the record that it holds.
-use borrow.Author.Needs.{needs}
 use Rattle.payloads.proofs.Entries as typed
 use Rattle.payloads.proofs.Agreed.{refuses, gives-record, at-kind}
 use Rattle.payloads.proofs.read.Statement.{statement}
 use Rattle.payloads.proofs.read.Tie as tie
-
-answer-requires : tie.Need-answer-requires
-answer-requires c κs = search needs
-
-obs-requires : tie.Need-obs-requires
-obs-requires c κs = search needs
-
-record-in-requires : tie.Need-record-in-requires
-record-in-requires c κs = search needs
 
 returns : tie.Need-returns
 returns c = let a = c .before .before .before .args in refuses (a .kind) (a .payload .now) (c .before .answer .ensures) (c .if1 .taken)
@@ -27,4 +17,4 @@ returns-3 c =
     gives-record (a .kind) (a .payload .now) (w .before .answer .ensures) (w .if1 .left) (c .before .match .rest) (c .record-in .ensures)
 
 pub read-spec : {M : Type 1} → statement M
-read-spec = tie.close (tie.spec answer-requires returns obs-requires record-in-requires returns-2 returns-3)
+read-spec = tie.close (tie.spec (λ c κs. tt) returns (λ c κs. tt) (λ c κs. tt) returns-2 returns-3)

@@ -9,26 +9,11 @@ use borrow.Author.Needs.{needs}
 use Rattle.sbplist.proofs.put_output.Statement.{statement}
 use Rattle.sbplist.proofs.put_output.Tie as tie
 
-list-requires : tie.Need-list-requires
-list-requires c κs = search needs
-
-enum-known-n : tie.Need-enum-known-n
-enum-known-n c = search needs
-
-same-length : tie.Need-same-length
-same-length c = search needs
-
 returns : tie.Need-returns
 returns c =
     let a = c .before .before .before .before .before .before .before .before .before .args in
     let l = c .before .before .before .before .before .list in
     puts-listing (a .capture .now) (a .text .now) (sym (l .ensures .0) ∙ ap writtenAnswer (c .before .n .given .1)) (l .ensures .1)
-
-enum-told : tie.Need-enum-told
-enum-told c = search needs
-
-slice-write-text : tie.Need-slice-write-text
-slice-write-text c = search needs
 
 slice-write-text-2 : tie.Need-slice-write-text-2
 slice-write-text-2 c =
@@ -50,9 +35,6 @@ slice-write-text-5 c =
     let l = c .before .before .before .before .list in
     omega (arith, l .kept, c .before .before .before .before .before .before .before .before .pre, length-sets (l .last .1 .0) 0 (0x52 ∷ 0x20 ∷ 0x31 ∷ 0x31 ∷ []))
 
-same-length-2 : tie.Need-same-length-2
-same-length-2 c = search needs
-
 returns-2 : tie.Need-returns-2
 returns-2 c =
     let a = c .before .before .before .before .before .before .before .before .args in
@@ -63,15 +45,15 @@ pub put-output-spec : {M : Type 1} → statement M
 put-output-spec =
     tie.close
     (tie.spec
-    list-requires
-    enum-known-n
-    same-length
+    (λ c κs. tt)
+    (λ c. search needs)
+    (λ c. search needs)
     returns
-    enum-told
-    slice-write-text
+    (λ c. search needs)
+    (λ c. search needs)
     slice-write-text-2
     slice-write-text-3
     slice-write-text-4
     slice-write-text-5
-    same-length-2
+    (λ c. search needs)
     returns-2)

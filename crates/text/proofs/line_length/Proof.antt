@@ -15,15 +15,6 @@ abbrev μ-loop : tie.MeasureT-loop
 loop-holds : tie.Need-loop-holds Inv-loop μ-loop
 loop-holds c = summing-begun (c .args .t1)
 
-mul-digit-count : tie.Need-mul-digit-count Inv-loop μ-loop
-mul-digit-count c = search needs
-
-array-read-digit-count : tie.Need-array-read-digit-count Inv-loop μ-loop
-array-read-digit-count c = search needs
-
-digit-count-requires : tie.Need-digit-count-requires Inv-loop μ-loop
-digit-count-requires c κs = search needs
-
 add-n : tie.Need-add-n Inv-loop μ-loop
 add-n c = omega (arith, c .digit-count .ensures .1)
 
@@ -51,9 +42,9 @@ line-length-spec =
     Inv-loop
     μ-loop
     loop-holds
-    mul-digit-count
-    array-read-digit-count
-    digit-count-requires
+    (λ c. search needs)
+    (λ c. search needs)
+    (λ c κs. tt)
     add-n
     add-n-2
     add-i

@@ -22,22 +22,10 @@ loop-holds c =
     let s = c .before in
     left-begun (s .args .buf .now) (s .args .end) (s .args .t3) (s .pre .0) (s .pre .1) (omega (arith, s .good .1 .1 .0 .1 .0 .1))
 
-sub-i : tie.Need-sub-i Inv-loop μ-loop
-sub-i c = search needs
-
-mul-put-number : tie.Need-mul-put-number Inv-loop μ-loop
-mul-put-number c = search needs
-
-array-read-put-number : tie.Need-array-read-put-number Inv-loop μ-loop
-array-read-put-number c = search needs
-
 put-number-requires : tie.Need-put-number-requires Inv-loop μ-loop
 put-number-requires c κs =
     let a = c .before .before .before .before .args in
     left-room (a .buf .now) (a .end) (a .t3) (c .before .before .loop .inv) (c .before .loop-test .taken)
-
-loop-less : tie.Need-loop-less Inv-loop μ-loop
-loop-less c = search needs
 
 loop-again : tie.Need-loop-again Inv-loop μ-loop
 loop-again c =
@@ -62,11 +50,11 @@ put-fields-spec =
     Inv-loop
     μ-loop
     loop-holds
-    sub-i
-    mul-put-number
-    array-read-put-number
+    (λ c. search needs)
+    (λ c. search needs)
+    (λ c. search needs)
     put-number-requires
-    loop-less
+    (λ c. search needs)
     loop-again
     same-length
     returns)

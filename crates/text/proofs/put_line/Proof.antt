@@ -8,27 +8,15 @@ use borrow.Author.Needs.{needs}
 use Rattle.text.proofs.put_line.Statement.{statement}
 use Rattle.text.proofs.put_line.Tie as tie
 
-line-length-requires : tie.Need-line-length-requires
-line-length-requires c κs = search needs
-
-wrapping-add-usize-requires : tie.Need-wrapping-add-usize-requires
-wrapping-add-usize-requires c κs = search needs
-
 returns : tie.Need-returns
 returns c =
     let a = c .before .before .before .before .args in
     line-unfit (a .letter) (a .numbers) (a .buf .now) (a .at) (c .before .before .line-length .ensures) (c .before .wrapping-add-usize .ensures) (omega (arith, c .if1 .taken))
 
-sub-if2 : tie.Need-sub-if2
-sub-if2 c = search needs
-
 returns-2 : tie.Need-returns-2
 returns-2 c =
     let a = c .before .before .before .before .before .args in
     line-unfit (a .letter) (a .numbers) (a .buf .now) (a .at) (c .before .before .before .line-length .ensures) (c .before .before .wrapping-add-usize .ensures) (omega (arith, c .if2 .taken, c .before .if1 .left))
-
-slice-write-buf : tie.Need-slice-write-buf
-slice-write-buf c = search needs
 
 sub-last : tie.Need-sub-last
 sub-last c = omega (arith, c .before .before .before .before .before .good .0 .0, c .if2 .left, c .before .if1 .left, c .before .before .wrapping-add-usize .ensures, c .before .before .before .line-length .ensures)
@@ -67,12 +55,12 @@ pub put-line-spec : {M : Type 1} → statement M
 put-line-spec =
     tie.close
     (tie.spec
-    line-length-requires
-    wrapping-add-usize-requires
+    (λ c κs. tt)
+    (λ c κs. tt)
     returns
-    sub-if2
+    (λ c. search needs)
     returns-2
-    slice-write-buf
+    (λ c. search needs)
     sub-last
     slice-write-buf-2
     put-fields-requires

@@ -1,15 +1,8 @@
 -- `atmosphere::sv_configuration_gps::take_sv_configuration_gps` meets its contract: field by field.
-use borrow.Author.Needs.{needs}
 use Rattle.atmosphere.proofs.sv_configuration_gps.take_sv_configuration_gps.Statement.{
   statement,
 }
 use Rattle.atmosphere.proofs.sv_configuration_gps.take_sv_configuration_gps.Tie as tie
-
-take-requires : tie.Need-take-requires
-take-requires c κs = search needs
-
-read-u32-requires : tie.Need-read-u32-requires
-read-u32-requires c κs = search needs
 
 returns : tie.Need-returns
 returns c = λ i. record {
@@ -18,4 +11,4 @@ returns c = λ i. record {
 }
 
 pub take-sv-configuration-gps-spec : {M : Type 1} → statement M
-take-sv-configuration-gps-spec = tie.close (tie.spec take-requires read-u32-requires returns)
+take-sv-configuration-gps-spec = tie.close (tie.spec (λ c κs. tt) (λ c κs. tt) returns)

@@ -4,18 +4,6 @@ use Rattle.layouts.proofs.Fields.{then}
 use Rattle.base_positions.proofs.base_pos_ecef.put.Statement.{statement}
 use Rattle.base_positions.proofs.base_pos_ecef.put.Tie as tie
 
-store-double-requires : tie.Need-store-double-requires
-store-double-requires c κs = search needs
-
-store-double-requires-2 : tie.Need-store-double-requires-2
-store-double-requires-2 c κs = search needs
-
-store-double-requires-3 : tie.Need-store-double-requires-3
-store-double-requires-3 c κs = search needs
-
-same-length : tie.Need-same-length
-same-length c = search needs
-
 returns : tie.Need-returns
 returns c =
     let k3 = c .before .before in
@@ -24,4 +12,4 @@ returns c =
     then _ _ _ (then _ _ _ (k1 .store-double .ensures) (k2 .store-double2 .ensures)) (k3 .store-double3 .ensures)
 
 pub put-spec : {M : Type 1} → statement M
-put-spec = tie.close (tie.spec store-double-requires store-double-requires-2 store-double-requires-3 same-length returns)
+put-spec = tie.close (tie.spec (λ c κs. tt) (λ c κs. tt) (λ c κs. tt) (λ c. search needs) returns)

@@ -1,6 +1,5 @@
 -- `base_positions::base_pos_ecef::read_base_pos_ecef` meets its contract.
 use mathlib.Core.Path.{refl}
-use borrow.Author.Needs.{needs}
 use Rattle.layouts.proofs.Descriptions.{gives-22, gives}
 use Rattle.base_positions.specs.BasePosEcef.{basePosEcef}
 use Rattle.base_positions.proofs.base_pos_ecef.read_base_pos_ecef.Statement.{statement}
@@ -9,11 +8,8 @@ use Rattle.base_positions.proofs.base_pos_ecef.read_base_pos_ecef.Tie a
 returns : tie.Need-returns
 returns c = gives-22 basePosEcef (c .before .before .args .s .now) (c .if1 .taken)
 
-take-base-pos-ecef-requires : tie.Need-take-base-pos-ecef-requires
-take-base-pos-ecef-requires c κs = search needs
-
 returns-2 : tie.Need-returns-2
 returns-2 c = gives basePosEcef (c .before .before .before .args .s .now) (c .take-base-pos-ecef .result) (c .before .if1 .left) (c .take-base-pos-ecef .ensures) refl
 
 pub read-base-pos-ecef-spec : {M : Type 1} → statement M
-read-base-pos-ecef-spec = tie.close (tie.spec returns take-base-pos-ecef-requires returns-2)
+read-base-pos-ecef-spec = tie.close (tie.spec returns (λ c κs. tt) returns-2)

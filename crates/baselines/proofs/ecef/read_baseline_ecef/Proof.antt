@@ -1,7 +1,6 @@
 -- `baselines::ecef::read_baseline_ecef` meets its contract.
 use mathlib.Core.Path.{sym, _∙_}
 use mathlib.Core.Bool.{and-true}
-use borrow.Author.Needs.{needs}
 use Rattle.layouts.proofs.Descriptions.{gives-22, gives-23, gives}
 use Rattle.baselines.specs.Ecef.{baselineEcef}
 use Rattle.baselines.proofs.ecef.read_baseline_ecef.Statement.{statement}
@@ -9,12 +8,6 @@ use Rattle.baselines.proofs.ecef.read_baseline_ecef.Tie as tie
 
 returns : tie.Need-returns
 returns c = gives-22 baselineEcef (c .before .before .args .s .now) (c .if1 .taken)
-
-take-ecef-requires : tie.Need-take-ecef-requires
-take-ecef-requires c κs = search needs
-
-fix-allowed-requires : tie.Need-fix-allowed-requires
-fix-allowed-requires c κs = search needs
 
 returns-2 : tie.Need-returns-2
 returns-2 c =
@@ -27,4 +20,4 @@ returns-3 c =
     gives-23 baselineEcef (t .before .before .before .args .s .now) (t .take-ecef .result) (t .before .if1 .left) (t .take-ecef .ensures) (and-true _ ∙ sym (c .before .fix-allowed .ensures) ∙ c .if2 .left)
 
 pub read-baseline-ecef-spec : {M : Type 1} → statement M
-read-baseline-ecef-spec = tie.close (tie.spec returns take-ecef-requires fix-allowed-requires returns-2 returns-3)
+read-baseline-ecef-spec = tie.close (tie.spec returns (λ c κs. tt) (λ c κs. tt) returns-2 returns-3)

@@ -1,6 +1,5 @@
 -- `baselines::ecef::read_vel_ecef` meets its contract.
 use mathlib.Core.Path.{refl}
-use borrow.Author.Needs.{needs}
 use Rattle.layouts.proofs.Descriptions.{gives-22, gives}
 use Rattle.baselines.specs.Ecef.{velEcef}
 use Rattle.baselines.proofs.ecef.read_vel_ecef.Statement.{statement}
@@ -9,11 +8,8 @@ use Rattle.baselines.proofs.ecef.read_vel_ecef.Tie as tie
 returns : tie.Need-returns
 returns c = gives-22 velEcef (c .before .before .args .s .now) (c .if1 .taken)
 
-take-ecef-requires : tie.Need-take-ecef-requires
-take-ecef-requires c κs = search needs
-
 returns-2 : tie.Need-returns-2
 returns-2 c = gives velEcef (c .before .before .before .args .s .now) (c .take-ecef .result) (c .before .if1 .left) (c .take-ecef .ensures) refl
 
 pub read-vel-ecef-spec : {M : Type 1} → statement M
-read-vel-ecef-spec = tie.close (tie.spec returns take-ecef-requires returns-2)
+read-vel-ecef-spec = tie.close (tie.spec returns (λ c κs. tt) returns-2)

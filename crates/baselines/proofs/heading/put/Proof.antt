@@ -4,21 +4,6 @@ use Rattle.layouts.proofs.Fields.{then}
 use Rattle.baselines.proofs.heading.put.Statement.{statement}
 use Rattle.baselines.proofs.heading.put.Tie as tie
 
-store-u32-requires : tie.Need-store-u32-requires
-store-u32-requires c κs = search needs
-
-store-u32-requires-2 : tie.Need-store-u32-requires-2
-store-u32-requires-2 c κs = search needs
-
-store-u8-requires : tie.Need-store-u8-requires
-store-u8-requires c κs = search needs
-
-store-u8-requires-2 : tie.Need-store-u8-requires-2
-store-u8-requires-2 c κs = search needs
-
-same-length : tie.Need-same-length
-same-length c = search needs
-
 returns : tie.Need-returns
 returns c =
     let k4 = c .before .before in
@@ -28,4 +13,4 @@ returns c =
     then _ _ _ (then _ _ _ (then _ _ _ (k1 .store-u32 .ensures) (k2 .store-u322 .ensures)) (k3 .store-u8 .ensures)) (k4 .store-u82 .ensures)
 
 pub put-spec : {M : Type 1} → statement M
-put-spec = tie.close (tie.spec store-u32-requires store-u32-requires-2 store-u8-requires store-u8-requires-2 same-length returns)
+put-spec = tie.close (tie.spec (λ c κs. tt) (λ c κs. tt) (λ c κs. tt) (λ c κs. tt) (λ c. search needs) returns)

@@ -9,27 +9,6 @@ use Rattle.baselines.specs.Heading.{baselineHeading}
 use Rattle.baselines.proofs.heading.write_baseline_heading.Statement.{statement}
 use Rattle.baselines.proofs.heading.write_baseline_heading.Tie as tie
 
-fix-allowed-requires : tie.Need-fix-allowed-requires
-fix-allowed-requires c κs = search needs
-
-plan-requires : tie.Need-plan-requires
-plan-requires c κs = search needs
-
-enum-told : tie.Need-enum-told
-enum-told c = search needs
-
-put-requires : tie.Need-put-requires
-put-requires c κs = search needs
-
-seal-requires : tie.Need-seal-requires
-seal-requires c κs = search needs
-
-enum-told-2 : tie.Need-enum-told-2
-enum-told-2 c = search needs
-
-same-length : tie.Need-same-length
-same-length c = search needs
-
 returns : tie.Need-returns
 returns c =
     let p = c .before .before .before .before .before .before in
@@ -50,4 +29,4 @@ returns-3 c =
     wrote-23 baselineHeading (senderOf (a .sender)) (a .r) (a .buf .now) (and-true _ ∙ sym (c .before .fix-allowed .ensures) ∙ c .if1 .left)
 
 pub write-baseline-heading-spec : {M : Type 1} → statement M
-write-baseline-heading-spec = tie.close (tie.spec fix-allowed-requires plan-requires enum-told put-requires seal-requires enum-told-2 same-length returns returns-2 returns-3)
+write-baseline-heading-spec = tie.close (tie.spec (λ c κs. tt) (λ c κs. tt) (λ c. search needs) (λ c κs. tt) (λ c κs. tt) (λ c. search needs) (λ c. search needs) returns returns-2 returns-3)

@@ -1,7 +1,6 @@
 -- `baselines::ned::read_baseline_ned` meets its contract.
 use mathlib.Core.Path.{sym, _∙_}
 use mathlib.Core.Bool.{and-true}
-use borrow.Author.Needs.{needs}
 use Rattle.layouts.proofs.Descriptions.{gives-22, gives-23, gives}
 use Rattle.baselines.specs.Ned.{baselineNed}
 use Rattle.baselines.proofs.ned.read_baseline_ned.Statement.{statement}
@@ -9,12 +8,6 @@ use Rattle.baselines.proofs.ned.read_baseline_ned.Tie as tie
 
 returns : tie.Need-returns
 returns c = gives-22 baselineNed (c .before .before .args .s .now) (c .if1 .taken)
-
-take-ned-requires : tie.Need-take-ned-requires
-take-ned-requires c κs = search needs
-
-fix-allowed-requires : tie.Need-fix-allowed-requires
-fix-allowed-requires c κs = search needs
 
 returns-2 : tie.Need-returns-2
 returns-2 c =
@@ -27,4 +20,4 @@ returns-3 c =
     gives-23 baselineNed (t .before .before .before .args .s .now) (t .take-ned .result) (t .before .if1 .left) (t .take-ned .ensures) (and-true _ ∙ sym (c .before .fix-allowed .ensures) ∙ c .if2 .left)
 
 pub read-baseline-ned-spec : {M : Type 1} → statement M
-read-baseline-ned-spec = tie.close (tie.spec returns take-ned-requires fix-allowed-requires returns-2 returns-3)
+read-baseline-ned-spec = tie.close (tie.spec returns (λ c κs. tt) (λ c κs. tt) returns-2 returns-3)

@@ -1,33 +1,8 @@
 -- `baselines::ned::take_ned` meets its contract, field by field.
-use borrow.Author.Needs.{needs}
 use mir.Syntax.{w32}
 use Rattle.wire.proofs.Signed.{came-back}
 use Rattle.baselines.proofs.ned.take_ned.Statement.{statement}
 use Rattle.baselines.proofs.ned.take_ned.Tie as tie
-
-read-u32-requires : tie.Need-read-u32-requires
-read-u32-requires c κs = search needs
-
-read-s32-requires : tie.Need-read-s32-requires
-read-s32-requires c κs = search needs
-
-read-s32-requires-2 : tie.Need-read-s32-requires-2
-read-s32-requires-2 c κs = search needs
-
-read-s32-requires-3 : tie.Need-read-s32-requires-3
-read-s32-requires-3 c κs = search needs
-
-read-u16-requires : tie.Need-read-u16-requires
-read-u16-requires c κs = search needs
-
-read-u16-requires-2 : tie.Need-read-u16-requires-2
-read-u16-requires-2 c κs = search needs
-
-read-u8-requires : tie.Need-read-u8-requires
-read-u8-requires c κs = search needs
-
-read-u8-requires-2 : tie.Need-read-u8-requires-2
-read-u8-requires-2 c κs = search needs
 
 returns : tie.Need-returns
 returns c = λ i. record {
@@ -42,4 +17,4 @@ returns c = λ i. record {
 }
 
 pub take-ned-spec : {M : Type 1} → statement M
-take-ned-spec = tie.close (tie.spec read-u32-requires read-s32-requires read-s32-requires-2 read-s32-requires-3 read-u16-requires read-u16-requires-2 read-u8-requires read-u8-requires-2 returns)
+take-ned-spec = tie.close (tie.spec (λ c κs. tt) (λ c κs. tt) (λ c κs. tt) (λ c κs. tt) (λ c κs. tt) (λ c κs. tt) (λ c κs. tt) (λ c κs. tt) returns)

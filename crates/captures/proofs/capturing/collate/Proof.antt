@@ -17,17 +17,8 @@ Inv-loop s roster state₀ cursor₀ state cursor = Walking s (Going s (collated
 abbrev μ-loop : tie.MeasureT-loop
 μ-loop s roster state₀ cursor₀ state cursor = length (left s cursor)
 
-made-requires : tie.Need-made-requires Inv-loop μ-loop
-made-requires c κs = search needs
-
-begun-requires : tie.Need-begun-requires Inv-loop μ-loop
-begun-requires c κs = search needs
-
 returns : tie.Need-returns Inv-loop μ-loop
 returns c = let a = c .before .before .before .before .before .before .args in c .before .before .begun .ensures ∙ collated-refused (a .s .now) (a .roster .now) (c .before .before .before .made .ensures) (c .if1 .taken)
-
-closed-requires : tie.Need-closed-requires Inv-loop μ-loop
-closed-requires c κs = search needs
 
 loop-holds : tie.Need-loop-holds Inv-loop μ-loop
 loop-holds c =
@@ -35,32 +26,14 @@ loop-holds c =
     let fed = collated-fed (a .s .now) (a .roster .now) (c .before .before .before .before .made .ensures) (c .before .if1 .left) in
     going-begun (a .s .now) (c .before .before .before .before .before .before .before .good .0 .0) _ _ (fed ∙ ap (λ (t : Collated). fedAll t (contentsOf (a .s .now))) (sym (c .before .before .before .begun .ensures))) (c .closed .ensures)
 
-next-requires : tie.Need-next-requires Inv-loop μ-loop
-next-requires c κs = search needs
-
-enum-known-next : tie.Need-enum-known-next Inv-loop μ-loop
-enum-known-next c = search needs
-
-payload-requires : tie.Need-payload-requires Inv-loop μ-loop
-payload-requires c κs = search needs
-
-feed-requires : tie.Need-feed-requires Inv-loop μ-loop
-feed-requires c κs = search needs
-
 loop-less : tie.Need-loop-less Inv-loop μ-loop
 loop-less c = left-fewer (c .before .before .before .before .before .before .before .before .before .before .before .before .before .before .args .s .now) (c .before .before .before .before .before .before .before .before .before .before .before .before .before .before .good .0 .0) (c .before .before .before .before .before .before .loop .inv .honest) (sym (c .before .before .before .before .before .next .ensures) ∙ c .before .before .before .next2 .given .1)
 
 loop-again : tie.Need-loop-again Inv-loop μ-loop
 loop-again c = going-on (c .before .before .before .before .before .before .before .before .before .before .before .before .before .before .args .s .now) (c .before .before .before .before .before .before .before .before .before .before .before .before .before .before .good .0 .0) (c .before .before .before .before .before .before .loop .inv) (sym (c .before .before .before .before .before .next .ensures) ∙ c .before .before .before .next2 .given .1) (c .before .payload .ensures) (c .feed .ensures)
 
-enum-told : tie.Need-enum-told Inv-loop μ-loop
-enum-told c = search needs
-
 returns-2 : tie.Need-returns-2 Inv-loop μ-loop
 returns-2 c = going-end (c .before .before .before .before .before .before .before .before .before .before .before .args .s .now) (c .before .before .before .before .before .before .before .before .before .before .before .good .0 .0) (c .before .before .before .loop .inv) (sym (c .before .before .next .ensures) ∙ c .enum-told .given .1)
-
-enum-told-2 : tie.Need-enum-told-2 Inv-loop μ-loop
-enum-told-2 c = search needs
 
 returns-3 : tie.Need-returns-3 Inv-loop μ-loop
 returns-3 c = absurd (never-needs (c .before .before .before .before .before .before .before .before .before .before .before .args .s .now) (c .before .before .before .before .before .before .before .before .before .before .before .good .0 .0) (c .before .before .before .loop .inv .honest) (sym (c .before .before .next .ensures) ∙ c .enum-told2 .given .1))
@@ -71,18 +44,18 @@ collate-spec =
     (tie.spec
     Inv-loop
     μ-loop
-    made-requires
-    begun-requires
+    (λ c κs. tt)
+    (λ c κs. tt)
     returns
-    closed-requires
+    (λ c κs. tt)
     loop-holds
-    next-requires
-    enum-known-next
-    payload-requires
-    feed-requires
+    (λ c κs. tt)
+    (λ c. search needs)
+    (λ c κs. tt)
+    (λ c κs. tt)
     loop-less
     loop-again
-    enum-told
+    (λ c. search needs)
     returns-2
-    enum-told-2
+    (λ c. search needs)
     returns-3)

@@ -19,32 +19,11 @@ abbrev μ-loop : tie.MeasureT-loop
 loop-holds : tie.Need-loop-holds Inv-loop μ-loop
 loop-holds c = refl
 
-add-next : tie.Need-add-next Inv-loop μ-loop
-add-next c = search needs
-
-mul-search : tie.Need-mul-search Inv-loop μ-loop
-mul-search c = search needs
-
-shared-slice-read-search : tie.Need-shared-slice-read-search Inv-loop μ-loop
-shared-slice-read-search c = search needs
-
-search-requires : tie.Need-search-requires Inv-loop μ-loop
-search-requires c κs = search needs
-
-enum-told : tie.Need-enum-told Inv-loop μ-loop
-enum-told c = search needs
-
-enum-told-2 : tie.Need-enum-told-2 Inv-loop μ-loop
-enum-told-2 c = search needs
-
 returns : tie.Need-returns Inv-loop μ-loop
 returns c =
     let s = c .before .before .before .before .before .before .before .args .roster .now in
     let k = c .before .before .before .before .before .loop in
     sym (k .inv ∙ repeats-on s (k .i) (c .before .before .before .before .loop-test .taken) (sym (c .enum-told2 .given .1) ∙ c .before .before .search .ensures))
-
-loop-less : tie.Need-loop-less Inv-loop μ-loop
-loop-less c = search needs
 
 loop-again : tie.Need-loop-again Inv-loop μ-loop
 loop-again c =
@@ -62,13 +41,13 @@ repeated-spec =
     Inv-loop
     μ-loop
     loop-holds
-    add-next
-    mul-search
-    shared-slice-read-search
-    search-requires
-    enum-told
-    enum-told-2
+    (λ c. search needs)
+    (λ c. search needs)
+    (λ c. search needs)
+    (λ c κs. tt)
+    (λ c. search needs)
+    (λ c. search needs)
     returns
-    loop-less
+    (λ c. search needs)
     loop-again
     returns-2)

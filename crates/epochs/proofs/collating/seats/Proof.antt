@@ -16,21 +16,6 @@ abbrev μ-loop : tie.MeasureT-loop
 loop-holds : tie.Need-loop-holds Inv-loop μ-loop
 loop-holds c = (search needs, refl)
 
-sender-at-requires : tie.Need-sender-at-requires Inv-loop μ-loop
-sender-at-requires c κs = search needs
-
-mul-all : tie.Need-mul-all Inv-loop μ-loop
-mul-all c = search needs
-
-array-write-all : tie.Need-array-write-all Inv-loop μ-loop
-array-write-all c = search needs
-
-add-i : tie.Need-add-i Inv-loop μ-loop
-add-i c = search needs
-
-loop-less : tie.Need-loop-less Inv-loop μ-loop
-loop-less c = search needs
-
 loop-again : tie.Need-loop-again Inv-loop μ-loop
 loop-again c = let k = c .before .before .loop in (search needs, filled-on (c .before .before .before .before .args .roster .now) (k .i) (c .before .loop-test .taken) (k .inv .1) (c .sender-at .ensures))
 
@@ -47,10 +32,10 @@ seats-spec =
     Inv-loop
     μ-loop
     loop-holds
-    sender-at-requires
-    mul-all
-    array-write-all
-    add-i
-    loop-less
+    (λ c κs. tt)
+    (λ c. search needs)
+    (λ c. search needs)
+    (λ c. search needs)
+    (λ c. search needs)
     loop-again
     returns)

@@ -11,38 +11,11 @@ use borrow.Author.Needs.{needs}
 use Rattle.epochs.proofs.recognising.recognise.Statement.{statement}
 use Rattle.epochs.proofs.recognising.recognise.Tie as tie
 
-read-packet-requires : tie.Need-read-packet-requires
-read-packet-requires c κs = search needs
-
-enum-known-read : tie.Need-enum-known-read
-enum-known-read c = search needs
-
-enum-known-read-2 : tie.Need-enum-known-read-2
-enum-known-read-2 c = search needs
-
-seat-of-requires : tie.Need-seat-of-requires
-seat-of-requires c κs = search needs
-
-enum-known-seat : tie.Need-enum-known-seat
-enum-known-seat c = search needs
-
-enum-told : tie.Need-enum-told
-enum-told c = search needs
-
 returns : tie.Need-returns
 returns c =
     let a = c .before .before .before .before .before .before .before .before .args in
     let x : Content = record { kind = a .kind; sender = a .sender; payload = a .payload .now } in
     sym (placed-43 (take (a .count) (a .roster)) x (sym (ap packetAnswer (sym (c .before .before .before .before .read2 .given .1)) ∙ c .before .before .before .before .before .before .read-packet .ensures)) (sym (c .before .before .seat-of .ensures) ∙ c .enum-told .given .1))
-
-numbered-requires : tie.Need-numbered-requires
-numbered-requires c κs = search needs
-
-enum-known-numbered : tie.Need-enum-known-numbered
-enum-known-numbered c = search needs
-
-enum-known-numbered-2 : tie.Need-enum-known-numbered-2
-enum-known-numbered-2 c = search needs
 
 returns-2 : tie.Need-returns-2
 returns-2 c =
@@ -71,16 +44,16 @@ pub recognise-spec : {M : Type 1} → statement M
 recognise-spec =
     tie.close
     (tie.spec
-    read-packet-requires
-    enum-known-read
-    enum-known-read-2
-    seat-of-requires
-    enum-known-seat
-    enum-told
+    (λ c κs. tt)
+    (λ c. search needs)
+    (λ c. search needs)
+    (λ c κs. tt)
+    (λ c. search needs)
+    (λ c. search needs)
     returns
-    numbered-requires
-    enum-known-numbered
-    enum-known-numbered-2
+    (λ c κs. tt)
+    (λ c. search needs)
+    (λ c. search needs)
     returns-2
     returns-3
     returns-4)

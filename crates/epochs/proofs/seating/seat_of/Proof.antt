@@ -11,19 +11,10 @@ use Rattle.epochs.proofs.Searches.{take-eight}
 use Rattle.epochs.proofs.seating.seat_of.Statement.{statement}
 use Rattle.epochs.proofs.seating.seat_of.Tie as tie
 
-seats-listed-requires : tie.Need-seats-listed-requires
-seats-listed-requires c κs = search needs
-
-array-share-prefix-roster : tie.Need-array-share-prefix-roster
-array-share-prefix-roster c = search needs
-
 slice-aggregate-search : tie.Need-slice-aggregate-search
 slice-aggregate-search c =
     let size : length (c .before .before .args .t1) ≡ 8 = search needs in
     sym (length-take-le (c .before .seats-listed .result) (c .before .before .args .t1) (omega (arith, c .before .seats-listed .ensures)))
-
-search-requires : tie.Need-search-requires
-search-requires c κs = search needs
 
 returns : tie.Need-returns
 returns c =
@@ -35,8 +26,8 @@ pub seat-of-spec : {M : Type 1} → statement M
 seat-of-spec =
     tie.close
     (tie.spec
-    seats-listed-requires
-    array-share-prefix-roster
+    (λ c κs. tt)
+    (λ c. search needs)
     slice-aggregate-search
-    search-requires
+    (λ c κs. tt)
     returns)

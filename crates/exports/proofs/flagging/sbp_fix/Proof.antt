@@ -6,39 +6,6 @@ use borrow.Author.Needs.{needs}
 use Rattle.exports.proofs.flagging.sbp_fix.Statement.{statement}
 use Rattle.exports.proofs.flagging.sbp_fix.Tie as tie
 
-table-of-requires : tie.Need-table-of-requires
-table-of-requires c κs = search needs
-
-enum-told : tie.Need-enum-told
-enum-told c = search needs
-
-pos-ecef-fix-requires : tie.Need-pos-ecef-fix-requires
-pos-ecef-fix-requires c κs = search needs
-
-fix-number-requires : tie.Need-fix-number-requires
-fix-number-requires c κs = search needs
-
-enum-told-2 : tie.Need-enum-told-2
-enum-told-2 c = search needs
-
-pos-llh-fix-requires : tie.Need-pos-llh-fix-requires
-pos-llh-fix-requires c κs = search needs
-
-fix-number-requires-2 : tie.Need-fix-number-requires-2
-fix-number-requires-2 c κs = search needs
-
-enum-told-3 : tie.Need-enum-told-3
-enum-told-3 c = search needs
-
-baseline-fix-requires : tie.Need-baseline-fix-requires
-baseline-fix-requires c κs = search needs
-
-fix-number-requires-3 : tie.Need-fix-number-requires-3
-fix-number-requires-3 c κs = search needs
-
-enum-told-4 : tie.Need-enum-told-4
-enum-told-4 c = search needs
-
 returns : tie.Need-returns
 returns c =
     let told = c .before .before in
@@ -66,17 +33,17 @@ pub sbp-fix-spec : {M : Type 1} → statement M
 sbp-fix-spec =
     tie.close
     (tie.spec
-    table-of-requires
-    enum-told
-    pos-ecef-fix-requires
-    fix-number-requires
-    enum-told-2
-    pos-llh-fix-requires
-    fix-number-requires-2
-    enum-told-3
-    baseline-fix-requires
-    fix-number-requires-3
-    enum-told-4
+    (λ c κs. tt)
+    (λ c. search needs)
+    (λ c κs. tt)
+    (λ c κs. tt)
+    (λ c. search needs)
+    (λ c κs. tt)
+    (λ c κs. tt)
+    (λ c. search needs)
+    (λ c κs. tt)
+    (λ c κs. tt)
+    (λ c. search needs)
     returns
     returns-2
     returns-3

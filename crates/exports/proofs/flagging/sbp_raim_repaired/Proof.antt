@@ -1,20 +1,7 @@
 -- `exports::flagging::sbp_raim_repaired` meets its contract: the flag by its table.
 use Rattle.exports.proofs.Tabled.{raim-by-table}
-use borrow.Author.Needs.{needs}
 use Rattle.exports.proofs.flagging.sbp_raim_repaired.Statement.{statement}
 use Rattle.exports.proofs.flagging.sbp_raim_repaired.Tie as tie
-
-table-of-requires : tie.Need-table-of-requires
-table-of-requires c κs = search needs
-
-pos-llh-raim-repaired-requires : tie.Need-pos-llh-raim-repaired-requires
-pos-llh-raim-repaired-requires c κs = search needs
-
-raim-repaired-requires : tie.Need-raim-repaired-requires
-raim-repaired-requires c κs = search needs
-
-raim-number-requires : tie.Need-raim-number-requires
-raim-number-requires c κs = search needs
 
 returns : tie.Need-returns
 returns c =
@@ -25,8 +12,8 @@ pub sbp-raim-repaired-spec : {M : Type 1} → statement M
 sbp-raim-repaired-spec =
     tie.close
     (tie.spec
-    table-of-requires
-    pos-llh-raim-repaired-requires
-    raim-repaired-requires
-    raim-number-requires
+    (λ c κs. tt)
+    (λ c κs. tt)
+    (λ c κs. tt)
+    (λ c κs. tt)
     returns)

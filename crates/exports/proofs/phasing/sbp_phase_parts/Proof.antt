@@ -9,15 +9,6 @@ use borrow.Author.Needs.{needs}
 use Rattle.exports.proofs.phasing.sbp_phase_parts.Statement.{statement}
 use Rattle.exports.proofs.phasing.sbp_phase_parts.Tie as tie
 
-phase-parts-requires : tie.Need-phase-parts-requires
-phase-parts-requires c κs = search needs
-
-enum-known-parts : tie.Need-enum-known-parts
-enum-known-parts c = search needs
-
-enum-known-parts-2 : tie.Need-enum-known-parts-2
-enum-known-parts-2 c = search needs
-
 returns : tie.Need-returns
 returns c =
     let a = c .before .before .before .before .before .args in
@@ -39,4 +30,4 @@ returns-2 c =
 
 pub sbp-phase-parts-spec : {M : Type 1} → statement M
 sbp-phase-parts-spec =
-    tie.close (tie.spec phase-parts-requires enum-known-parts enum-known-parts-2 returns returns-2)
+    tie.close (tie.spec (λ c κs. tt) (λ c. search needs) (λ c. search needs) returns returns-2)

@@ -10,18 +10,6 @@ use borrow.Author.Needs.{needs}
 use Rattle.exports.proofs.writing.sbp_write_log.Statement.{statement}
 use Rattle.exports.proofs.writing.sbp_write_log.Tie as tie
 
-sender-from-requires : tie.Need-sender-from-requires
-sender-from-requires c κs = search needs
-
-write-log-requires : tie.Need-write-log-requires
-write-log-requires c κs = search needs
-
-hand-on-requires : tie.Need-hand-on-requires
-hand-on-requires c κs = search needs
-
-same-length : tie.Need-same-length
-same-length c = search needs
-
 returns : tie.Need-returns
 returns c =
     let wrote = c .before .before .before .before in
@@ -37,4 +25,4 @@ returns c =
 pub sbp-write-log-spec : {M : Type 1} → statement M
 sbp-write-log-spec =
     tie.close
-    (tie.spec sender-from-requires write-log-requires hand-on-requires same-length returns)
+    (tie.spec (λ c κs. tt) (λ c κs. tt) (λ c κs. tt) (λ c. search needs) returns)

@@ -4,9 +4,6 @@ use borrow.Author.Needs.{needs}
 use Rattle.exports.proofs.writing.sender_from.Statement.{statement}
 use Rattle.exports.proofs.writing.sender_from.Tie as tie
 
-cast-t3 : tie.Need-cast-t3
-cast-t3 c = search needs
-
 returns : tie.Need-returns
 returns c = rw (lt-ltb (c .before .args .n) 65536 (c .if1 .taken))
 
@@ -14,4 +11,4 @@ returns-2 : tie.Need-returns-2
 returns-2 c = rw (le-ltb (c .before .args .n) 65536 (c .if1 .left))
 
 pub sender-from-spec : {M : Type 1} → statement M
-sender-from-spec = tie.close (tie.spec cast-t3 returns returns-2)
+sender-from-spec = tie.close (tie.spec (λ c. search needs) returns returns-2)

@@ -1,7 +1,6 @@
 -- `formats::digits::size` meets its contract.
 use Prim.Native.Nat.{_%_, _≤_}
 use native.Mathlib.Omega.{arith}
-use borrow.Author.Needs.{needs}
 use Rattle.formats.proofs.Formats.{at-most-eight}
 use Rattle.formats.proofs.Steps.{Sized, sized-none, sized-more, sized-all, sized-few, below}
 use Rattle.formats.proofs.digits.size.Statement.{statement}
@@ -15,9 +14,6 @@ abbrev μ-loop : tie.MeasureT-loop
 
 loop-holds : tie.Need-loop-holds Inv-loop μ-loop
 loop-holds c = (omega arith, sized-none (c .args .digits))
-
-width-of-requires : tie.Need-width-of-requires Inv-loop μ-loop
-width-of-requires c κs = search needs
 
 add-n : tie.Need-add-n Inv-loop μ-loop
 add-n c =
@@ -40,4 +36,4 @@ returns c = let l = c .before .loop in sized-all (c .before .before .args .digit
 pub size-spec : {M : Type 1} → statement M
 size-spec =
     tie.close
-    (tie.spec Inv-loop μ-loop loop-holds width-of-requires add-n loop-less loop-again returns)
+    (tie.spec Inv-loop μ-loop loop-holds (λ c κs. tt) add-n loop-less loop-again returns)

@@ -2,7 +2,6 @@
 use mathlib.Core.Path.{sym, ap, _∙_}
 use mathlib.Core.Bool.{Bool}
 use Prim.Native.Nat.{ℕ}
-use borrow.Author.Needs.{needs}
 use Rattle.wire.specs.Value.{Format}
 use Rattle.formats.specs.Wide.{fitsIn}
 use Rattle.formats.specs.Digits.{formatBy}
@@ -12,12 +11,6 @@ use Rattle.formats.proofs.fits.fits.Tie as tie
 
 abbrev by : ℕ → ℕ → Bool
 by n d = fitsIn (formatBy d) n
-
-low-or-high-requires : tie.Need-low-or-high-requires
-low-or-high-requires c κs = search needs
-
-low-or-high-requires-2 : tie.Need-low-or-high-requires-2
-low-or-high-requires-2 c κs = search needs
 
 returns : tie.Need-returns
 returns c = sym (ap (by (c .before .args .n)) (c .match .keys1))
@@ -44,8 +37,8 @@ pub fits-spec : {M : Type 1} → statement M
 fits-spec =
     tie.close
     (tie.spec
-    low-or-high-requires
-    low-or-high-requires-2
+    (λ c κs. tt)
+    (λ c κs. tt)
     returns
     returns-2
     returns-3

@@ -2,7 +2,6 @@
 use mathlib.Core.Path.{_≡_, refl, sym, ap, _∙_}
 use Prim.Native.Nat.{_%_}
 use native.Mathlib.Omega.{arith}
-use borrow.Author.Needs.{needs}
 use Rattle.formats.specs.Wide.{fitsIn}
 use Rattle.formats.specs.Digits.{formatBy, formatsBy, runFits}
 use Rattle.formats.proofs.Steps.{Counted, counted-none, counted-more, counted-few, below}
@@ -18,12 +17,6 @@ abbrev μ-loop : tie.MeasureT-loop
 
 loop-holds : tie.Need-loop-holds Inv-loop μ-loop
 loop-holds c = (counted-none (c .before .args .digits), refl)
-
-number-of-requires : tie.Need-number-of-requires Inv-loop μ-loop
-number-of-requires c κs = search needs
-
-fits-requires : tie.Need-fits-requires Inv-loop μ-loop
-fits-requires c κs = search needs
 
 add-i : tie.Need-add-i Inv-loop μ-loop
 add-i c =
@@ -63,8 +56,8 @@ run-fits-spec =
     Inv-loop
     μ-loop
     loop-holds
-    number-of-requires
-    fits-requires
+    (λ c κs. tt)
+    (λ c κs. tt)
     add-i
     loop-less
     loop-again

@@ -9,9 +9,6 @@ use Rattle.formats.proofs.Extended.{extended}
 use Rattle.formats.proofs.read.extended_16.Statement.{statement}
 use Rattle.formats.proofs.read.extended_16.Tie as tie
 
-add-result : tie.Need-add-result
-add-result c = search needs
-
 returns : tie.Need-returns
 returns c = sym (ap (ofZ w64) (toZ-pos w16 (c .before .args .n) (c .if1 .taken)))
 
@@ -19,4 +16,4 @@ returns-2 : tie.Need-returns-2
 returns-2 c = extended w16 (c .before .args .n) (omega arith) (c .if1 .left) (c .before .fits .n .fits)
 
 pub extended-16-spec : {M : Type 1} → statement M
-extended-16-spec = tie.close (tie.spec add-result returns returns-2)
+extended-16-spec = tie.close (tie.spec (λ c. search needs) returns returns-2)

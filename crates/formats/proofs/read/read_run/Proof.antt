@@ -3,7 +3,6 @@ use mathlib.Core.Path.{_≡_, refl, sym, ap, _∙_}
 use mathlib.Core.List.{List}
 use Prim.Native.Nat.{ℕ, _%_}
 use native.Mathlib.Omega.{arith}
-use borrow.Author.Needs.{needs}
 use lib.ListN.{length}
 use lib.Seq.{sets, length-sets}
 use Rattle.wire.proofs.Stored.{bytes-sets, bytes-nowhere}
@@ -26,9 +25,6 @@ kept : (row₀ s : List ℕ) (digits : ℕ) (row : List ℕ) (rest i at : ℕ) �
 kept row₀ s digits row rest i at e =
     sym (length-sets row i (numbersAt (formatsBy rest) s at)) ∙ ap length e ∙ length-sets row₀ 0 (numbersAt (formatsBy digits) s 0)
 
-count-requires : tie.Need-count-requires Inv-loop μ-loop
-count-requires c κs = search needs
-
 returns : tie.Need-returns Inv-loop μ-loop
 returns c =
     let a = c .before .before .before .before .args in
@@ -37,9 +33,6 @@ returns c =
 
 loop-holds : tie.Need-loop-holds Inv-loop μ-loop
 loop-holds c = let a = c .before .before .before .before .args in (counted-none (a .digits), sized-none (a .digits), refl)
-
-number-at-requires : tie.Need-number-at-requires Inv-loop μ-loop
-number-at-requires c κs = search needs
 
 mul-row : tie.Need-mul-row Inv-loop μ-loop
 mul-row c =
@@ -52,9 +45,6 @@ slice-write-row c =
     let l = c .before .before .loop in
     let some = counted-some (s .args .digits) (l .rest) (l .i) (s .fits .digits .fits) (c .before .loop-test .taken) (l .inv .0) in
     omega (arith, kept (s .args .row .now) (s .args .s .now) (s .args .digits) (l .row) (l .rest) (l .i) (l .at) (l .inv .2), some, c .before .before .before .before .count .ensures, c .before .before .before .if1 .left)
-
-width-of-requires : tie.Need-width-of-requires Inv-loop μ-loop
-width-of-requires c κs = search needs
 
 add-at : tie.Need-add-at Inv-loop μ-loop
 add-at c =
@@ -101,13 +91,13 @@ read-run-spec =
     (tie.spec
     Inv-loop
     μ-loop
-    count-requires
+    (λ c κs. tt)
     returns
     loop-holds
-    number-at-requires
+    (λ c κs. tt)
     mul-row
     slice-write-row
-    width-of-requires
+    (λ c κs. tt)
     add-at
     add-i
     loop-less

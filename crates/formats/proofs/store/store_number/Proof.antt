@@ -15,39 +15,12 @@ use Rattle.formats.proofs.store.store_number.Tie as tie
 abbrev by : ℕ → List ℕ → ℕ → ℕ → List ℕ
 by n buf at d = storedAt (width (formatBy d)) n buf at
 
-cast-store-u8 : tie.Need-cast-store-u8
-cast-store-u8 c = search needs
-
-store-u8-requires : tie.Need-store-u8-requires
-store-u8-requires c κs = search needs
-
-cast-store-u16 : tie.Need-cast-store-u16
-cast-store-u16 c = search needs
-
-store-u16-requires : tie.Need-store-u16-requires
-store-u16-requires c κs = search needs
-
-cast-store-u32 : tie.Need-cast-store-u32
-cast-store-u32 c = search needs
-
-store-u32-requires : tie.Need-store-u32-requires
-store-u32-requires c κs = search needs
-
-store-u64-requires : tie.Need-store-u64-requires
-store-u64-requires c κs = search needs
-
-same-length : tie.Need-same-length
-same-length c = search needs
-
 returns : tie.Need-returns
 returns c =
     let a = c .before .before .before .before .before .before .args in
     c .before .before .store-u8 .ensures
     ∙ cut 1 (a .n) (a .buf .now) (a .at)
     ∙ sym (ap (by (a .n) (a .buf .now) (a .at)) (c .before .before .before .before .match .keys1))
-
-same-length-2 : tie.Need-same-length-2
-same-length-2 c = search needs
 
 returns-2 : tie.Need-returns-2
 returns-2 c =
@@ -56,18 +29,12 @@ returns-2 c =
     ∙ cut 2 (a .n) (a .buf .now) (a .at)
     ∙ sym (either (by (a .n) (a .buf .now) (a .at)) 2 10 refl refl (c .before .before .before .before .match .keys2))
 
-same-length-3 : tie.Need-same-length-3
-same-length-3 c = search needs
-
 returns-3 : tie.Need-returns-3
 returns-3 c =
     let a = c .before .before .before .before .before .before .args in
     c .before .before .store-u32 .ensures
     ∙ cut 4 (a .n) (a .buf .now) (a .at)
     ∙ sym (either (by (a .n) (a .buf .now) (a .at)) 4 12 refl refl (c .before .before .before .before .match .keys3))
-
-same-length-4 : tie.Need-same-length-4
-same-length-4 c = search needs
 
 returns-4 : tie.Need-returns-4
 returns-4 c =
@@ -80,18 +47,18 @@ pub store-number-spec : {M : Type 1} → statement M
 store-number-spec =
     tie.close
     (tie.spec
-    cast-store-u8
-    store-u8-requires
-    cast-store-u16
-    store-u16-requires
-    cast-store-u32
-    store-u32-requires
-    store-u64-requires
-    same-length
+    (λ c. search needs)
+    (λ c κs. tt)
+    (λ c. search needs)
+    (λ c κs. tt)
+    (λ c. search needs)
+    (λ c κs. tt)
+    (λ c κs. tt)
+    (λ c. search needs)
     returns
-    same-length-2
+    (λ c. search needs)
     returns-2
-    same-length-3
+    (λ c. search needs)
     returns-3
-    same-length-4
+    (λ c. search needs)
     returns-4)

@@ -2,7 +2,6 @@
 use mathlib.Core.Path.{_≡_, refl, sym, ap, _∙_}
 use Prim.Native.Nat.{_%_}
 use native.Mathlib.Omega.{arith}
-use borrow.Author.Needs.{needs}
 use lib.ListN.{length}
 use Rattle.formats.specs.Digits.{formatsBy, runStored}
 use Rattle.formats.proofs.Formats.{at-most-eight}
@@ -20,15 +19,6 @@ abbrev μ-loop : tie.MeasureT-loop
 
 loop-holds : tie.Need-loop-holds Inv-loop μ-loop
 loop-holds c = let a = c .before .before .args in (counted-none (a .digits), sized-none (a .digits), refl)
-
-number-of-requires : tie.Need-number-of-requires Inv-loop μ-loop
-number-of-requires c κs = search needs
-
-store-number-requires : tie.Need-store-number-requires Inv-loop μ-loop
-store-number-requires c κs = search needs
-
-width-of-requires : tie.Need-width-of-requires Inv-loop μ-loop
-width-of-requires c κs = search needs
 
 add-at : tie.Need-add-at Inv-loop μ-loop
 add-at c =
@@ -77,9 +67,9 @@ store-run-spec =
     Inv-loop
     μ-loop
     loop-holds
-    number-of-requires
-    store-number-requires
-    width-of-requires
+    (λ c κs. tt)
+    (λ c κs. tt)
+    (λ c κs. tt)
     add-at
     add-i
     loop-less

@@ -4,21 +4,6 @@ use Rattle.layouts.proofs.Fields.{then}
 use Rattle.frame_rows.proofs.counting.put_counts.Statement.{statement}
 use Rattle.frame_rows.proofs.counting.put_counts.Tie as tie
 
-store-u64-requires : tie.Need-store-u64-requires
-store-u64-requires c κs = search needs
-
-store-u64-requires-2 : tie.Need-store-u64-requires-2
-store-u64-requires-2 c κs = search needs
-
-store-u64-requires-3 : tie.Need-store-u64-requires-3
-store-u64-requires-3 c κs = search needs
-
-store-u64-requires-4 : tie.Need-store-u64-requires-4
-store-u64-requires-4 c κs = search needs
-
-same-length : tie.Need-same-length
-same-length c = search needs
-
 returns : tie.Need-returns
 returns c =
     let k4 = c .before .before in
@@ -31,9 +16,9 @@ pub put-counts-spec : {M : Type 1} → statement M
 put-counts-spec =
     tie.close
     (tie.spec
-    store-u64-requires
-    store-u64-requires-2
-    store-u64-requires-3
-    store-u64-requires-4
-    same-length
+    (λ c κs. tt)
+    (λ c κs. tt)
+    (λ c κs. tt)
+    (λ c κs. tt)
+    (λ c. search needs)
     returns)

@@ -10,15 +10,6 @@ returns : tie.Need-returns
 unfolding totalsFor
 returns c = row-32 totalsFields (λ x. 0) totalsRow _ (c .before .before .before .args .counts .now) (c .if1 .taken)
 
-totals-requires : tie.Need-totals-requires
-totals-requires c κs = search needs
-
-put-counts-requires : tie.Need-put-counts-requires
-put-counts-requires c κs = search needs
-
-same-length : tie.Need-same-length
-same-length c = search needs
-
 returns-2 : tie.Need-returns-2
 unfolding totalsFor
 returns-2 c =
@@ -27,4 +18,4 @@ returns-2 c =
 
 pub totals-row-spec : {M : Type 1} → statement M
 totals-row-spec =
-    tie.close (tie.spec returns totals-requires put-counts-requires same-length returns-2)
+    tie.close (tie.spec returns (λ c κs. tt) (λ c κs. tt) (λ c. search needs) returns-2)

@@ -10,21 +10,6 @@ returns : tie.Need-returns
 unfolding nextFrom
 returns c = row-32 foundFields numberIn (λ x. foundValues (foundIn x)) _ (c .before .before .before .args .found .now) (c .if1 .taken)
 
-next-requires : tie.Need-next-requires
-next-requires c κs = search needs
-
-found-in-requires : tie.Need-found-in-requires
-found-in-requires c κs = search needs
-
-put-found-requires : tie.Need-put-found-requires
-put-found-requires c κs = search needs
-
-number-in-requires : tie.Need-number-in-requires
-number-in-requires c κs = search needs
-
-same-length : tie.Need-same-length
-same-length c = search needs
-
 returns-2 : tie.Need-returns-2
 unfolding nextFrom
 returns-2 c =
@@ -38,9 +23,9 @@ next-row-spec =
     tie.close
     (tie.spec
     returns
-    next-requires
-    found-in-requires
-    put-found-requires
-    number-in-requires
-    same-length
+    (λ c κs. tt)
+    (λ c κs. tt)
+    (λ c κs. tt)
+    (λ c κs. tt)
+    (λ c. search needs)
     returns-2)

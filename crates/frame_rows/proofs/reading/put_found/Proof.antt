@@ -4,36 +4,6 @@ use borrow.Author.Needs.{needs}
 use Rattle.frame_rows.proofs.reading.put_found.Statement.{statement}
 use Rattle.frame_rows.proofs.reading.put_found.Tie as tie
 
-store-u64-requires : tie.Need-store-u64-requires
-store-u64-requires c κs = search needs
-
-store-u64-requires-2 : tie.Need-store-u64-requires-2
-store-u64-requires-2 c κs = search needs
-
-store-u64-requires-3 : tie.Need-store-u64-requires-3
-store-u64-requires-3 c κs = search needs
-
-store-u64-requires-4 : tie.Need-store-u64-requires-4
-store-u64-requires-4 c κs = search needs
-
-store-u64-requires-5 : tie.Need-store-u64-requires-5
-store-u64-requires-5 c κs = search needs
-
-store-u64-requires-6 : tie.Need-store-u64-requires-6
-store-u64-requires-6 c κs = search needs
-
-store-u16-requires : tie.Need-store-u16-requires
-store-u16-requires c κs = search needs
-
-store-u16-requires-2 : tie.Need-store-u16-requires-2
-store-u16-requires-2 c κs = search needs
-
-store-u8-requires : tie.Need-store-u8-requires
-store-u8-requires c κs = search needs
-
-same-length : tie.Need-same-length
-same-length c = search needs
-
 returns : tie.Need-returns
 returns c =
     let k9 = c .before .before in
@@ -51,14 +21,14 @@ pub put-found-spec : {M : Type 1} → statement M
 put-found-spec =
     tie.close
     (tie.spec
-    store-u64-requires
-    store-u64-requires-2
-    store-u64-requires-3
-    store-u64-requires-4
-    store-u64-requires-5
-    store-u64-requires-6
-    store-u16-requires
-    store-u16-requires-2
-    store-u8-requires
-    same-length
+    (λ c κs. tt)
+    (λ c κs. tt)
+    (λ c κs. tt)
+    (λ c κs. tt)
+    (λ c κs. tt)
+    (λ c κs. tt)
+    (λ c κs. tt)
+    (λ c κs. tt)
+    (λ c κs. tt)
+    (λ c. search needs)
     returns)

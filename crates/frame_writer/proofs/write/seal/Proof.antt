@@ -10,49 +10,19 @@ use Rattle.frame_writer.proofs.Written.{seals, sealed-unfit}
 use Rattle.frame_writer.proofs.write.seal.Statement.{statement}
 use Rattle.frame_writer.proofs.write.seal.Tie as tie
 
-plan-requires : tie.Need-plan-requires
-plan-requires c κs = search needs
-
-enum-told : tie.Need-enum-told
-enum-told c = search needs
-
 room : (c : tie.After-enum-told) → (c .before .before .before .before .args .n ≤ 255) × (c .before .before .before .before .args .n + 8 ≤ length (c .before .before .before .before .args .buf .now))
 room c =
     let a = c .before .before .before .before .args in
     fits (a .n) (length (a .buf .now)) (known (c .before .before .plan .ensures) (c .enum-told .given .1))
 
-sender-number-requires : tie.Need-sender-number-requires
-sender-number-requires c κs = search needs
-
 cast-put-head : tie.Need-cast-put-head
 cast-put-head c = omega (arith, room (c .before .before))
-
-put-head-requires : tie.Need-put-head-requires
-put-head-requires c κs = search needs
 
 add-end : tie.Need-add-end
 add-end c = omega (arith, room (c .before .before .before .before .before))
 
-sub-crc : tie.Need-sub-crc
-sub-crc c = search needs
-
-part-crc-start : tie.Need-part-crc-start
-part-crc-start c = search needs
-
 part-crc-end : tie.Need-part-crc-end
 part-crc-end c = omega (arith, room (c .before .before .before .before .before .before), c .before .before .before .put-head .kept)
-
-crc-requires : tie.Need-crc-requires
-crc-requires c κs = search needs
-
-store-u16-requires : tie.Need-store-u16-requires
-store-u16-requires c κs = search needs
-
-enum-told-2 : tie.Need-enum-told-2
-enum-told-2 c = search needs
-
-same-length : tie.Need-same-length
-same-length c = search needs
 
 returns : tie.Need-returns
 returns c =
@@ -74,18 +44,18 @@ pub seal-spec : {M : Type 1} → statement M
 seal-spec =
     tie.close
     (tie.spec
-    plan-requires
-    enum-told
-    sender-number-requires
+    (λ c κs. tt)
+    (λ c. search needs)
+    (λ c κs. tt)
     cast-put-head
-    put-head-requires
+    (λ c κs. tt)
     add-end
-    sub-crc
-    part-crc-start
+    (λ c. search needs)
+    (λ c. search needs)
     part-crc-end
-    crc-requires
-    store-u16-requires
-    enum-told-2
-    same-length
+    (λ c κs. tt)
+    (λ c κs. tt)
+    (λ c. search needs)
+    (λ c. search needs)
     returns
     returns-2)

@@ -8,24 +8,6 @@ use Rattle.frame_writer.proofs.Written.{writes-body, framed-unfit}
 use Rattle.frame_writer.proofs.write.write_frame.Statement.{statement}
 use Rattle.frame_writer.proofs.write.write_frame.Tie as tie
 
-plan-requires : tie.Need-plan-requires
-plan-requires c κs = search needs
-
-enum-told : tie.Need-enum-told
-enum-told c = search needs
-
-store-bytes-requires : tie.Need-store-bytes-requires
-store-bytes-requires c κs = search needs
-
-seal-requires : tie.Need-seal-requires
-seal-requires c κs = search needs
-
-enum-told-2 : tie.Need-enum-told-2
-enum-told-2 c = search needs
-
-same-length : tie.Need-same-length
-same-length c = search needs
-
 returns : tie.Need-returns
 returns c =
     let a = c .before .before .before .before .before .before .before .before .before .before .before .before .before .args in
@@ -40,4 +22,4 @@ returns-2 c =
     (plan, sym (framed-unfit (a .kind) (senderOf (a .sender)) (a .payload .now) (a .buf .now) (known plan (c .enum-told2 .given .1))))
 
 pub write-frame-spec : {M : Type 1} → statement M
-write-frame-spec = tie.close (tie.spec plan-requires enum-told store-bytes-requires seal-requires enum-told-2 same-length returns returns-2)
+write-frame-spec = tie.close (tie.spec (λ c κs. tt) (λ c. search needs) (λ c κs. tt) (λ c κs. tt) (λ c. search needs) (λ c. search needs) returns returns-2)

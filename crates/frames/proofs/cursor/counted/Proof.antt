@@ -3,42 +3,6 @@ use borrow.Author.Needs.{needs}
 use Rattle.frames.proofs.cursor.counted.Statement.{statement}
 use Rattle.frames.proofs.cursor.counted.Tie as tie
 
-enum-told : tie.Need-enum-told
-enum-told c = search needs
-
-tally-requires : tie.Need-tally-requires
-tally-requires c κs = search needs
-
-enum-told-2 : tie.Need-enum-told-2
-enum-told-2 c = search needs
-
-tally-requires-2 : tie.Need-tally-requires-2
-tally-requires-2 c κs = search needs
-
-enum-told-3 : tie.Need-enum-told-3
-enum-told-3 c = search needs
-
-tally-requires-3 : tie.Need-tally-requires-3
-tally-requires-3 c κs = search needs
-
-enum-told-4 : tie.Need-enum-told-4
-enum-told-4 c = search needs
-
-tally-requires-4 : tie.Need-tally-requires-4
-tally-requires-4 c κs = search needs
-
-enum-known-step : tie.Need-enum-known-step
-enum-known-step c = search needs
-
-cast-tally : tie.Need-cast-tally
-cast-tally c = search needs
-
-add-tally : tie.Need-add-tally
-add-tally c = search needs
-
-tally-requires-5 : tie.Need-tally-requires-5
-tally-requires-5 c κs = search needs
-
 returns : tie.Need-returns
 returns c = rw (c .before .enum-told .given .1) (c .tally .ensures)
 
@@ -58,18 +22,18 @@ pub counted-spec : {M : Type 1} → statement M
 counted-spec =
     tie.close
     (tie.spec
-    enum-told
-    tally-requires
-    enum-told-2
-    tally-requires-2
-    enum-told-3
-    tally-requires-3
-    enum-told-4
-    tally-requires-4
-    enum-known-step
-    cast-tally
-    add-tally
-    tally-requires-5
+    (λ c. search needs)
+    (λ c κs. tt)
+    (λ c. search needs)
+    (λ c κs. tt)
+    (λ c. search needs)
+    (λ c κs. tt)
+    (λ c. search needs)
+    (λ c κs. tt)
+    (λ c. search needs)
+    (λ c. search needs)
+    (λ c. search needs)
+    (λ c κs. tt)
     returns
     returns-2
     returns-3

@@ -4,7 +4,6 @@ use mathlib.Core.Path.{sym, _∙_, subst⁻¹}
 use mathlib.Core.Bool.{false}
 use Prim.Native.Nat.{_-_}
 use native.Mathlib.Omega.{arith}
-use borrow.Author.Needs.{needs}
 use lib.ListN.{length}
 use Rattle.frames.specs.Cursors.{Honest}
 use Rattle.frames.proofs.GoingOn.{comes-further, honest-begun, honest-past, honest-given}
@@ -18,12 +17,6 @@ Inv-loop s table c₀ c = Honest false s c
 abbrev μ-loop : tie.MeasureT-loop
 μ-loop s table c₀ c = length s - c .at
 
-entries-requires : tie.Need-entries-requires Inv-loop μ-loop
-entries-requires c κs = search needs
-
-closed-requires : tie.Need-closed-requires Inv-loop μ-loop
-closed-requires c κs = search needs
-
 loop-holds : tie.Need-loop-holds Inv-loop μ-loop
 loop-holds c =
     let start = c .before .before .before in
@@ -32,26 +25,11 @@ loop-holds c =
 step-by-requires : tie.Need-step-by-requires Inv-loop μ-loop
 step-by-requires c κs = c .before .before .before .entries .ensures
 
-finished-requires : tie.Need-finished-requires Inv-loop μ-loop
-finished-requires c κs = search needs
-
-counts-requires : tie.Need-counts-requires Inv-loop μ-loop
-counts-requires c κs = search needs
-
 returns : tie.Need-returns Inv-loop μ-loop
 returns c =
     let start = c .before .before .before .before .before .before .before .before .before in
     let k = c .before .before .before .before .before .loop in
     honest-given (start .args .s .now) (start .good .0 .0) false (k .c) (k .inv) (c .before .before .before .step-by .ensures) (c .counts .ensures) (sym (c .before .before .finished .ensures) ∙ c .before .if1 .taken)
-
-passes-requires : tie.Need-passes-requires Inv-loop μ-loop
-passes-requires c κs = search needs
-
-over-requires : tie.Need-over-requires Inv-loop μ-loop
-over-requires c κs = search needs
-
-past-junk-requires : tie.Need-past-junk-requires Inv-loop μ-loop
-past-junk-requires c κs = search needs
 
 loop-less : tie.Need-loop-less Inv-loop μ-loop
 loop-less c =
@@ -70,9 +48,6 @@ loop-again c =
     let k = x .before .before .loop in
     past-junk-honest (start .args .s .now) (start .good .0 .0) (c .before .over .result) (c .past-junk .ensures) false
     (honest-past (start .args .s .now) (start .good .0 .0) false (k .c) (k .inv) (x .step-by .ensures) (c .before .over .ensures) (sym (c .before .before .before .before .before .finished .ensures) ∙ c .before .before .before .before .if1 .left))
-
-over-requires-2 : tie.Need-over-requires-2 Inv-loop μ-loop
-over-requires-2 c κs = search needs
 
 loop-less-2 : tie.Need-loop-less-2 Inv-loop μ-loop
 loop-less-2 c =
@@ -93,18 +68,18 @@ totals-spec =
     (tie.spec
     Inv-loop
     μ-loop
-    entries-requires
-    closed-requires
+    (λ c κs. tt)
+    (λ c κs. tt)
     loop-holds
     step-by-requires
-    finished-requires
-    counts-requires
+    (λ c κs. tt)
+    (λ c κs. tt)
     returns
-    passes-requires
-    over-requires
-    past-junk-requires
+    (λ c κs. tt)
+    (λ c κs. tt)
+    (λ c κs. tt)
     loop-less
     loop-again
-    over-requires-2
+    (λ c κs. tt)
     loop-less-2
     loop-again-2)

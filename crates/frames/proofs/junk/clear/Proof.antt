@@ -21,15 +21,6 @@ abbrev μ-loop : tie.MeasureT-loop
 loop-holds : tie.Need-loop-holds Inv-loop μ-loop
 loop-holds c = (omega arith, hit-none (drop (c .before .args .from) (c .before .args .s .now)))
 
-add-marked : tie.Need-add-marked Inv-loop μ-loop
-add-marked c = search needs
-
-shared-slice-read-marked : tie.Need-shared-slice-read-marked Inv-loop μ-loop
-shared-slice-read-marked c = search needs
-
-marked-requires : tie.Need-marked-requires Inv-loop μ-loop
-marked-requires c κs = search needs
-
 add-i : tie.Need-add-i Inv-loop μ-loop
 add-i c = omega arith
 
@@ -60,9 +51,9 @@ clear-spec =
     Inv-loop
     μ-loop
     loop-holds
-    add-marked
-    shared-slice-read-marked
-    marked-requires
+    (λ c. search needs)
+    (λ c. search needs)
+    (λ c κs. tt)
     add-i
     loop-less
     loop-again

@@ -31,9 +31,6 @@ returns c =
     let at = c .before .before .before .loop in
     reaches-mark (a .s .now) (a .at) (at .to) (at .inv) (c .before .before .loop-test .taken) (c .if1 .taken)
 
-add-to : tie.Need-add-to Inv-loop μ-loop
-add-to c = search needs
-
 loop-less : tie.Need-loop-less Inv-loop μ-loop
 loop-less c = omega arith
 
@@ -62,7 +59,7 @@ junk-run-spec =
     shared-slice-read-if1
     sub-result
     returns
-    add-to
+    (λ c. search needs)
     loop-less
     loop-again
     sub-result-2

@@ -25,9 +25,6 @@ sub-loop c = c .loop .inv .1
 clear-requires : tie.Need-clear-requires Inv-loop μ-loop
 clear-requires c κs = omega (arith, c .before .loop .inv .1)
 
-add-to : tie.Need-add-to Inv-loop μ-loop
-add-to c = search needs
-
 loop-less : tie.Need-loop-less Inv-loop μ-loop
 loop-less c = omega arith
 
@@ -52,7 +49,7 @@ past-blocks-spec =
     loop-holds
     sub-loop
     clear-requires
-    add-to
+    (λ c. search needs)
     loop-less
     loop-again
     returns

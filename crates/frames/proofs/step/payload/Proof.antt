@@ -6,24 +6,6 @@ use Rattle.frames.proofs.Frames.{part}
 use Rattle.frames.proofs.step.payload.Statement.{statement}
 use Rattle.frames.proofs.step.payload.Tie as tie
 
-cast-n : tie.Need-cast-n
-cast-n c = search needs
-
-onward-requires : tie.Need-onward-requires
-onward-requires c κs = search needs
-
-onward-requires-2 : tie.Need-onward-requires-2
-onward-requires-2 c κs = search needs
-
-sub-result : tie.Need-sub-result
-sub-result c = search needs
-
-part-result-start : tie.Need-part-result-start
-part-result-start c = search needs
-
-part-result-end : tie.Need-part-result-end
-part-result-end c = search needs
-
 returns : tie.Need-returns
 unfolding payloadIn
 returns c =
@@ -34,10 +16,10 @@ pub payload-spec : {M : Type 1} → statement M
 payload-spec =
     tie.close
     (tie.spec
-    cast-n
-    onward-requires
-    onward-requires-2
-    sub-result
-    part-result-start
-    part-result-end
+    (λ c. search needs)
+    (λ c κs. tt)
+    (λ c κs. tt)
+    (λ c. search needs)
+    (λ c. search needs)
+    (λ c. search needs)
     returns)

@@ -15,27 +15,15 @@ returns c =
     let a = c .before .before .args in
     only (a .s .now) (a .at) (finished (c .if1 .taken))
 
-shared-slice-read-if2 : tie.Need-shared-slice-read-if2
-shared-slice-read-if2 c = search needs
-
 returns-2 : tie.Need-returns-2
 returns-2 c =
     let a = c .before .before .before .before .args in
     only (a .s .now) (a .at) (junk (c .before .before .if1 .left) (c .if2 .taken))
 
-sub-left : tie.Need-sub-left
-sub-left c = search needs
-
 returns-3 : tie.Need-returns-3
 returns-3 c =
     let a = c .before .before .before .before .before .args in
     only (a .s .now) (a .at) (headless (c .before .before .before .if1 .left) (c .before .if2 .left) (c .if3 .taken))
-
-add-length : tie.Need-add-length
-add-length c = search needs
-
-shared-slice-read-length : tie.Need-shared-slice-read-length
-shared-slice-read-length c = search needs
 
 cast-n : tie.Need-cast-n
 cast-n c = omega (arith, c .shared-slice-known3 .given (c .before .before .before .before .before .before .args .at + 5))
@@ -51,30 +39,6 @@ returns-4 c =
     let a = c .before .before .before .before .before .before .before .args in
     only (a .s .now) (a .at) (cut (c .before .before .before .if2 .left) (c .before .before .if3 .left) (omega arith))
 
-add-first : tie.Need-add-first
-add-first c = search needs
-
-add-end : tie.Need-add-end
-add-end c = search needs
-
-add-end-2 : tie.Need-add-end-2
-add-end-2 c = search needs
-
-sub-crc-by : tie.Need-sub-crc-by
-sub-crc-by c = search needs
-
-part-crc-by-start : tie.Need-part-crc-by-start
-part-crc-by-start c = search needs
-
-part-crc-by-end : tie.Need-part-crc-by-end
-part-crc-by-end c = search needs
-
-crc-by-requires : tie.Need-crc-by-requires
-crc-by-requires c κs = search needs
-
-read-u16-requires : tie.Need-read-u16-requires
-read-u16-requires c κs = search needs
-
 returns-5 : tie.Need-returns-5
 returns-5 c =
     let a = c .before .before .before .before .before .before .before .before .before .before .before .args in
@@ -82,15 +46,6 @@ returns-5 c =
     let bytes : Bytes (a .s .now) = λ i. c .before .before .before .before .before .before .before .before .before .before .shared-slice-known .given i .fits in
     let same = summed (a .s .now) (a .at) (a .table .now) (start .pre) bytes (c .before .before .crc-by .ensures) in
     only (a .s .now) (a .at) (bad (c .before .before .before .before .before .before .before .if2 .left) (omega (arith, c .before .before .before .before .if4 .left)) (λ e. c .if5 .taken (same ∙ e ∙ sym (c .before .read-u16 .ensures))))
-
-read-u16-requires-2 : tie.Need-read-u16-requires-2
-read-u16-requires-2 c κs = search needs
-
-add-read-u16 : tie.Need-add-read-u16
-add-read-u16 c = search needs
-
-read-u16-requires-3 : tie.Need-read-u16-requires-3
-read-u16-requires-3 c κs = search needs
 
 returns-6 : tie.Need-returns-6
 returns-6 c =
@@ -106,26 +61,26 @@ step-by-spec =
     tie.close
     (tie.spec
     returns
-    shared-slice-read-if2
+    (λ c. search needs)
     returns-2
-    sub-left
+    (λ c. search needs)
     returns-3
-    add-length
-    shared-slice-read-length
+    (λ c. search needs)
+    (λ c. search needs)
     cast-n
     add-if4
     add-t14
     returns-4
-    add-first
-    add-end
-    add-end-2
-    sub-crc-by
-    part-crc-by-start
-    part-crc-by-end
-    crc-by-requires
-    read-u16-requires
+    (λ c. search needs)
+    (λ c. search needs)
+    (λ c. search needs)
+    (λ c. search needs)
+    (λ c. search needs)
+    (λ c. search needs)
+    (λ c κs. tt)
+    (λ c κs. tt)
     returns-5
-    read-u16-requires-2
-    add-read-u16
-    read-u16-requires-3
+    (λ c κs. tt)
+    (λ c. search needs)
+    (λ c κs. tt)
     returns-6)

@@ -11,20 +11,11 @@ use borrow.Author.Needs.{needs}
 use Rattle.listing.proofs.listing.fits.Statement.{statement}
 use Rattle.listing.proofs.listing.fits.Tie as tie
 
-mul-if1 : tie.Need-mul-if1
-mul-if1 c = search needs
-
-add-if1 : tie.Need-add-if1
-add-if1 c = search needs
-
 returns : tie.Need-returns
 returns c =
     let a = c .before .before .args in
     let most = text-size (a .s .now) (λ i. c .before .shared-slice-known .given i .fits) (c .before .before .pre) in
     sym (le-leb (length (textOf (a .s .now))) (a .room) (omega (arith, most, c .if1 .taken)))
-
-slice-aggregate-put-text : tie.Need-slice-aggregate-put-text
-slice-aggregate-put-text c = search needs
 
 put-text-requires : tie.Need-put-text-requires
 put-text-requires c κs =
@@ -37,4 +28,4 @@ returns-2 c = ap (λ (n : ℕ). leb n (c .before .before .before .before .before
 pub fits-spec : {M : Type 1} → statement M
 fits-spec =
     tie.close
-    (tie.spec mul-if1 add-if1 returns slice-aggregate-put-text put-text-requires returns-2)
+    (tie.spec (λ c. search needs) (λ c. search needs) returns (λ c. search needs) put-text-requires returns-2)

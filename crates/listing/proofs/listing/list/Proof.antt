@@ -10,17 +10,11 @@ use Rattle.listing.proofs.listing.list.Tie as tie
 returns : tie.Need-returns
 returns c = let a = c .before .before .before .args in too-long (a .s .now) (a .buf .now) (c .if1 .taken)
 
-fits-requires : tie.Need-fits-requires
-fits-requires c κs = search needs
-
 put-text-requires : tie.Need-put-text-requires
 put-text-requires c κs =
     let s = c .before .before .before .before .before .before .args .s .now in
     let short = c .before .before .before .if1 .left in
     omega (arith, text-size s (λ i. c .before .before .before .before .before .shared-slice-known .given i .fits) short, short)
-
-same-length : tie.Need-same-length
-same-length c = search needs
 
 returns-2 : tie.Need-returns-2
 returns-2 c =
@@ -36,4 +30,4 @@ returns-3 c =
 pub list-spec : {M : Type 1} → statement M
 list-spec =
     tie.close
-    (tie.spec returns fits-requires put-text-requires same-length returns-2 returns-3)
+    (tie.spec returns (λ c κs. search needs) put-text-requires (λ c. search needs) returns-2 returns-3)

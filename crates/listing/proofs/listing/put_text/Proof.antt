@@ -17,43 +17,10 @@ Inv-loop s buf₀ at₀ collator₀ cursor₀ buf at collator cursor = Walking s
 abbrev μ-loop : tie.MeasureT-loop
 μ-loop s buf₀ at₀ collator₀ cursor₀ buf at collator cursor = length (left s cursor)
 
-slice-aggregate-made : tie.Need-slice-aggregate-made Inv-loop μ-loop
-slice-aggregate-made c = search needs
-
-made-requires : tie.Need-made-requires Inv-loop μ-loop
-made-requires c κs = search needs
-
-closed-requires : tie.Need-closed-requires Inv-loop μ-loop
-closed-requires c κs = search needs
-
 loop-holds : tie.Need-loop-holds Inv-loop μ-loop
 loop-holds c =
     let a = c .before .before .before .before .before .before in
     putting-begun (a .args .s .now) (a .args .buf .now) (a .good .0 .0) (a .pre) (ap (λ (m : Made). m .collator) (c .before .before .made .ensures)) (c .closed .ensures)
-
-next-requires : tie.Need-next-requires Inv-loop μ-loop
-next-requires c κs = search needs
-
-enum-known-next : tie.Need-enum-known-next Inv-loop μ-loop
-enum-known-next c = search needs
-
-payload-requires : tie.Need-payload-requires Inv-loop μ-loop
-payload-requires c κs = search needs
-
-answer-requires : tie.Need-answer-requires Inv-loop μ-loop
-answer-requires c κs = search needs
-
-put-frame-requires : tie.Need-put-frame-requires Inv-loop μ-loop
-put-frame-requires c κs = search needs
-
-enlist-requires : tie.Need-enlist-requires Inv-loop μ-loop
-enlist-requires c κs = search needs
-
-feed-requires : tie.Need-feed-requires Inv-loop μ-loop
-feed-requires c κs = search needs
-
-put-epoch-requires : tie.Need-put-epoch-requires Inv-loop μ-loop
-put-epoch-requires c κs = search needs
 
 loop-less : tie.Need-loop-less Inv-loop μ-loop
 loop-less c =
@@ -74,15 +41,6 @@ loop-again c =
     let said = c .before .before .before .put-epoch .ensures in
     putting-on (a .args .s .now) (a .args .buf .now) (a .good .0 .0) (a .pre) (at .before .loop .inv) (sym (at .next .ensures) ∙ frame .1) payload answer (put .0) (put .1) seated fed (said .0) (said .1)
 
-enum-known-next-2 : tie.Need-enum-known-next-2 Inv-loop μ-loop
-enum-known-next-2 c = search needs
-
-counts-requires : tie.Need-counts-requires Inv-loop μ-loop
-counts-requires c κs = search needs
-
-put-totals-requires : tie.Need-put-totals-requires Inv-loop μ-loop
-put-totals-requires c κs = search needs
-
 same-length : tie.Need-same-length Inv-loop μ-loop
 same-length c =
     let a = c .before .before .before .before .before .before .before .before .before .before .before .before .before .before .before .before .args in
@@ -93,9 +51,6 @@ returns c =
     let at = c .before .before .before .before .before .before .before .before in
     let a = at .before .before .before .before .before .before .before .before in
     putting-end (a .args .s .now) (a .args .buf .now) (a .good .0 .0) (a .pre) (at .before .loop .inv) (sym (at .next .ensures) ∙ c .before .before .before .before .before .before .next3 .given .1) (c .before .before .before .counts .ensures) (c .before .before .put-totals .ensures .0) (c .before .before .put-totals .ensures .1)
-
-enum-told : tie.Need-enum-told Inv-loop μ-loop
-enum-told c = search needs
 
 same-length-2 : tie.Need-same-length-2 Inv-loop μ-loop
 same-length-2 c =
@@ -114,25 +69,25 @@ put-text-spec =
     (tie.spec
     Inv-loop
     μ-loop
-    slice-aggregate-made
-    made-requires
-    closed-requires
+    (λ c. search needs)
+    (λ c κs. tt)
+    (λ c κs. tt)
     loop-holds
-    next-requires
-    enum-known-next
-    payload-requires
-    answer-requires
-    put-frame-requires
-    enlist-requires
-    feed-requires
-    put-epoch-requires
+    (λ c κs. tt)
+    (λ c. search needs)
+    (λ c κs. tt)
+    (λ c κs. tt)
+    (λ c κs. tt)
+    (λ c κs. tt)
+    (λ c κs. tt)
+    (λ c κs. tt)
     loop-less
     loop-again
-    enum-known-next-2
-    counts-requires
-    put-totals-requires
+    (λ c. search needs)
+    (λ c κs. tt)
+    (λ c κs. tt)
     same-length
     returns
-    enum-told
+    (λ c. search needs)
     same-length-2
     returns-2)

@@ -8,17 +8,8 @@ use Rattle.logs.proofs.log.after_level.Tie as tie
 returns : tie.Need-returns
 returns c = level-none (c .before .args .s .now) (c .if1 .taken)
 
-sub-result : tie.Need-sub-result
-sub-result c = search needs
-
-part-result-start : tie.Need-part-result-start
-part-result-start c = search needs
-
-part-result-end : tie.Need-part-result-end
-part-result-end c = search needs
-
 returns-2 : tie.Need-returns-2
 returns-2 c = lent-all 1 (c .before .before .args .s .now)
 
 pub after-level-spec : {M : Type 1} → statement M
-after-level-spec = tie.close (tie.spec returns sub-result part-result-start part-result-end returns-2)
+after-level-spec = tie.close (tie.spec returns (λ c. search needs) (λ c. search needs) (λ c. search needs) returns-2)

@@ -1,18 +1,8 @@
 -- `logs::log::read_log` meets its contract.
 use mathlib.Core.Path.{sym, _∙_}
-use borrow.Author.Needs.{needs}
 use Rattle.logs.proofs.Logs.{log-22, log-23, log-given}
 use Rattle.logs.proofs.log.read_log.Statement.{statement}
 use Rattle.logs.proofs.log.read_log.Tie as tie
-
-is-log-length-requires : tie.Need-is-log-length-requires
-is-log-length-requires c κs = search needs
-
-log-padded-requires : tie.Need-log-padded-requires
-log-padded-requires c κs = search needs
-
-take-log-requires : tie.Need-take-log-requires
-take-log-requires c κs = search needs
 
 returns : tie.Need-returns
 returns c =
@@ -30,4 +20,4 @@ returns-3 : tie.Need-returns-3
 returns-3 c = let l = c .before in log-22 (l .before .before .args .s .now) (sym (l .is-log-length .ensures) ∙ c .if1 .left)
 
 pub read-log-spec : {M : Type 1} → statement M
-read-log-spec = tie.close (tie.spec is-log-length-requires log-padded-requires take-log-requires returns returns-2 returns-3)
+read-log-spec = tie.close (tie.spec (λ c κs. tt) (λ c κs. tt) (λ c κs. tt) returns returns-2 returns-3)

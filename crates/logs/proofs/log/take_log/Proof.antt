@@ -1,18 +1,8 @@
 -- `logs::log::take_log` meets its contract.
-use borrow.Author.Needs.{needs}
 use Rattle.wire.proofs.Texts.{no-longer}
 use Rattle.logs.proofs.Logs.{both-shown}
 use Rattle.logs.proofs.log.take_log.Statement.{statement}
 use Rattle.logs.proofs.log.take_log.Tie as tie
-
-after-level-requires : tie.Need-after-level-requires
-after-level-requires c κs = search needs
-
-text-length-requires : tie.Need-text-length-requires
-text-length-requires c κs = search needs
-
-read-u8-requires : tie.Need-read-u8-requires
-read-u8-requires c κs = search needs
 
 sub-t6 : tie.Need-sub-t6
 sub-t6 c = no-longer (c .before .before .after-level .result .now) (c .before .text-length .ensures)
@@ -23,4 +13,4 @@ returns c =
     both-shown (found .before .before .before .args .s .now) (found .before .after-level .ensures) (found .text-length .ensures) (c .read-u8 .ensures)
 
 pub take-log-spec : {M : Type 1} → statement M
-take-log-spec = tie.close (tie.spec after-level-requires text-length-requires read-u8-requires sub-t6 returns)
+take-log-spec = tie.close (tie.spec (λ c κs. tt) (λ c κs. tt) (λ c κs. tt) sub-t6 returns)

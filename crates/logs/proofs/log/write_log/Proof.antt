@@ -11,38 +11,11 @@ use borrow.Author.Needs.{needs}
 use Rattle.logs.proofs.log.write_log.Statement.{statement}
 use Rattle.logs.proofs.log.write_log.Tie as tie
 
-no-zero-requires : tie.Need-no-zero-requires
-no-zero-requires c κs = search needs
-
-room-requires : tie.Need-room-requires
-room-requires c κs = search needs
-
-add-n : tie.Need-add-n
-add-n c = search needs
-
 add-n-2 : tie.Need-add-n-2
 add-n-2 c =
     let f = c .before .before in
     let a = f .before .before .before .before .args in
     omega (arith, leb-true (length (a .text .now) + a .padding) 254 (sym (f .room .ensures) ∙ c .if2 .taken))
-
-plan-requires : tie.Need-plan-requires
-plan-requires c κs = search needs
-
-enum-told : tie.Need-enum-told
-enum-told c = search needs
-
-put-log-requires : tie.Need-put-log-requires
-put-log-requires c κs = search needs
-
-seal-requires : tie.Need-seal-requires
-seal-requires c κs = search needs
-
-enum-told-2 : tie.Need-enum-told-2
-enum-told-2 c = search needs
-
-same-length : tie.Need-same-length
-same-length c = search needs
 
 returns : tie.Need-returns
 returns c =
@@ -76,16 +49,16 @@ pub write-log-spec : {M : Type 1} → statement M
 write-log-spec =
     tie.close
     (tie.spec
-    no-zero-requires
-    room-requires
-    add-n
+    (λ c κs. tt)
+    (λ c κs. tt)
+    (λ c. search needs)
     add-n-2
-    plan-requires
-    enum-told
-    put-log-requires
-    seal-requires
-    enum-told-2
-    same-length
+    (λ c κs. tt)
+    (λ c. search needs)
+    (λ c κs. tt)
+    (λ c κs. tt)
+    (λ c. search needs)
+    (λ c. search needs)
     returns
     returns-2
     returns-3

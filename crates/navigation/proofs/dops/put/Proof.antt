@@ -4,27 +4,6 @@ use Rattle.layouts.proofs.Fields.{then}
 use Rattle.navigation.proofs.dops.put.Statement.{statement}
 use Rattle.navigation.proofs.dops.put.Tie as tie
 
-store-u32-requires : tie.Need-store-u32-requires
-store-u32-requires c κs = search needs
-
-store-u16-requires : tie.Need-store-u16-requires
-store-u16-requires c κs = search needs
-
-store-u16-requires-2 : tie.Need-store-u16-requires-2
-store-u16-requires-2 c κs = search needs
-
-store-u16-requires-3 : tie.Need-store-u16-requires-3
-store-u16-requires-3 c κs = search needs
-
-store-u16-requires-4 : tie.Need-store-u16-requires-4
-store-u16-requires-4 c κs = search needs
-
-store-u16-requires-5 : tie.Need-store-u16-requires-5
-store-u16-requires-5 c κs = search needs
-
-same-length : tie.Need-same-length
-same-length c = search needs
-
 returns : tie.Need-returns
 returns c =
     let k6 = c .before .before in
@@ -36,4 +15,4 @@ returns c =
     then _ _ _ (then _ _ _ (then _ _ _ (then _ _ _ (then _ _ _ (k1 .store-u32 .ensures) (k2 .store-u16 .ensures)) (k3 .store-u162 .ensures)) (k4 .store-u163 .ensures)) (k5 .store-u164 .ensures)) (k6 .store-u165 .ensures)
 
 pub put-spec : {M : Type 1} → statement M
-put-spec = tie.close (tie.spec store-u32-requires store-u16-requires store-u16-requires-2 store-u16-requires-3 store-u16-requires-4 store-u16-requires-5 same-length returns)
+put-spec = tie.close (tie.spec (λ c κs. tt) (λ c κs. tt) (λ c κs. tt) (λ c κs. tt) (λ c κs. tt) (λ c κs. tt) (λ c. search needs) returns)

@@ -1,6 +1,5 @@
 -- `navigation::dops::read_dops` meets its contract.
 use mathlib.Core.Path.{refl}
-use borrow.Author.Needs.{needs}
 use Rattle.layouts.proofs.Descriptions.{gives-22, gives}
 use Rattle.navigation.specs.Dops.{dops}
 use Rattle.navigation.proofs.dops.read_dops.Statement.{statement}
@@ -9,11 +8,8 @@ use Rattle.navigation.proofs.dops.read_dops.Tie as tie
 returns : tie.Need-returns
 returns c = gives-22 dops (c .before .before .args .s .now) (c .if1 .taken)
 
-take-dops-requires : tie.Need-take-dops-requires
-take-dops-requires c κs = search needs
-
 returns-2 : tie.Need-returns-2
 returns-2 c = gives dops (c .before .before .before .args .s .now) (c .take-dops .result) (c .before .if1 .left) (c .take-dops .ensures) refl
 
 pub read-dops-spec : {M : Type 1} → statement M
-read-dops-spec = tie.close (tie.spec returns take-dops-requires returns-2)
+read-dops-spec = tie.close (tie.spec returns (λ c κs. tt) returns-2)

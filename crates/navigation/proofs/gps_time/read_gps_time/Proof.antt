@@ -1,6 +1,5 @@
 -- `navigation::gps_time::read_gps_time` meets its contract.
 use mathlib.Core.Path.{sym, _∙_}
-use borrow.Author.Needs.{needs}
 use Rattle.layouts.proofs.Descriptions.{gives-22, gives-23, gives}
 use Rattle.navigation.specs.GpsTime.{gpsTime}
 use Rattle.navigation.proofs.gps_time.read_gps_time.Statement.{statement}
@@ -8,12 +7,6 @@ use Rattle.navigation.proofs.gps_time.read_gps_time.Tie as tie
 
 returns : tie.Need-returns
 returns c = gives-22 gpsTime (c .before .before .args .s .now) (c .if1 .taken)
-
-take-gps-time-requires : tie.Need-take-gps-time-requires
-take-gps-time-requires c κs = search needs
-
-allowed-requires : tie.Need-allowed-requires
-allowed-requires c κs = search needs
 
 returns-2 : tie.Need-returns-2
 returns-2 c =
@@ -26,4 +19,4 @@ returns-3 c =
     gives-23 gpsTime (t .before .before .before .args .s .now) (t .take-gps-time .result) (t .before .if1 .left) (t .take-gps-time .ensures) (sym (c .before .allowed .ensures) ∙ c .if2 .left)
 
 pub read-gps-time-spec : {M : Type 1} → statement M
-read-gps-time-spec = tie.close (tie.spec returns take-gps-time-requires allowed-requires returns-2 returns-3)
+read-gps-time-spec = tie.close (tie.spec returns (λ c κs. tt) (λ c κs. tt) returns-2 returns-3)

@@ -1,21 +1,8 @@
 -- `navigation::gps_time::take_gps_time` meets its contract, field by field.
-use borrow.Author.Needs.{needs}
 use mir.Syntax.{w32}
 use Rattle.wire.proofs.Signed.{came-back}
 use Rattle.navigation.proofs.gps_time.take_gps_time.Statement.{statement}
 use Rattle.navigation.proofs.gps_time.take_gps_time.Tie as tie
-
-read-u16-requires : tie.Need-read-u16-requires
-read-u16-requires c κs = search needs
-
-read-u32-requires : tie.Need-read-u32-requires
-read-u32-requires c κs = search needs
-
-read-s32-requires : tie.Need-read-s32-requires
-read-s32-requires c κs = search needs
-
-read-u8-requires : tie.Need-read-u8-requires
-read-u8-requires c κs = search needs
 
 returns : tie.Need-returns
 returns c = λ i. record {
@@ -26,4 +13,4 @@ returns c = λ i. record {
 }
 
 pub take-gps-time-spec : {M : Type 1} → statement M
-take-gps-time-spec = tie.close (tie.spec read-u16-requires read-u32-requires read-s32-requires read-u8-requires returns)
+take-gps-time-spec = tie.close (tie.spec (λ c κs. tt) (λ c κs. tt) (λ c κs. tt) (λ c κs. tt) returns)

@@ -8,27 +8,6 @@ use Rattle.navigation.specs.GpsTime.{gpsTime}
 use Rattle.navigation.proofs.gps_time.write_gps_time.Statement.{statement}
 use Rattle.navigation.proofs.gps_time.write_gps_time.Tie as tie
 
-allowed-requires : tie.Need-allowed-requires
-allowed-requires c κs = search needs
-
-plan-requires : tie.Need-plan-requires
-plan-requires c κs = search needs
-
-enum-told : tie.Need-enum-told
-enum-told c = search needs
-
-put-requires : tie.Need-put-requires
-put-requires c κs = search needs
-
-seal-requires : tie.Need-seal-requires
-seal-requires c κs = search needs
-
-enum-told-2 : tie.Need-enum-told-2
-enum-told-2 c = search needs
-
-same-length : tie.Need-same-length
-same-length c = search needs
-
 returns : tie.Need-returns
 returns c =
     let p = c .before .before .before .before .before .before in
@@ -49,4 +28,4 @@ returns-3 c =
     wrote-23 gpsTime (senderOf (a .sender)) (a .r) (a .buf .now) (sym (c .before .allowed .ensures) ∙ c .if1 .left)
 
 pub write-gps-time-spec : {M : Type 1} → statement M
-write-gps-time-spec = tie.close (tie.spec allowed-requires plan-requires enum-told put-requires seal-requires enum-told-2 same-length returns returns-2 returns-3)
+write-gps-time-spec = tie.close (tie.spec (λ c κs. tt) (λ c κs. tt) (λ c. search needs) (λ c κs. tt) (λ c κs. tt) (λ c. search needs) (λ c. search needs) returns returns-2 returns-3)

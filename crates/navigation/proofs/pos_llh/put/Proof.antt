@@ -1,36 +1,11 @@
 -- `navigation::pos_llh::put` meets its contract: one store after the other.
 use mathlib.Core.Path.{ap, _∙_}
 use lib.ListN.{length}
-use borrow.Author.Needs.{needs}
 use Rattle.layouts.proofs.Fields.{then}
 use Rattle.layouts.proofs.Layouts.{length-body-stored}
 use Rattle.navigation.specs.PosLlh.{posLlh}
 use Rattle.navigation.proofs.pos_llh.put.Statement.{statement}
 use Rattle.navigation.proofs.pos_llh.put.Tie as tie
-
-store-u32-requires : tie.Need-store-u32-requires
-store-u32-requires c κs = search needs
-
-store-double-requires : tie.Need-store-double-requires
-store-double-requires c κs = search needs
-
-store-double-requires-2 : tie.Need-store-double-requires-2
-store-double-requires-2 c κs = search needs
-
-store-double-requires-3 : tie.Need-store-double-requires-3
-store-double-requires-3 c κs = search needs
-
-store-u16-requires : tie.Need-store-u16-requires
-store-u16-requires c κs = search needs
-
-store-u16-requires-2 : tie.Need-store-u16-requires-2
-store-u16-requires-2 c κs = search needs
-
-store-u8-requires : tie.Need-store-u8-requires
-store-u8-requires c κs = search needs
-
-store-u8-requires-2 : tie.Need-store-u8-requires-2
-store-u8-requires-2 c κs = search needs
 
 returns : tie.Need-returns
 returns c =
@@ -48,4 +23,4 @@ same-length : tie.Need-same-length
 same-length c = let a = c .before .before .before .before .before .before .before .before .before .before .before .before .before .before .before .before .before .before .before .before .before .before .before .before .before .before .before .before .before .before .before .before .before .args in ap length (returns c) ∙ length-body-stored (posLlh .layout) (posLlh .row (a .r)) (a .buf .now) 6
 
 pub put-spec : {M : Type 1} → statement M
-put-spec = tie.close (tie.spec store-u32-requires store-double-requires store-double-requires-2 store-double-requires-3 store-u16-requires store-u16-requires-2 store-u8-requires store-u8-requires-2 same-length returns)
+put-spec = tie.close (tie.spec (λ c κs. tt) (λ c κs. tt) (λ c κs. tt) (λ c κs. tt) (λ c κs. tt) (λ c κs. tt) (λ c κs. tt) (λ c κs. tt) same-length returns)

@@ -1,7 +1,6 @@
 -- `navigation::pos_llh::read_pos_llh` meets its contract.
 use mathlib.Core.Path.{sym, _∙_}
 use mathlib.Core.Bool.{and-true}
-use borrow.Author.Needs.{needs}
 use Rattle.layouts.proofs.Descriptions.{gives-22, gives-23, gives}
 use Rattle.navigation.specs.PosLlh.{posLlh}
 use Rattle.navigation.proofs.pos_llh.read_pos_llh.Statement.{statement}
@@ -9,12 +8,6 @@ use Rattle.navigation.proofs.pos_llh.read_pos_llh.Tie as tie
 
 returns : tie.Need-returns
 returns c = gives-22 posLlh (c .before .before .args .s .now) (c .if1 .taken)
-
-take-pos-llh-requires : tie.Need-take-pos-llh-requires
-take-pos-llh-requires c κs = search needs
-
-fix-allowed-requires : tie.Need-fix-allowed-requires
-fix-allowed-requires c κs = search needs
 
 returns-2 : tie.Need-returns-2
 returns-2 c =
@@ -27,4 +20,4 @@ returns-3 c =
     gives-23 posLlh (t .before .before .before .args .s .now) (t .take-pos-llh .result) (t .before .if1 .left) (t .take-pos-llh .ensures) (and-true _ ∙ sym (c .before .fix-allowed .ensures) ∙ c .if2 .left)
 
 pub read-pos-llh-spec : {M : Type 1} → statement M
-read-pos-llh-spec = tie.close (tie.spec returns take-pos-llh-requires fix-allowed-requires returns-2 returns-3)
+read-pos-llh-spec = tie.close (tie.spec returns (λ c κs. tt) (λ c κs. tt) returns-2 returns-3)

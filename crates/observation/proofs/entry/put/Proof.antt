@@ -5,30 +5,6 @@ use Rattle.layouts.proofs.Fields.{then, then-signed}
 use Rattle.observation.proofs.entry.put.Statement.{statement}
 use Rattle.observation.proofs.entry.put.Tie as tie
 
-store-u32-requires : tie.Need-store-u32-requires
-store-u32-requires c κs = search needs
-
-store-s32-requires : tie.Need-store-s32-requires
-store-s32-requires c κs = search needs
-
-store-u8-requires : tie.Need-store-u8-requires
-store-u8-requires c κs = search needs
-
-store-u8-requires-2 : tie.Need-store-u8-requires-2
-store-u8-requires-2 c κs = search needs
-
-store-u16-requires : tie.Need-store-u16-requires
-store-u16-requires c κs = search needs
-
-store-u16-requires-2 : tie.Need-store-u16-requires-2
-store-u16-requires-2 c κs = search needs
-
-store-u8-requires-3 : tie.Need-store-u8-requires-3
-store-u8-requires-3 c κs = search needs
-
-store-u8-requires-4 : tie.Need-store-u8-requires-4
-store-u8-requires-4 c κs = search needs
-
 returns : tie.Need-returns
 returns c =
     let k8 = c .before .before in
@@ -42,8 +18,5 @@ returns c =
     let r = k1 .before .before .before .args .r in
     then _ _ _ (then _ _ _ (then _ _ _ (then _ _ _ (then _ _ _ (then _ _ _ (then-signed w32 (r .«l_i») _ (k2 .before .struct-told .given .1 .0 .1) (k1 .store-u32 .ensures) (k2 .store-s32 .ensures)) (k3 .store-u8 .ensures)) (k4 .store-u82 .ensures)) (k5 .store-u16 .ensures)) (k6 .store-u162 .ensures)) (k7 .store-u83 .ensures)) (k8 .store-u84 .ensures)
 
-same-length : tie.Need-same-length
-same-length c = search needs
-
 pub put-spec : {M : Type 1} → statement M
-put-spec = tie.close (tie.spec store-u32-requires store-s32-requires store-u8-requires store-u8-requires-2 store-u16-requires store-u16-requires-2 store-u8-requires-3 store-u8-requires-4 same-length returns)
+put-spec = tie.close (tie.spec (λ c κs. tt) (λ c κs. tt) (λ c κs. tt) (λ c κs. tt) (λ c κs. tt) (λ c κs. tt) (λ c κs. tt) (λ c κs. tt) (λ c. search needs) returns)

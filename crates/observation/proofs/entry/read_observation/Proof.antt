@@ -13,32 +13,8 @@ use Rattle.observation.proofs.ObsReading.{entry-22, entry-25, entry-giv
 use Rattle.observation.proofs.entry.read_observation.Statement.{statement}
 use Rattle.observation.proofs.entry.read_observation.Tie as tie
 
-is-obs-length-requires : tie.Need-is-obs-length-requires
-is-obs-length-requires c κs = search needs
-
 sub-if2 : tie.Need-sub-if2
 sub-if2 c = omega (arith, whole first (length (c .before .before .before .args .s .now)) (sym (c .before .is-obs-length .ensures) ∙ c .if1 .taken))
-
-mul-start : tie.Need-mul-start
-mul-start c = search needs
-
-add-start : tie.Need-add-start
-add-start c = search needs
-
-add-end : tie.Need-add-end
-add-end c = search needs
-
-sub-take : tie.Need-sub-take
-sub-take c = search needs
-
-part-take-start : tie.Need-part-take-start
-part-take-start c = search needs
-
-part-take-end : tie.Need-part-take-end
-part-take-end c = search needs
-
-take-requires : tie.Need-take-requires
-take-requires c κs = search needs
 
 returns : tie.Need-returns
 returns c =
@@ -64,4 +40,4 @@ returns-3 c =
     sym (entry-22 first (a .s .now) (a .i) (sym (c .before .is-obs-length .ensures) ∙ c .if1 .left))
 
 pub read-observation-spec : {M : Type 1} → statement M
-read-observation-spec = tie.close (tie.spec is-obs-length-requires sub-if2 mul-start add-start add-end sub-take part-take-start part-take-end take-requires returns returns-2 returns-3)
+read-observation-spec = tie.close (tie.spec (λ c κs. tt) sub-if2 (λ c. search needs) (λ c. search needs) (λ c. search needs) (λ c. search needs) (λ c. search needs) (λ c. search needs) (λ c κs. tt) returns returns-2 returns-3)

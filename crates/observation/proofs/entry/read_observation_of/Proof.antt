@@ -1,15 +1,8 @@
 -- `observation::entry::read_observation_of` meets its contract.
 use mathlib.Core.Path.{sym, _∙_}
-use borrow.Author.Needs.{needs}
 use Rattle.observation.proofs.ObsReading.{of-obs, of-21}
 use Rattle.observation.proofs.entry.read_observation_of.Statement.{statement}
 use Rattle.observation.proofs.entry.read_observation_of.Tie as tie
-
-is-obs-requires : tie.Need-is-obs-requires
-is-obs-requires c κs = search needs
-
-read-observation-requires : tie.Need-read-observation-requires
-read-observation-requires c κs = search needs
 
 returns : tie.Need-returns
 returns c =
@@ -23,4 +16,4 @@ returns-2 c =
     sym (of-21 (a .s .now) (a .i) (a .kind) (sym (c .before .is-obs .ensures) ∙ c .if1 .left))
 
 pub read-observation-of-spec : {M : Type 1} → statement M
-read-observation-of-spec = tie.close (tie.spec is-obs-requires read-observation-requires returns returns-2)
+read-observation-of-spec = tie.close (tie.spec (λ c κs. tt) (λ c κs. tt) returns returns-2)

@@ -3,25 +3,12 @@ use mathlib.Core.Path.{_≡_, sym, _∙_}
 use mathlib.Core.Bool.{true}
 use native.Mathlib.Omega.{arith}
 use lib.ListN.{length}
-use borrow.Author.Needs.{needs}
 use Rattle.refusals.specs.Refusals.{given}
 use Rattle.observation.specs.Edition.{fitting, countIn, first}
 use Rattle.observation.proofs.Editions.{whole}
 use Rattle.observation.proofs.ObsReading.{obs-22, obs-given}
 use Rattle.observation.proofs.obs.read_obs.Statement.{statement}
 use Rattle.observation.proofs.obs.read_obs.Tie as tie
-
-is-obs-length-requires : tie.Need-is-obs-length-requires
-is-obs-length-requires c κs = search needs
-
-read-u32-requires : tie.Need-read-u32-requires
-read-u32-requires c κs = search needs
-
-read-u16-requires : tie.Need-read-u16-requires
-read-u16-requires c κs = search needs
-
-read-u8-requires : tie.Need-read-u8-requires
-read-u8-requires c κs = search needs
 
 fitted : (c : tie.After-read-u8) → fitting first (length (c .before .before .before .before .before .before .args .s .now)) ≡ true
 fitted c = sym (c .before .before .before .before .is-obs-length .ensures) ∙ c .before .before .before .if1 .taken
@@ -47,4 +34,4 @@ returns-2 : tie.Need-returns-2
 returns-2 c = sym (obs-22 (c .before .before .before .args .s .now) (sym (c .before .is-obs-length .ensures) ∙ c .if1 .left))
 
 pub read-obs-spec : {M : Type 1} → statement M
-read-obs-spec = tie.close (tie.spec is-obs-length-requires read-u32-requires read-u16-requires read-u8-requires sub-t8 cast-t10 returns returns-2)
+read-obs-spec = tie.close (tie.spec (λ c κs. tt) (λ c κs. tt) (λ c κs. tt) (λ c κs. tt) sub-t8 cast-t10 returns returns-2)

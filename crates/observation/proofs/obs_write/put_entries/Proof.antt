@@ -36,12 +36,6 @@ sub-put c = omega (arith, has-room (c .before .before .loop .inv) (c .before .lo
 part-put-start : tie.Need-part-put-start Inv-loop μ-loop
 part-put-start c = sub-put c
 
-part-put-end : tie.Need-part-put-end Inv-loop μ-loop
-part-put-end c = search needs
-
-put-requires : tie.Need-put-requires Inv-loop μ-loop
-put-requires c κs = search needs
-
 add-i : tie.Need-add-i Inv-loop μ-loop
 add-i c = omega arith
 
@@ -72,8 +66,8 @@ put-entries-spec =
     array-copy-out-o
     sub-put
     part-put-start
-    part-put-end
-    put-requires
+    (λ c. search needs)
+    (λ c κs. tt)
     add-i
     loop-less
     loop-again

@@ -12,28 +12,10 @@ use Rattle.observation.proofs.ObsWritten.{wrote-31, wrote-nothing, wrot
 use Rattle.observation.proofs.obs_write.write_obs.Statement.{statement}
 use Rattle.observation.proofs.obs_write.write_obs.Tie as tie
 
-cast-k : tie.Need-cast-k
-cast-k c = search needs
-
 returns : tie.Need-returns
 returns c =
     let a = c .before .before .before .args in
     wrote-31 first (senderOf (a .sender)) (headOf (a .obs)) (a .obs .count) (a .entries) (a .buf .now) (omega arith)
-
-mul-n : tie.Need-mul-n
-mul-n c = search needs
-
-add-n : tie.Need-add-n
-add-n c = search needs
-
-plan-requires : tie.Need-plan-requires
-plan-requires c κs = search needs
-
-enum-told : tie.Need-enum-told
-enum-told c = search needs
-
-put-head-requires : tie.Need-put-head-requires
-put-head-requires c κs = search needs
 
 put-entries-requires : tie.Need-put-entries-requires
 put-entries-requires c κs =
@@ -41,15 +23,6 @@ put-entries-requires c κs =
     let a = at .before .before .before .before .before .before .args in
     let room = fits (startOf first (a .obs .count)) (length (a .buf .now)) (known (at .before .before .plan .ensures) (at .enum-told .given .1)) in
     omega (arith, room, c .before .before .before .put-head .kept)
-
-seal-requires : tie.Need-seal-requires
-seal-requires c κs = search needs
-
-enum-told-2 : tie.Need-enum-told-2
-enum-told-2 c = search needs
-
-same-length : tie.Need-same-length
-same-length c = search needs
 
 -- the array has 15 observations, which owning it tells
 holds : (c : tie.Start) → c .args .obs .count ≤ 15 → c .args .obs .count ≤ length (c .args .entries)
@@ -80,16 +53,16 @@ pub write-obs-spec : {M : Type 1} → statement M
 write-obs-spec =
     tie.close
     (tie.spec
-    cast-k
+    (λ c. search needs)
     returns
-    mul-n
-    add-n
-    plan-requires
-    enum-told
-    put-head-requires
+    (λ c. search needs)
+    (λ c. search needs)
+    (λ c κs. tt)
+    (λ c. search needs)
+    (λ c κs. tt)
     put-entries-requires
-    seal-requires
-    enum-told-2
-    same-length
+    (λ c κs. tt)
+    (λ c. search needs)
+    (λ c. search needs)
     returns-2
     returns-3)

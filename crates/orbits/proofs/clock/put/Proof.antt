@@ -6,21 +6,6 @@ use Rattle.times.specs.TimeOfWeek.{timeOfWeek}
 use Rattle.orbits.proofs.clock.put.Statement.{statement}
 use Rattle.orbits.proofs.clock.put.Tie as tie
 
-store-double-requires : tie.Need-store-double-requires
-store-double-requires c κs = search needs
-
-store-double-requires-2 : tie.Need-store-double-requires-2
-store-double-requires-2 c κs = search needs
-
-store-double-requires-3 : tie.Need-store-double-requires-3
-store-double-requires-3 c κs = search needs
-
-put-requires : tie.Need-put-requires
-put-requires c κs = search needs
-
-same-length : tie.Need-same-length
-same-length c = search needs
-
 returns : tie.Need-returns
 returns c =
     let k4 = c .before .before in
@@ -31,4 +16,4 @@ returns c =
     then-part timeOfWeek (a .r .toc) 182 (then _ _ _ (then _ _ _ (k1 .store-double .ensures) (k2 .store-double2 .ensures)) (k3 .store-double3 .ensures)) (k4 .put .ensures)
 
 pub put-spec : {M : Type 1} → statement M
-put-spec = tie.close (tie.spec store-double-requires store-double-requires-2 store-double-requires-3 put-requires same-length returns)
+put-spec = tie.close (tie.spec (λ c κs. tt) (λ c κs. tt) (λ c κs. tt) (λ c κs. search needs) (λ c. search needs) returns)

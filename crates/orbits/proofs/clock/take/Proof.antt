@@ -3,18 +3,6 @@ use borrow.Author.Needs.{needs}
 use Rattle.orbits.proofs.clock.take.Statement.{statement}
 use Rattle.orbits.proofs.clock.take.Tie as tie
 
-read-double-requires : tie.Need-read-double-requires
-read-double-requires c κs = search needs
-
-read-double-requires-2 : tie.Need-read-double-requires-2
-read-double-requires-2 c κs = search needs
-
-read-double-requires-3 : tie.Need-read-double-requires-3
-read-double-requires-3 c κs = search needs
-
-take-requires : tie.Need-take-requires
-take-requires c κs = search needs
-
 returns : tie.Need-returns
 returns c = λ i. record {
   af0 = c .before .before .before .read-double .ensures i;
@@ -24,4 +12,4 @@ returns c = λ i. record {
 }
 
 pub take-spec : {M : Type 1} → statement M
-take-spec = tie.close (tie.spec read-double-requires read-double-requires-2 read-double-requires-3 take-requires returns)
+take-spec = tie.close (tie.spec (λ c κs. tt) (λ c κs. tt) (λ c κs. tt) (λ c κs. search needs) returns)

@@ -6,27 +6,6 @@ use Rattle.times.specs.TimeOfWeek.{timeOfWeek}
 use Rattle.orbits.proofs.common.put.Statement.{statement}
 use Rattle.orbits.proofs.common.put.Tie as tie
 
-put-requires : tie.Need-put-requires
-put-requires c κs = search needs
-
-put-requires-2 : tie.Need-put-requires-2
-put-requires-2 c κs = search needs
-
-store-double-requires : tie.Need-store-double-requires
-store-double-requires c κs = search needs
-
-store-u32-requires : tie.Need-store-u32-requires
-store-u32-requires c κs = search needs
-
-store-u8-requires : tie.Need-store-u8-requires
-store-u8-requires c κs = search needs
-
-store-u8-requires-2 : tie.Need-store-u8-requires-2
-store-u8-requires-2 c κs = search needs
-
-same-length : tie.Need-same-length
-same-length c = search needs
-
 returns : tie.Need-returns
 returns c =
     let k6 = c .before .before in
@@ -39,4 +18,4 @@ returns c =
     then _ _ _ (then _ _ _ (then _ _ _ (then _ _ _ (then-part timeOfWeek (a .r .toe) 10 (k1 .put .ensures) (k2 .put2 .ensures)) (k3 .store-double .ensures)) (k4 .store-u32 .ensures)) (k5 .store-u8 .ensures)) (k6 .store-u82 .ensures)
 
 pub put-spec : {M : Type 1} → statement M
-put-spec = tie.close (tie.spec put-requires put-requires-2 store-double-requires store-u32-requires store-u8-requires store-u8-requires-2 same-length returns)
+put-spec = tie.close (tie.spec (λ c κs. search needs) (λ c κs. search needs) (λ c κs. tt) (λ c κs. tt) (λ c κs. tt) (λ c κs. tt) (λ c. search needs) returns)

@@ -3,24 +3,6 @@ use borrow.Author.Needs.{needs}
 use Rattle.orbits.proofs.common.take.Statement.{statement}
 use Rattle.orbits.proofs.common.take.Tie as tie
 
-take-requires : tie.Need-take-requires
-take-requires c κs = search needs
-
-take-requires-2 : tie.Need-take-requires-2
-take-requires-2 c κs = search needs
-
-read-double-requires : tie.Need-read-double-requires
-read-double-requires c κs = search needs
-
-read-u32-requires : tie.Need-read-u32-requires
-read-u32-requires c κs = search needs
-
-read-u8-requires : tie.Need-read-u8-requires
-read-u8-requires c κs = search needs
-
-read-u8-requires-2 : tie.Need-read-u8-requires-2
-read-u8-requires-2 c κs = search needs
-
 returns : tie.Need-returns
 returns c = λ i. record {
   sid = c .before .before .before .before .before .take .ensures i;
@@ -32,4 +14,4 @@ returns c = λ i. record {
 }
 
 pub take-spec : {M : Type 1} → statement M
-take-spec = tie.close (tie.spec take-requires take-requires-2 read-double-requires read-u32-requires read-u8-requires read-u8-requires-2 returns)
+take-spec = tie.close (tie.spec (λ c κs. search needs) (λ c κs. search needs) (λ c κs. tt) (λ c κs. tt) (λ c κs. tt) (λ c κs. tt) returns)

@@ -4,27 +4,6 @@ use Rattle.layouts.proofs.Fields.{then}
 use Rattle.orbits.proofs.elements.put_harmonics.Statement.{statement}
 use Rattle.orbits.proofs.elements.put_harmonics.Tie as tie
 
-store-double-requires : tie.Need-store-double-requires
-store-double-requires c κs = search needs
-
-store-double-requires-2 : tie.Need-store-double-requires-2
-store-double-requires-2 c κs = search needs
-
-store-double-requires-3 : tie.Need-store-double-requires-3
-store-double-requires-3 c κs = search needs
-
-store-double-requires-4 : tie.Need-store-double-requires-4
-store-double-requires-4 c κs = search needs
-
-store-double-requires-5 : tie.Need-store-double-requires-5
-store-double-requires-5 c κs = search needs
-
-store-double-requires-6 : tie.Need-store-double-requires-6
-store-double-requires-6 c κs = search needs
-
-same-length : tie.Need-same-length
-same-length c = search needs
-
 returns : tie.Need-returns
 returns c =
     let k6 = c .before .before in
@@ -36,4 +15,4 @@ returns c =
     then _ _ _ (then _ _ _ (then _ _ _ (then _ _ _ (then _ _ _ (k1 .store-double .ensures) (k2 .store-double2 .ensures)) (k3 .store-double3 .ensures)) (k4 .store-double4 .ensures)) (k5 .store-double5 .ensures)) (k6 .store-double6 .ensures)
 
 pub put-harmonics-spec : {M : Type 1} → statement M
-put-harmonics-spec = tie.close (tie.spec store-double-requires store-double-requires-2 store-double-requires-3 store-double-requires-4 store-double-requires-5 store-double-requires-6 same-length returns)
+put-harmonics-spec = tie.close (tie.spec (λ c κs. tt) (λ c κs. tt) (λ c κs. tt) (λ c κs. tt) (λ c κs. tt) (λ c κs. tt) (λ c. search needs) returns)

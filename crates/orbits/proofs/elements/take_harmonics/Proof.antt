@@ -1,25 +1,6 @@
 -- `orbits::elements::take_harmonics` meets its contract: field by field.
-use borrow.Author.Needs.{needs}
 use Rattle.orbits.proofs.elements.take_harmonics.Statement.{statement}
 use Rattle.orbits.proofs.elements.take_harmonics.Tie as tie
-
-read-double-requires : tie.Need-read-double-requires
-read-double-requires c κs = search needs
-
-read-double-requires-2 : tie.Need-read-double-requires-2
-read-double-requires-2 c κs = search needs
-
-read-double-requires-3 : tie.Need-read-double-requires-3
-read-double-requires-3 c κs = search needs
-
-read-double-requires-4 : tie.Need-read-double-requires-4
-read-double-requires-4 c κs = search needs
-
-read-double-requires-5 : tie.Need-read-double-requires-5
-read-double-requires-5 c κs = search needs
-
-read-double-requires-6 : tie.Need-read-double-requires-6
-read-double-requires-6 c κs = search needs
 
 returns : tie.Need-returns
 returns c = λ i. record {
@@ -32,4 +13,4 @@ returns c = λ i. record {
 }
 
 pub take-harmonics-spec : {M : Type 1} → statement M
-take-harmonics-spec = tie.close (tie.spec read-double-requires read-double-requires-2 read-double-requires-3 read-double-requires-4 read-double-requires-5 read-double-requires-6 returns)
+take-harmonics-spec = tie.close (tie.spec (λ c κs. tt) (λ c κs. tt) (λ c κs. tt) (λ c κs. tt) (λ c κs. tt) (λ c κs. tt) returns)

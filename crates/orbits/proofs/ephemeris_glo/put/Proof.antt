@@ -6,21 +6,6 @@ use Rattle.orbits.specs.Motion.{motion}
 use Rattle.orbits.proofs.ephemeris_glo.put.Statement.{statement}
 use Rattle.orbits.proofs.ephemeris_glo.put.Tie as tie
 
-put-requires : tie.Need-put-requires
-put-requires c κs = search needs
-
-store-double-requires : tie.Need-store-double-requires
-store-double-requires c κs = search needs
-
-store-double-requires-2 : tie.Need-store-double-requires-2
-store-double-requires-2 c κs = search needs
-
-put-requires-2 : tie.Need-put-requires-2
-put-requires-2 c κs = search needs
-
-same-length : tie.Need-same-length
-same-length c = search needs
-
 returns : tie.Need-returns
 returns c =
     let k4 = c .before .before in
@@ -31,4 +16,4 @@ returns c =
     then-part motion (a .r .motion) 46 (then _ _ _ (then _ _ _ (k1 .put .ensures) (k2 .store-double .ensures)) (k3 .store-double2 .ensures)) (k4 .put2 .ensures)
 
 pub put-spec : {M : Type 1} → statement M
-put-spec = tie.close (tie.spec put-requires store-double-requires store-double-requires-2 put-requires-2 same-length returns)
+put-spec = tie.close (tie.spec (λ c κs. search needs) (λ c κs. tt) (λ c κs. tt) (λ c κs. search needs) (λ c. search needs) returns)

@@ -6,33 +6,6 @@ use Rattle.orbits.specs.EphemerisGps.{clock, ellipse, harmonics, plane}
 use Rattle.orbits.proofs.ephemeris_gps.put.Statement.{statement}
 use Rattle.orbits.proofs.ephemeris_gps.put.Tie as tie
 
-put-requires : tie.Need-put-requires
-put-requires c κs = search needs
-
-store-double-requires : tie.Need-store-double-requires
-store-double-requires c κs = search needs
-
-put-harmonics-requires : tie.Need-put-harmonics-requires
-put-harmonics-requires c κs = search needs
-
-put-ellipse-requires : tie.Need-put-ellipse-requires
-put-ellipse-requires c κs = search needs
-
-put-plane-requires : tie.Need-put-plane-requires
-put-plane-requires c κs = search needs
-
-put-requires-2 : tie.Need-put-requires-2
-put-requires-2 c κs = search needs
-
-store-u8-requires : tie.Need-store-u8-requires
-store-u8-requires c κs = search needs
-
-store-u16-requires : tie.Need-store-u16-requires
-store-u16-requires c κs = search needs
-
-same-length : tie.Need-same-length
-same-length c = search needs
-
 returns : tie.Need-returns
 returns c =
     let k8 = c .before .before in
@@ -47,4 +20,4 @@ returns c =
     then _ _ _ (then _ _ _ (then-part clock (a .r .clock) 158 (then-part plane (a .r .plane) 118 (then-part ellipse (a .r .ellipse) 86 (then-part harmonics (a .r .harmonics) 38 (then _ _ _ (k1 .put .ensures) (k2 .store-double .ensures)) (k3 .put-harmonics .ensures)) (k4 .put-ellipse .ensures)) (k5 .put-plane .ensures)) (k6 .put2 .ensures)) (k7 .store-u8 .ensures)) (k8 .store-u16 .ensures)
 
 pub put-spec : {M : Type 1} → statement M
-put-spec = tie.close (tie.spec put-requires store-double-requires put-harmonics-requires put-ellipse-requires put-plane-requires put-requires-2 store-u8-requires store-u16-requires same-length returns)
+put-spec = tie.close (tie.spec (λ c κs. search needs) (λ c κs. tt) (λ c κs. tt) (λ c κs. tt) (λ c κs. tt) (λ c κs. search needs) (λ c κs. tt) (λ c κs. tt) (λ c. search needs) returns)

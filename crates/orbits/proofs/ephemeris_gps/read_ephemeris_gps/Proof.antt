@@ -1,6 +1,5 @@
 -- `orbits::ephemeris_gps::read_ephemeris_gps` meets its contract.
 use mathlib.Core.Path.{refl}
-use borrow.Author.Needs.{needs}
 use Rattle.layouts.proofs.Descriptions.{gives-22, gives}
 use Rattle.orbits.specs.EphemerisGps.{ephemerisGps}
 use Rattle.orbits.proofs.ephemeris_gps.read_ephemeris_gps.Statement.{statement}
@@ -9,11 +8,8 @@ use Rattle.orbits.proofs.ephemeris_gps.read_ephemeris_gps.Tie as tie
 returns : tie.Need-returns
 returns c = gives-22 ephemerisGps (c .before .before .args .s .now) (c .if1 .taken)
 
-take-ephemeris-gps-requires : tie.Need-take-ephemeris-gps-requires
-take-ephemeris-gps-requires c κs = search needs
-
 returns-2 : tie.Need-returns-2
 returns-2 c = gives ephemerisGps (c .before .before .before .args .s .now) (c .take-ephemeris-gps .result) (c .before .if1 .left) (c .take-ephemeris-gps .ensures) refl
 
 pub read-ephemeris-gps-spec : {M : Type 1} → statement M
-read-ephemeris-gps-spec = tie.close (tie.spec returns take-ephemeris-gps-requires returns-2)
+read-ephemeris-gps-spec = tie.close (tie.spec returns (λ c κs. tt) returns-2)

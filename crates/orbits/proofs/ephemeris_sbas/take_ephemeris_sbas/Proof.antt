@@ -3,18 +3,6 @@ use borrow.Author.Needs.{needs}
 use Rattle.orbits.proofs.ephemeris_sbas.take_ephemeris_sbas.Statement.{statement}
 use Rattle.orbits.proofs.ephemeris_sbas.take_ephemeris_sbas.Tie as tie
 
-take-requires : tie.Need-take-requires
-take-requires c κs = search needs
-
-take-requires-2 : tie.Need-take-requires-2
-take-requires-2 c κs = search needs
-
-read-double-requires : tie.Need-read-double-requires
-read-double-requires c κs = search needs
-
-read-double-requires-2 : tie.Need-read-double-requires-2
-read-double-requires-2 c κs = search needs
-
 returns : tie.Need-returns
 returns c = λ i. record {
   common = c .before .before .before .take .ensures i;
@@ -24,4 +12,4 @@ returns c = λ i. record {
 }
 
 pub take-ephemeris-sbas-spec : {M : Type 1} → statement M
-take-ephemeris-sbas-spec = tie.close (tie.spec take-requires take-requires-2 read-double-requires read-double-requires-2 returns)
+take-ephemeris-sbas-spec = tie.close (tie.spec (λ c κs. search needs) (λ c κs. search needs) (λ c κs. tt) (λ c κs. tt) returns)

@@ -8,24 +8,6 @@ use Rattle.orbits.proofs.Motions.{put-motion}
 use Rattle.orbits.proofs.motion.put.Statement.{statement}
 use Rattle.orbits.proofs.motion.put.Tie as tie
 
-add-vel : tie.Need-add-vel
-add-vel c = search needs
-
-add-acc : tie.Need-add-acc
-add-acc c = search needs
-
-put-vector-requires : tie.Need-put-vector-requires
-put-vector-requires c κs = search needs
-
-put-vector-requires-2 : tie.Need-put-vector-requires-2
-put-vector-requires-2 c κs = search needs
-
-put-vector-requires-3 : tie.Need-put-vector-requires-3
-put-vector-requires-3 c κs = search needs
-
-same-length : tie.Need-same-length
-same-length c = search needs
-
 returns : tie.Need-returns
 returns c =
     let k3 = c .before .before in
@@ -36,4 +18,4 @@ returns c =
     ∙ sym (put-motion (a .buf .now) (a .at) (a .r))
 
 pub put-spec : {M : Type 1} → statement M
-put-spec = tie.close (tie.spec add-vel add-acc put-vector-requires put-vector-requires-2 put-vector-requires-3 same-length returns)
+put-spec = tie.close (tie.spec (λ c. search needs) (λ c. search needs) (λ c κs. search needs) (λ c κs. search needs) (λ c κs. search needs) (λ c. search needs) returns)

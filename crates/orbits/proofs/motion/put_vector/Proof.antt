@@ -4,24 +4,6 @@ use Rattle.layouts.proofs.Fields.{then}
 use Rattle.orbits.proofs.motion.put_vector.Statement.{statement}
 use Rattle.orbits.proofs.motion.put_vector.Tie as tie
 
-add-y : tie.Need-add-y
-add-y c = search needs
-
-add-z : tie.Need-add-z
-add-z c = search needs
-
-store-double-requires : tie.Need-store-double-requires
-store-double-requires c κs = search needs
-
-store-double-requires-2 : tie.Need-store-double-requires-2
-store-double-requires-2 c κs = search needs
-
-store-double-requires-3 : tie.Need-store-double-requires-3
-store-double-requires-3 c κs = search needs
-
-same-length : tie.Need-same-length
-same-length c = search needs
-
 returns : tie.Need-returns
 returns c =
     let k3 = c .before .before in
@@ -30,4 +12,4 @@ returns c =
     then _ _ _ (then _ _ _ (k1 .store-double .ensures) (k2 .store-double2 .ensures)) (k3 .store-double3 .ensures)
 
 pub put-vector-spec : {M : Type 1} → statement M
-put-vector-spec = tie.close (tie.spec add-y add-z store-double-requires store-double-requires-2 store-double-requires-3 same-length returns)
+put-vector-spec = tie.close (tie.spec (λ c. search needs) (λ c. search needs) (λ c κs. tt) (λ c κs. tt) (λ c κs. tt) (λ c. search needs) returns)

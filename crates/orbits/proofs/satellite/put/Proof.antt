@@ -4,18 +4,6 @@ use Rattle.layouts.proofs.Fields.{then}
 use Rattle.orbits.proofs.satellite.put.Statement.{statement}
 use Rattle.orbits.proofs.satellite.put.Tie as tie
 
-store-u16-requires : tie.Need-store-u16-requires
-store-u16-requires c κs = search needs
-
-store-u8-requires : tie.Need-store-u8-requires
-store-u8-requires c κs = search needs
-
-store-u8-requires-2 : tie.Need-store-u8-requires-2
-store-u8-requires-2 c κs = search needs
-
-same-length : tie.Need-same-length
-same-length c = search needs
-
 returns : tie.Need-returns
 returns c =
     let k3 = c .before .before in
@@ -24,4 +12,4 @@ returns c =
     then _ _ _ (then _ _ _ (k1 .store-u16 .ensures) (k2 .store-u8 .ensures)) (k3 .store-u82 .ensures)
 
 pub put-spec : {M : Type 1} → statement M
-put-spec = tie.close (tie.spec store-u16-requires store-u8-requires store-u8-requires-2 same-length returns)
+put-spec = tie.close (tie.spec (λ c κs. tt) (λ c κs. tt) (λ c κs. tt) (λ c. search needs) returns)

@@ -1,16 +1,6 @@
 -- `orbits::satellite::take` meets its contract: field by field.
-use borrow.Author.Needs.{needs}
 use Rattle.orbits.proofs.satellite.take.Statement.{statement}
 use Rattle.orbits.proofs.satellite.take.Tie as tie
-
-read-u16-requires : tie.Need-read-u16-requires
-read-u16-requires c κs = search needs
-
-read-u8-requires : tie.Need-read-u8-requires
-read-u8-requires c κs = search needs
-
-read-u8-requires-2 : tie.Need-read-u8-requires-2
-read-u8-requires-2 c κs = search needs
 
 returns : tie.Need-returns
 returns c = λ i. record {
@@ -20,4 +10,4 @@ returns c = λ i. record {
 }
 
 pub take-spec : {M : Type 1} → statement M
-take-spec = tie.close (tie.spec read-u16-requires read-u8-requires read-u8-requires-2 returns)
+take-spec = tie.close (tie.spec (λ c κs. tt) (λ c κs. tt) (λ c κs. tt) returns)

@@ -8,26 +8,11 @@ use borrow.Author.Needs.{needs}
 use Rattle.packets.proofs.packet.read_packet.Statement.{statement}
 use Rattle.packets.proofs.packet.read_packet.Tie as tie
 
-is-obs-requires : tie.Need-is-obs-requires
-is-obs-requires c κs = search needs
-
-read-obs-requires : tie.Need-read-obs-requires
-read-obs-requires c κs = search needs
-
-enum-known-read : tie.Need-enum-known-read
-enum-known-read c = search needs
-
 returns : tie.Need-returns
 returns c =
     let a = c .before .before .before .before .before .before .before .args in
     let obs = sym (c .before .before .before .before .before .is-obs .ensures) ∙ c .before .before .before .before .if1 .taken in
     ap (mapped packetOf) (ap obsAnswer (sym (c .before .read .given .1)) ∙ c .before .before .before .read-obs .ensures) ∙ read-obs (a .kind) (a .payload .now) obs
-
-enum-known-read-2 : tie.Need-enum-known-read-2
-enum-known-read-2 c = search needs
-
-packet-of-requires : tie.Need-packet-of-requires
-packet-of-requires c κs = search needs
 
 returns-2 : tie.Need-returns-2
 returns-2 c =
@@ -45,11 +30,11 @@ pub read-packet-spec : {M : Type 1} → statement M
 read-packet-spec =
     tie.close
     (tie.spec
-    is-obs-requires
-    read-obs-requires
-    enum-known-read
+    (λ c κs. tt)
+    (λ c κs. tt)
+    (λ c. search needs)
     returns
-    enum-known-read-2
-    packet-of-requires
+    (λ c. search needs)
+    (λ c κs. tt)
     returns-2
     returns-3)

@@ -15,63 +15,6 @@ use borrow.Author.Needs.{needs}
 use Rattle.payloads.proofs.check.tested.Statement.{statement}
 use Rattle.payloads.proofs.check.tested.Tie as tie
 
-enum-told : tie.Need-enum-told
-enum-told c = search needs
-
-enum-known-check : tie.Need-enum-known-check
-enum-known-check c = search needs
-
-refusal-requires : tie.Need-refusal-requires
-refusal-requires c κs = search needs
-
-enum-known-check-2 : tie.Need-enum-known-check-2
-enum-known-check-2 c = search needs
-
-read-s32-requires : tie.Need-read-s32-requires
-read-s32-requires c κs = search needs
-
-ns-allowed-requires : tie.Need-ns-allowed-requires
-ns-allowed-requires c κs = search needs
-
-refusal-requires-2 : tie.Need-refusal-requires-2
-refusal-requires-2 c κs = search needs
-
-enum-known-check-3 : tie.Need-enum-known-check-3
-enum-known-check-3 c = search needs
-
-read-u8-requires : tie.Need-read-u8-requires
-read-u8-requires c κs = search needs
-
-fix-allowed-requires : tie.Need-fix-allowed-requires
-fix-allowed-requires c κs = search needs
-
-refusal-requires-3 : tie.Need-refusal-requires-3
-refusal-requires-3 c κs = search needs
-
-enum-told-2 : tie.Need-enum-told-2
-enum-told-2 c = search needs
-
-is-obs-length-requires : tie.Need-is-obs-length-requires
-is-obs-length-requires c κs = search needs
-
-refusal-requires-4 : tie.Need-refusal-requires-4
-refusal-requires-4 c κs = search needs
-
-enum-told-3 : tie.Need-enum-told-3
-enum-told-3 c = search needs
-
-is-log-length-requires : tie.Need-is-log-length-requires
-is-log-length-requires c κs = search needs
-
-log-padded-requires : tie.Need-log-padded-requires
-log-padded-requires c κs = search needs
-
-refusal-requires-5 : tie.Need-refusal-requires-5
-refusal-requires-5 c κs = search needs
-
-returns : tie.Need-returns
-returns c = search needs
-
 -- by the check that was met
 as-met : (s : List ℕ) {n : ℕ} {k x : Check} → n ≡ numberBy (testsBy x s) → k ≡ x → n ≡ numberBy (testsBy k s)
 as-met s p q = p ∙ ap (λ (k : Check). numberBy (testsBy k s)) (sym q)
@@ -110,4 +53,4 @@ returns-6 c =
     as-met s (inside-as (logLength (length s)) (fits-as (c .before .log-padded .result) (c .refusal5 .ensures) (l .is-log-length .ensures)) (c .before .log-padded .ensures)) (w .enum-told3 .given .1)
 
 pub tested-spec : {M : Type 1} → statement M
-tested-spec = tie.close (tie.spec enum-told enum-known-check refusal-requires enum-known-check-2 read-s32-requires ns-allowed-requires refusal-requires-2 enum-known-check-3 read-u8-requires fix-allowed-requires refusal-requires-3 enum-told-2 is-obs-length-requires refusal-requires-4 enum-told-3 is-log-length-requires log-padded-requires refusal-requires-5 returns returns-2 returns-3 returns-4 returns-5 returns-6)
+tested-spec = tie.close (tie.spec (λ c. search needs) (λ c. search needs) (λ c κs. tt) (λ c. search needs) (λ c κs. tt) (λ c κs. tt) (λ c κs. tt) (λ c. search needs) (λ c κs. tt) (λ c κs. tt) (λ c κs. tt) (λ c. search needs) (λ c κs. tt) (λ c κs. tt) (λ c. search needs) (λ c κs. tt) (λ c κs. tt) (λ c κs. tt) (λ c. search needs) returns-2 returns-3 returns-4 returns-5 returns-6)

@@ -2,7 +2,6 @@
 use mathlib.Core.Path.{_≡_, sym, ap, _∙_}
 use mathlib.Core.List.{List, map}
 use Prim.Native.Nat.{ℕ}
-use borrow.Author.Needs.{needs}
 use Rattle.payloads.specs.Payloads.{others, Entry, entryOf, entryFor}
 use Rattle.payloads.specs.Inner.{recordIn}
 use Rattle.payloads.specs.declared.Message.the-variants as M
@@ -13,69 +12,6 @@ use Rattle.payloads.proofs.record.record_in.Tie as tie
 -- a type that was met as equal to another holds the same
 met : (s : List ℕ) {kind k : ℕ} → kind ≡ k → recordIn k s ≡ recordIn kind s
 met s q = sym (ap (λ (k : ℕ). recordIn k s) q)
-
-take-gps-time-requires : tie.Need-take-gps-time-requires
-take-gps-time-requires c κs = search needs
-
-take-dops-requires : tie.Need-take-dops-requires
-take-dops-requires c κs = search needs
-
-take-pos-ecef-requires : tie.Need-take-pos-ecef-requires
-take-pos-ecef-requires c κs = search needs
-
-take-pos-llh-requires : tie.Need-take-pos-llh-requires
-take-pos-llh-requires c κs = search needs
-
-take-ecef-requires : tie.Need-take-ecef-requires
-take-ecef-requires c κs = search needs
-
-take-ecef-requires-2 : tie.Need-take-ecef-requires-2
-take-ecef-requires-2 c κs = search needs
-
-take-ned-requires : tie.Need-take-ned-requires
-take-ned-requires c κs = search needs
-
-take-ned-requires-2 : tie.Need-take-ned-requires-2
-take-ned-requires-2 c κs = search needs
-
-take-baseline-heading-requires : tie.Need-take-baseline-heading-requires
-take-baseline-heading-requires c κs = search needs
-
-take-base-pos-llh-requires : tie.Need-take-base-pos-llh-requires
-take-base-pos-llh-requires c κs = search needs
-
-take-base-pos-ecef-requires : tie.Need-take-base-pos-ecef-requires
-take-base-pos-ecef-requires c κs = search needs
-
-take-ephemeris-gps-requires : tie.Need-take-ephemeris-gps-requires
-take-ephemeris-gps-requires c κs = search needs
-
-take-ephemeris-sbas-requires : tie.Need-take-ephemeris-sbas-requires
-take-ephemeris-sbas-requires c κs = search needs
-
-take-ephemeris-glo-requires : tie.Need-take-ephemeris-glo-requires
-take-ephemeris-glo-requires c κs = search needs
-
-take-iono-requires : tie.Need-take-iono-requires
-take-iono-requires c κs = search needs
-
-take-sv-configuration-gps-requires : tie.Need-take-sv-configuration-gps-requires
-take-sv-configuration-gps-requires c κs = search needs
-
-take-group-delay-requires : tie.Need-take-group-delay-requires
-take-group-delay-requires c κs = search needs
-
-take-read-by-index-req-requires : tie.Need-take-read-by-index-req-requires
-take-read-by-index-req-requires c κs = search needs
-
-take-startup-requires : tie.Need-take-startup-requires
-take-startup-requires c κs = search needs
-
-take-heartbeat-requires : tie.Need-take-heartbeat-requires
-take-heartbeat-requires c κs = search needs
-
-take-log-requires : tie.Need-take-log-requires
-take-log-requires c κs = search needs
 
 returns : tie.Need-returns
 unfolding entryFor
@@ -173,4 +109,4 @@ returns-24 : tie.Need-returns-24
 returns-24 c = let a = c .before .before .args in sym (ap (λ (e : Entry). e .holds (a .s .now)) (no-entry (map entryOf others) (a .kind) (c .match .rest) .1))
 
 pub record-in-spec : {M : Type 1} → statement M
-record-in-spec = tie.close (tie.spec take-gps-time-requires take-dops-requires take-pos-ecef-requires take-pos-llh-requires take-ecef-requires take-ecef-requires-2 take-ned-requires take-ned-requires-2 take-baseline-heading-requires take-base-pos-llh-requires take-base-pos-ecef-requires take-ephemeris-gps-requires take-ephemeris-sbas-requires take-ephemeris-glo-requires take-iono-requires take-sv-configuration-gps-requires take-group-delay-requires take-read-by-index-req-requires take-startup-requires take-heartbeat-requires take-log-requires returns returns-2 returns-3 returns-4 returns-5 returns-6 returns-7 returns-8 returns-9 returns-10 returns-11 returns-12 returns-13 returns-14 returns-15 returns-16 returns-17 returns-18 returns-19 returns-20 returns-21 returns-22 returns-23 returns-24)
+record-in-spec = tie.close (tie.spec (λ c κs. tt) (λ c κs. tt) (λ c κs. tt) (λ c κs. tt) (λ c κs. tt) (λ c κs. tt) (λ c κs. tt) (λ c κs. tt) (λ c κs. tt) (λ c κs. tt) (λ c κs. tt) (λ c κs. tt) (λ c κs. tt) (λ c κs. tt) (λ c κs. tt) (λ c κs. tt) (λ c κs. tt) (λ c κs. tt) (λ c κs. tt) (λ c κs. tt) (λ c κs. tt) returns returns-2 returns-3 returns-4 returns-5 returns-6 returns-7 returns-8 returns-9 returns-10 returns-11 returns-12 returns-13 returns-14 returns-15 returns-16 returns-17 returns-18 returns-19 returns-20 returns-21 returns-22 returns-23 returns-24)

@@ -1,86 +1,10 @@
 -- `payloads::shape::shape_of` meets its contract: each type by its entry, any other by having none.
 use mathlib.Core.Path.{sym, ap, _∙_}
-use borrow.Author.Needs.{needs}
 use Rattle.formats.specs.Digits.{shapeOf}
 use Rattle.payloads.specs.Payloads.{Entry, table, entryFor, shapeFor}
 use Rattle.payloads.proofs.Entries.{no-entry}
 use Rattle.payloads.proofs.shape.shape_of.Statement.{statement}
 use Rattle.payloads.proofs.shape.shape_of.Tie as tie
-
-digits-requires : tie.Need-digits-requires
-digits-requires c κs = search needs
-
-digits-requires-2 : tie.Need-digits-requires-2
-digits-requires-2 c κs = search needs
-
-digits-requires-3 : tie.Need-digits-requires-3
-digits-requires-3 c κs = search needs
-
-digits-requires-4 : tie.Need-digits-requires-4
-digits-requires-4 c κs = search needs
-
-digits-requires-5 : tie.Need-digits-requires-5
-digits-requires-5 c κs = search needs
-
-digits-requires-6 : tie.Need-digits-requires-6
-digits-requires-6 c κs = search needs
-
-digits-requires-7 : tie.Need-digits-requires-7
-digits-requires-7 c κs = search needs
-
-digits-requires-8 : tie.Need-digits-requires-8
-digits-requires-8 c κs = search needs
-
-digits-requires-9 : tie.Need-digits-requires-9
-digits-requires-9 c κs = search needs
-
-digits-requires-10 : tie.Need-digits-requires-10
-digits-requires-10 c κs = search needs
-
-digits-requires-11 : tie.Need-digits-requires-11
-digits-requires-11 c κs = search needs
-
-digits-requires-12 : tie.Need-digits-requires-12
-digits-requires-12 c κs = search needs
-
-digits-requires-13 : tie.Need-digits-requires-13
-digits-requires-13 c κs = search needs
-
-digits-requires-14 : tie.Need-digits-requires-14
-digits-requires-14 c κs = search needs
-
-digits-requires-15 : tie.Need-digits-requires-15
-digits-requires-15 c κs = search needs
-
-digits-requires-16 : tie.Need-digits-requires-16
-digits-requires-16 c κs = search needs
-
-digits-requires-17 : tie.Need-digits-requires-17
-digits-requires-17 c κs = search needs
-
-digits-requires-18 : tie.Need-digits-requires-18
-digits-requires-18 c κs = search needs
-
-digits-requires-19 : tie.Need-digits-requires-19
-digits-requires-19 c κs = search needs
-
-digits-requires-20 : tie.Need-digits-requires-20
-digits-requires-20 c κs = search needs
-
-digits-requires-21 : tie.Need-digits-requires-21
-digits-requires-21 c κs = search needs
-
-digits-requires-22 : tie.Need-digits-requires-22
-digits-requires-22 c κs = search needs
-
-digits-requires-23 : tie.Need-digits-requires-23
-digits-requires-23 c κs = search needs
-
-digits-requires-24 : tie.Need-digits-requires-24
-digits-requires-24 c κs = search needs
-
-digits-requires-25 : tie.Need-digits-requires-25
-digits-requires-25 c κs = search needs
 
 returns : tie.Need-returns
 unfolding entryFor
@@ -182,4 +106,4 @@ returns-25 : tie.Need-returns-25
 returns-25 c = c .digits25 .ensures ∙ sym (ap (λ (e : Entry). shapeOf (e .layout)) (no-entry table (c .before .before .args .kind) (c .before .match .rest) .1))
 
 pub shape-of-spec : {M : Type 1} → statement M
-shape-of-spec = tie.close (tie.spec digits-requires digits-requires-2 digits-requires-3 digits-requires-4 digits-requires-5 digits-requires-6 digits-requires-7 digits-requires-8 digits-requires-9 digits-requires-10 digits-requires-11 digits-requires-12 digits-requires-13 digits-requires-14 digits-requires-15 digits-requires-16 digits-requires-17 digits-requires-18 digits-requires-19 digits-requires-20 digits-requires-21 digits-requires-22 digits-requires-23 digits-requires-24 digits-requires-25 returns returns-2 returns-3 returns-4 returns-5 returns-6 returns-7 returns-8 returns-9 returns-10 returns-11 returns-12 returns-13 returns-14 returns-15 returns-16 returns-17 returns-18 returns-19 returns-20 returns-21 returns-22 returns-23 returns-24 returns-25)
+shape-of-spec = tie.close (tie.spec (λ c κs. tt) (λ c κs. tt) (λ c κs. tt) (λ c κs. tt) (λ c κs. tt) (λ c κs. tt) (λ c κs. tt) (λ c κs. tt) (λ c κs. tt) (λ c κs. tt) (λ c κs. tt) (λ c κs. tt) (λ c κs. tt) (λ c κs. tt) (λ c κs. tt) (λ c κs. tt) (λ c κs. tt) (λ c κs. tt) (λ c κs. tt) (λ c κs. tt) (λ c κs. tt) (λ c κs. tt) (λ c κs. tt) (λ c κs. tt) (λ c κs. tt) returns returns-2 returns-3 returns-4 returns-5 returns-6 returns-7 returns-8 returns-9 returns-10 returns-11 returns-12 returns-13 returns-14 returns-15 returns-16 returns-17 returns-18 returns-19 returns-20 returns-21 returns-22 returns-23 returns-24 returns-25)

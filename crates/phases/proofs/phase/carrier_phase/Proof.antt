@@ -14,9 +14,6 @@ cast-result c = widened w32 w64 (c .before .before .args .phase .«l_i») (lit�
 mul-result : tie.Need-mul-result
 mul-result c = product-fits (c .before .before .args .phase .«l_i») (c .struct-told .given .0 .1)
 
-cast-result-2 : tie.Need-cast-result-2
-cast-result-2 c = search needs
-
 add-result : tie.Need-add-result
 add-result c = sum-fits (c .before .before .before .args .phase) (c .before .struct-told .given .0 .1) (omega arith)
 
@@ -24,4 +21,4 @@ returns : tie.Need-returns
 returns c = gives-phase (c .before .before .before .args .phase) (c .before .struct-told .given .0 .1) (omega arith)
 
 pub carrier-phase-spec : {M : Type 1} → statement M
-carrier-phase-spec = tie.close (tie.spec cast-result mul-result cast-result-2 add-result returns)
+carrier-phase-spec = tie.close (tie.spec cast-result mul-result (λ c. search needs) add-result returns)

@@ -11,15 +11,6 @@ use Rattle.row_reader.proofs.Filling.{has-start, lent-room, run-then}
 use Rattle.row_reader.proofs.fill.fill.Statement.{statement}
 use Rattle.row_reader.proofs.fill.fill.Tie as tie
 
-count-requires : tie.Need-count-requires
-count-requires c κs = search needs
-
-size-requires : tie.Need-size-requires
-size-requires c κs = search needs
-
-read-run-requires : tie.Need-read-run-requires
-read-run-requires c κs = search needs
-
 mul-fill-rest : tie.Need-mul-fill-rest
 mul-fill-rest c = let w = c .before .before .before .before .before in omega (arith, few 16 (w .before .before .before .args .shape .head) .0, w .count .ensures)
 
@@ -33,18 +24,6 @@ sub-fill-rest c =
 part-fill-rest-start : tie.Need-part-fill-rest-start
 part-fill-rest-start c = sub-fill-rest c
 
-part-fill-rest-end : tie.Need-part-fill-rest-end
-part-fill-rest-end c = search needs
-
-sub-fill-rest-2 : tie.Need-sub-fill-rest-2
-sub-fill-rest-2 c = search needs
-
-part-fill-rest-start-2 : tie.Need-part-fill-rest-start-2
-part-fill-rest-start-2 c = search needs
-
-part-fill-rest-end-2 : tie.Need-part-fill-rest-end-2
-part-fill-rest-end-2 c = search needs
-
 fill-rest-requires : tie.Need-fill-rest-requires
 fill-rest-requires c κs =
     let r = c .before .before .before .before in
@@ -54,9 +33,6 @@ fill-rest-requires c κs =
     let left : sizeOf (formatsBy (a .args .shape .more)) ≤ length (lentFrom (size .result) (a .args .s .now)) = omega (arith, lent-length (size .result) (a .args .s .now), size .ensures, a .pre .0) in
     (left, lent-room (a .args .shape .head) (restIn (a .args .shape .more) (a .args .shape .each)) (a .args .s .now) (a .args .row .now) (a .pre .1) (w .count .ensures) (r .before .before .size .ensures) (r .read-run .ensures))
 
-same-length : tie.Need-same-length
-same-length c = search needs
-
 returns : tie.Need-returns
 returns c =
     let r = c .before .before .before .before .before .before .before in
@@ -65,4 +41,4 @@ returns c =
     run-then (a .args .shape .head) (restIn (a .args .shape .more) (a .args .shape .each)) (a .args .s .now) (a .args .row .now) (a .pre .1) (w .count .ensures) (r .before .before .size .ensures) (r .read-run .ensures) (c .before .before .fill-rest .ensures)
 
 pub fill-spec : {M : Type 1} → statement M
-fill-spec = tie.close (tie.spec count-requires size-requires read-run-requires mul-fill-rest sub-fill-rest part-fill-rest-start part-fill-rest-end sub-fill-rest-2 part-fill-rest-start-2 part-fill-rest-end-2 fill-rest-requires same-length returns)
+fill-spec = tie.close (tie.spec (λ c κs. tt) (λ c κs. tt) (λ c κs. tt) mul-fill-rest sub-fill-rest part-fill-rest-start (λ c. search needs) (λ c. search needs) (λ c. search needs) (λ c. search needs) fill-rest-requires (λ c. search needs) returns)

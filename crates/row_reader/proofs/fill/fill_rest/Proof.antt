@@ -7,15 +7,6 @@ use Rattle.row_reader.proofs.Filling.{has-start, lent-room, run-then}
 use Rattle.row_reader.proofs.fill.fill_rest.Statement.{statement}
 use Rattle.row_reader.proofs.fill.fill_rest.Tie as tie
 
-count-requires : tie.Need-count-requires
-count-requires c κs = search needs
-
-size-requires : tie.Need-size-requires
-size-requires c κs = search needs
-
-read-run-requires : tie.Need-read-run-requires
-read-run-requires c κs = search needs
-
 mul-fill-tail : tie.Need-mul-fill-tail
 mul-fill-tail c = let w = c .before .before .before .before .before in omega (arith, few 16 (w .before .before .before .args .more) .0, w .count .ensures)
 
@@ -29,27 +20,12 @@ sub-fill-tail c =
 part-fill-tail-start : tie.Need-part-fill-tail-start
 part-fill-tail-start c = sub-fill-tail c
 
-part-fill-tail-end : tie.Need-part-fill-tail-end
-part-fill-tail-end c = search needs
-
-sub-fill-tail-2 : tie.Need-sub-fill-tail-2
-sub-fill-tail-2 c = search needs
-
-part-fill-tail-start-2 : tie.Need-part-fill-tail-start-2
-part-fill-tail-start-2 c = search needs
-
-part-fill-tail-end-2 : tie.Need-part-fill-tail-end-2
-part-fill-tail-end-2 c = search needs
-
 fill-tail-requires : tie.Need-fill-tail-requires
 fill-tail-requires c κs =
     let r = c .before .before .before .before in
     let w = r .before .before .before in
     let a = w .before .before .before in
     lent-room (a .args .more) (tailIn (a .args .each)) (a .args .s .now) (a .args .row .now) (a .pre .1) (w .count .ensures) (r .before .before .size .ensures) (r .read-run .ensures)
-
-same-length : tie.Need-same-length
-same-length c = search needs
 
 returns : tie.Need-returns
 returns c =
@@ -59,4 +35,4 @@ returns c =
     run-then (a .args .more) (tailIn (a .args .each)) (a .args .s .now) (a .args .row .now) (a .pre .1) (w .count .ensures) (r .before .before .size .ensures) (r .read-run .ensures) (c .before .before .fill-tail .ensures)
 
 pub fill-rest-spec : {M : Type 1} → statement M
-fill-rest-spec = tie.close (tie.spec count-requires size-requires read-run-requires mul-fill-tail sub-fill-tail part-fill-tail-start part-fill-tail-end sub-fill-tail-2 part-fill-tail-start-2 part-fill-tail-end-2 fill-tail-requires same-length returns)
+fill-rest-spec = tie.close (tie.spec (λ c κs. tt) (λ c κs. tt) (λ c κs. tt) mul-fill-tail sub-fill-tail part-fill-tail-start (λ c. search needs) (λ c. search needs) (λ c. search needs) (λ c. search needs) fill-tail-requires (λ c. search needs) returns)

@@ -18,18 +18,12 @@ fill-text-requires c κs =
     let w = c .before .before .before .before .before in
     text-room (w .args .each) (w .args .s .now) (w .args .row .now) (w .pre) (c .before .if2 .taken)
 
-same-length : tie.Need-same-length
-same-length c = search needs
-
 returns-2 : tie.Need-returns-2
 returns-2 c =
     let f = c .before .before in
     let w = f .before .before in
     let a = w .before .before .before .before .args in
     f .fill-text .ensures ∙ sym (ap (λ (ns : List ℕ). beginning ns (a .row .now)) (text-tail (a .each) (a .s .now) (w .if2 .taken)))
-
-size-requires : tie.Need-size-requires
-size-requires c κs = search needs
 
 div-row : tie.Need-div-row
 div-row c = omega (arith, some-bytes (c .before .before .before .before .before .args .each) (c .before .before .if1 .left), c .size .ensures)
@@ -39,13 +33,10 @@ slice-write-row c =
     let w = c .before .before .before .before .before in
     tail-room (w .args .each) (w .args .s .now) (w .args .row .now) (c .before .before .if1 .left) (c .before .if2 .left) (w .pre)
 
-same-length-2 : tie.Need-same-length-2
-same-length-2 c = search needs
-
 returns-3 : tie.Need-returns-3
 returns-3 c =
     let w = c .before .before .before .before .before in
     tail-set (w .args .each) (w .args .s .now) (w .args .row .now) (c .before .before .if1 .left) (c .before .if2 .left) (w .pre) (c .size .ensures)
 
 pub fill-tail-spec : {M : Type 1} → statement M
-fill-tail-spec = tie.close (tie.spec returns fill-text-requires same-length returns-2 size-requires div-row slice-write-row same-length-2 returns-3)
+fill-tail-spec = tie.close (tie.spec returns fill-text-requires (λ c. search needs) returns-2 (λ c κs. tt) div-row slice-write-row (λ c. search needs) returns-3)

@@ -6,21 +6,6 @@ use Rattle.row_reader.proofs.ObservationRows.{one-refused, one-within, 
 use Rattle.row_reader.proofs.observation_row.read_observation_row.Statement.{statement}
 use Rattle.row_reader.proofs.observation_row.read_observation_row.Tie as tie
 
-read-observation-of-requires : tie.Need-read-observation-of-requires
-read-observation-of-requires c κs = search needs
-
-enum-known-n : tie.Need-enum-known-n
-enum-known-n c = search needs
-
-enum-told : tie.Need-enum-told
-enum-told c = search needs
-
-shape-of-requires : tie.Need-shape-of-requires
-shape-of-requires c κs = search needs
-
-count-requires : tie.Need-count-requires
-count-requires c κs = search needs
-
 returns : tie.Need-returns
 returns c =
     let n = c .before in
@@ -46,9 +31,6 @@ returns-2 c =
     let a = o .before .before .before .args in
     one-refused (a .kind) (a .payload .now) (a .index) (a .row .now) (sym (ap entryAnswer (c .before .n .given .1)) ∙ o .read-observation-of .ensures)
 
-same-length : tie.Need-same-length
-same-length c = search needs
-
 returns-3 : tie.Need-returns-3
 returns-3 c =
     let f = c .before .before in
@@ -63,13 +45,13 @@ pub read-observation-row-spec : {M : Type 1} → statement M
 read-observation-row-spec =
     tie.close
     (tie.spec
-    read-observation-of-requires
-    enum-known-n
-    enum-told
-    shape-of-requires
-    count-requires
+    (λ c κs. tt)
+    (λ c. search needs)
+    (λ c. search needs)
+    (λ c κs. tt)
+    (λ c κs. tt)
     returns
     fill-one-requires
     returns-2
-    same-length
+    (λ c. search needs)
     returns-3)

@@ -4,19 +4,10 @@ use Rattle.row_reader.proofs.Rows.{row-refused, row-whole, row-too-shor
 use Rattle.row_reader.proofs.row.read_row.Statement.{statement}
 use Rattle.row_reader.proofs.row.read_row.Tie as tie
 
-answer-requires : tie.Need-answer-requires
-answer-requires c κs = search needs
-
 returns : tie.Need-returns
 returns c =
     let a = c .before .before .before .before .args in
     row-refused (a .kind) (a .payload .now) (a .row .now) (c .before .answer .ensures) (c .if1 .taken)
-
-shape-of-requires : tie.Need-shape-of-requires
-shape-of-requires c κs = search needs
-
-numbers-requires : tie.Need-numbers-requires
-numbers-requires c κs = search needs
 
 returns-2 : tie.Need-returns-2
 returns-2 c =
@@ -34,9 +25,6 @@ fill-requires c κs =
       row-room (a .kind) (a .payload .now) (a .row .now) (p .before .answer .ensures) (p .if1 .left) (n .before .shape-of .ensures) (n .numbers .ensures) (c .before .if2 .left),
     )
 
-same-length : tie.Need-same-length
-same-length c = search needs
-
 returns-3 : tie.Need-returns-3
 returns-3 c =
     let f = c .before .before in
@@ -47,4 +35,4 @@ returns-3 c =
     row-filled (a .kind) (a .payload .now) (a .row .now) (p .before .answer .ensures) (p .if1 .left) (n .before .shape-of .ensures) (n .numbers .ensures) (t .if2 .left) (f .fill .ensures)
 
 pub read-row-spec : {M : Type 1} → statement M
-read-row-spec = tie.close (tie.spec answer-requires returns shape-of-requires numbers-requires returns-2 fill-requires same-length returns-3)
+read-row-spec = tie.close (tie.spec (λ c κs. tt) returns (λ c κs. tt) (λ c κs. tt) returns-2 fill-requires (λ c. search needs) returns-3)

@@ -32,9 +32,6 @@ sub-store-run c = omega (arith, has-room (c .before .loop .inv) (c .loop-test .t
 part-store-run-start : tie.Need-part-store-run-start Inv-loop μ-loop
 part-store-run-start c = sub-store-run c
 
-part-store-run-end : tie.Need-part-store-run-end Inv-loop μ-loop
-part-store-run-end c = search needs
-
 mul-store-run : tie.Need-mul-store-run Inv-loop μ-loop
 mul-store-run c = omega (arith, c .before .before .before .before .before .pre .0)
 
@@ -43,12 +40,6 @@ sub-store-run-2 c = omega (arith, c .before .before .before .before .before .pre
 
 part-store-run-start-2 : tie.Need-part-store-run-start-2 Inv-loop μ-loop
 part-store-run-start-2 c = sub-store-run-2 c
-
-part-store-run-end-2 : tie.Need-part-store-run-end-2 Inv-loop μ-loop
-part-store-run-end-2 c = search needs
-
-store-run-requires : tie.Need-store-run-requires Inv-loop μ-loop
-store-run-requires c κs = search needs
 
 add-i : tie.Need-add-i Inv-loop μ-loop
 add-i c = omega arith
@@ -82,12 +73,12 @@ pack-rows-spec =
     add-start
     sub-store-run
     part-store-run-start
-    part-store-run-end
+    (λ c. search needs)
     mul-store-run
     sub-store-run-2
     part-store-run-start-2
-    part-store-run-end-2
-    store-run-requires
+    (λ c. search needs)
+    (λ c κs. tt)
     add-i
     loop-less
     loop-again

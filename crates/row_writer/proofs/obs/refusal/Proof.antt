@@ -13,9 +13,6 @@ use Rattle.row_writer.proofs.ObsSent.{number-21, number-22-head, number
 use Rattle.row_writer.proofs.obs.refusal.Statement.{statement}
 use Rattle.row_writer.proofs.obs.refusal.Tie as tie
 
-is-obs-requires : tie.Need-is-obs-requires
-is-obs-requires c κs = search needs
-
 -- the type is OBS's
 is : (c : tie.Then1) → isObs (c .before .before .before .before .args .kind) ≡ true
 is c = sym (c .before .is-obs .ensures) ∙ c .if1 .taken
@@ -31,12 +28,6 @@ returns c = let a = c .before .before .before .before .before .args in number-22
 
 returns-2 : tie.Need-returns-2
 returns-2 c = let a = c .before .before .before .before .before .before .args in number-22-rows (a .kind) (a .head .now) (a .rows .now) (is (c .before .before)) (c .before .if2 .left) (c .if3 .taken)
-
-run-fits-requires : tie.Need-run-fits-requires
-run-fits-requires c κs = search needs
-
-rows-fit-requires : tie.Need-rows-fit-requires
-rows-fit-requires c κs = search needs
 
 returns-3 : tie.Need-returns-3
 returns-3 c =
@@ -72,11 +63,11 @@ pub refusal-spec : {M : Type 1} → statement M
 refusal-spec =
     tie.close
     (tie.spec
-    is-obs-requires
+    (λ c κs. tt)
     returns
     returns-2
-    run-fits-requires
-    rows-fit-requires
+    (λ c κs. tt)
+    (λ c κs. search needs)
     returns-3
     returns-4
     returns-5

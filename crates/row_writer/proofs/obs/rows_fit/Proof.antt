@@ -30,12 +30,6 @@ sub-run-fits c = omega (arith, c .before .before .before .pre)
 part-run-fits-start : tie.Need-part-run-fits-start Inv-loop μ-loop
 part-run-fits-start c = sub-run-fits c
 
-part-run-fits-end : tie.Need-part-run-fits-end Inv-loop μ-loop
-part-run-fits-end c = search needs
-
-run-fits-requires : tie.Need-run-fits-requires Inv-loop μ-loop
-run-fits-requires c κs = search needs
-
 add-i : tie.Need-add-i Inv-loop μ-loop
 add-i c = omega arith
 
@@ -72,8 +66,8 @@ rows-fit-spec =
     mul-run-fits
     sub-run-fits
     part-run-fits-start
-    part-run-fits-end
-    run-fits-requires
+    (λ c. search needs)
+    (λ c κs. tt)
     add-i
     loop-less
     loop-again

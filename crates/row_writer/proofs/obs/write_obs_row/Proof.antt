@@ -12,9 +12,6 @@ use Rattle.row_writer.proofs.ObsSent.{Fitting, fitting, few-rows, fitti
 use Rattle.row_writer.proofs.obs.write_obs_row.Statement.{statement}
 use Rattle.row_writer.proofs.obs.write_obs_row.Tie as tie
 
-refusal-requires : tie.Need-refusal-requires
-refusal-requires c κs = search needs
-
 returns : tie.Need-returns
 returns c =
     let a = c .before .before .before .before .before .args in
@@ -26,21 +23,6 @@ fit c = let a = c .before .before .before .before .before .args in fitting (a .k
 
 few : (c : tie.Else1) → length (c .before .before .before .before .before .args .rows .now) / 8 ≤ 15
 few c = let a = c .before .before .before .before .before .args in few-rows (a .kind) (a .head .now) (a .rows .now) (fit c)
-
-mul-n : tie.Need-mul-n
-mul-n c = search needs
-
-add-n : tie.Need-add-n
-add-n c = search needs
-
-slice-aggregate-store-run : tie.Need-slice-aggregate-store-run
-slice-aggregate-store-run c = search needs
-
-store-run-requires : tie.Need-store-run-requires
-store-run-requires c κs = search needs
-
-slice-aggregate-pack-rows : tie.Need-slice-aggregate-pack-rows
-slice-aggregate-pack-rows c = search needs
 
 pack-rows-requires : tie.Need-pack-rows-requires
 pack-rows-requires c κs =
@@ -57,12 +39,6 @@ slice-aggregate-send-frame c =
     let pack = c .before .before .before in
     let store = pack .before .before .before in
     sym (length-take-le _ (pack .pack-rows .last .0) (omega (arith, few (store .before .before), pack .pack-rows .kept, store .store-run .kept)))
-
-send-frame-requires : tie.Need-send-frame-requires
-send-frame-requires c κs = search needs
-
-same-length : tie.Need-same-length
-same-length c = search needs
 
 returns-2 : tie.Need-returns-2
 returns-2 c =
@@ -82,16 +58,16 @@ pub write-obs-row-spec : {M : Type 1} → statement M
 write-obs-row-spec =
     tie.close
     (tie.spec
-    refusal-requires
+    (λ c κs. tt)
     returns
-    mul-n
-    add-n
-    slice-aggregate-store-run
-    store-run-requires
-    slice-aggregate-pack-rows
+    (λ c. search needs)
+    (λ c. search needs)
+    (λ c. search needs)
+    (λ c κs. tt)
+    (λ c. search needs)
     pack-rows-requires
     array-share-prefix-bytes
     slice-aggregate-send-frame
-    send-frame-requires
-    same-length
+    (λ c κs. tt)
+    (λ c. search needs)
     returns-2)

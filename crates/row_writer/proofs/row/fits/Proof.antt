@@ -5,27 +5,6 @@ use Rattle.row_writer.proofs.Runs.{fit-both, fit-not}
 use Rattle.row_writer.proofs.row.fits.Statement.{statement}
 use Rattle.row_writer.proofs.row.fits.Tie as tie
 
-count-requires : tie.Need-count-requires
-count-requires c κs = search needs
-
-run-fits-requires : tie.Need-run-fits-requires
-run-fits-requires c κs = search needs
-
-mul-run-fits : tie.Need-mul-run-fits
-mul-run-fits c = search needs
-
-sub-run-fits : tie.Need-sub-run-fits
-sub-run-fits c = search needs
-
-part-run-fits-start : tie.Need-part-run-fits-start
-part-run-fits-start c = search needs
-
-part-run-fits-end : tie.Need-part-run-fits-end
-part-run-fits-end c = search needs
-
-run-fits-requires-2 : tie.Need-run-fits-requires-2
-run-fits-requires-2 c κs = search needs
-
 returns : tie.Need-returns
 returns c =
     let first = c .before .before .before in
@@ -41,12 +20,12 @@ pub fits-spec : {M : Type 1} → statement M
 fits-spec =
     tie.close
     (tie.spec
-    count-requires
-    run-fits-requires
-    mul-run-fits
-    sub-run-fits
-    part-run-fits-start
-    part-run-fits-end
-    run-fits-requires-2
+    (λ c κs. tt)
+    (λ c κs. tt)
+    (λ c. search needs)
+    (λ c. search needs)
+    (λ c. search needs)
+    (λ c. search needs)
+    (λ c κs. tt)
     returns
     returns-2)

@@ -16,25 +16,10 @@ use Rattle.row_writer.proofs.RowsSent.{number-21, number-22, number-23,
 use Rattle.row_writer.proofs.row.refusal.Statement.{statement}
 use Rattle.row_writer.proofs.row.refusal.Tie as tie
 
-is-alone-requires : tie.Need-is-alone-requires
-is-alone-requires c κs = search needs
-
-shape-of-requires : tie.Need-shape-of-requires
-shape-of-requires c κs = search needs
-
-count-requires : tie.Need-count-requires
-count-requires c κs = search needs
-
-count-requires-2 : tie.Need-count-requires-2
-count-requires-2 c κs = search needs
-
 add-if2 : tie.Need-add-if2
 add-if2 c =
     let s = c .before .before .shape-of .result in
     omega (arith, c .count2 .ensures, c .before .count .ensures, few 16 (s .head) .0, few 16 (s .more) .0)
-
-fits-requires : tie.Need-fits-requires
-fits-requires c κs = search needs
 
 -- the type is written, and its shape is known
 known : (c : tie.After-shape-of) → (knownFor (c .before .before .before .before .args .kind) && alone (layoutFor (c .before .before .before .before .args .kind))) ≡ true
@@ -77,12 +62,12 @@ pub refusal-spec : {M : Type 1} → statement M
 refusal-spec =
     tie.close
     (tie.spec
-    is-alone-requires
-    shape-of-requires
-    count-requires
-    count-requires-2
+    (λ c κs. tt)
+    (λ c κs. tt)
+    (λ c κs. tt)
+    (λ c κs. tt)
     add-if2
-    fits-requires
+    (λ c κs. search needs)
     returns
     returns-2
     returns-3

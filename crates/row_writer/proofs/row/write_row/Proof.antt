@@ -17,9 +17,6 @@ use Rattle.row_writer.proofs.RowsSent.{Fitting, fitting, payload-packed
 use Rattle.row_writer.proofs.row.write_row.Statement.{statement}
 use Rattle.row_writer.proofs.row.write_row.Tie as tie
 
-refusal-requires : tie.Need-refusal-requires
-refusal-requires c κs = search needs
-
 returns : tie.Need-returns
 returns c =
     let a = c .before .before .before .before .args in
@@ -36,20 +33,8 @@ sized c = ap₂ _+_ (c .before .size .ensures) (c .size2 .ensures) ∙ size-shap
 short : (c : tie.After-size2) → c .before .size .result + c .size2 .result ≤ 255
 short c = omega (arith, sized c, plain-for (c .before .before .before .before .before .before .before .args .kind) .1)
 
-shape-of-requires : tie.Need-shape-of-requires
-shape-of-requires c κs = search needs
-
-size-requires : tie.Need-size-requires
-size-requires c κs = search needs
-
-size-requires-2 : tie.Need-size-requires-2
-size-requires-2 c κs = search needs
-
 add-n : tie.Need-add-n
 add-n c = omega (arith, short c)
-
-slice-aggregate-pack : tie.Need-slice-aggregate-pack
-slice-aggregate-pack c = search needs
 
 pack-requires : tie.Need-pack-requires
 pack-requires c κs =
@@ -64,12 +49,6 @@ array-share-prefix-bytes c = omega (arith, short (c .before .before .before .bef
 
 slice-aggregate-send : tie.Need-slice-aggregate-send
 slice-aggregate-send c = let pack = c .before .before .before in sym (length-take-le _ (pack .pack .last .0) (omega (arith, short (pack .before .before), pack .pack .kept)))
-
-send-requires : tie.Need-send-requires
-send-requires c κs = search needs
-
-same-length : tie.Need-same-length
-same-length c = search needs
 
 returns-2 : tie.Need-returns-2
 returns-2 c =
@@ -89,16 +68,16 @@ pub write-row-spec : {M : Type 1} → statement M
 write-row-spec =
     tie.close
     (tie.spec
-    refusal-requires
+    (λ c κs. tt)
     returns
-    shape-of-requires
-    size-requires
-    size-requires-2
+    (λ c κs. tt)
+    (λ c κs. tt)
+    (λ c κs. tt)
     add-n
-    slice-aggregate-pack
+    (λ c. search needs)
     pack-requires
     array-share-prefix-bytes
     slice-aggregate-send
-    send-requires
-    same-length
+    (λ c κs. tt)
+    (λ c. search needs)
     returns-2)

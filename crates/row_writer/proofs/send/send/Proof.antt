@@ -5,15 +5,6 @@ use Rattle.row_writer.proofs.Sends.{sent-on, sent-not}
 use Rattle.row_writer.proofs.send.send.Statement.{statement}
 use Rattle.row_writer.proofs.send.send.Tie as tie
 
-answer-requires : tie.Need-answer-requires
-answer-requires c κs = search needs
-
-send-frame-requires : tie.Need-send-frame-requires
-send-frame-requires c κs = search needs
-
-same-length : tie.Need-same-length
-same-length c = search needs
-
 returns : tie.Need-returns
 returns c =
     let asked = c .before .before .before .before .before .before in
@@ -26,4 +17,4 @@ returns-2 c =
     sent-not (a .kind) (senderOf (a .sender)) (a .out .now) (a .size .now) (a .payload .now) (c .before .answer .ensures) (c .if1 .left)
 
 pub send-spec : {M : Type 1} → statement M
-send-spec = tie.close (tie.spec answer-requires send-frame-requires same-length returns returns-2)
+send-spec = tie.close (tie.spec (λ c κs. tt) (λ c κs. tt) (λ c. search needs) returns returns-2)

@@ -7,15 +7,6 @@ use Rattle.frame_writer.specs.Writer.{sizeLeft}
 use Rattle.row_writer.proofs.send.send_frame.Statement.{statement}
 use Rattle.row_writer.proofs.send.send_frame.Tie as tie
 
-write-frame-requires : tie.Need-write-frame-requires
-write-frame-requires c κs = search needs
-
-hand-on-requires : tie.Need-hand-on-requires
-hand-on-requires c κs = search needs
-
-same-length : tie.Need-same-length
-same-length c = search needs
-
 returns : tie.Need-returns
 returns c =
     let wrote = c .before .before .before .before in
@@ -27,4 +18,4 @@ returns c =
 pub send-frame-spec : {M : Type 1} → statement M
 send-frame-spec =
     tie.close
-    (tie.spec write-frame-requires hand-on-requires same-length returns)
+    (tie.spec (λ c κs. tt) (λ c κs. tt) (λ c. search needs) returns)

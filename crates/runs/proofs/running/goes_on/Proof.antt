@@ -1,13 +1,9 @@
 -- `runs::running::goes_on` meets its contract.
 use mathlib.Core.Path.{sym, _∙_}
-use borrow.Author.Needs.{needs}
 use borrow.Author.Tests.{eq-eqb, ne-eqb}
 use Rattle.runs.specs.Run.{goesOn}
 use Rattle.runs.proofs.running.goes_on.Statement.{statement}
 use Rattle.runs.proofs.running.goes_on.Tie as tie
-
-wrapping-add-u8-requires : tie.Need-wrapping-add-u8-requires
-wrapping-add-u8-requires c κs = search needs
 
 returns : tie.Need-returns
 unfolding goesOn
@@ -18,4 +14,4 @@ unfolding goesOn
 returns-2 c = rw (c .before .before .wrapping-add-u8 .ensures, ne-eqb _ _ (λ e. c .if1 .left (c .before .before .wrapping-add-u8 .ensures ∙ e)))
 
 pub goes-on-spec : {M : Type 1} → statement M
-goes-on-spec = tie.close (tie.spec wrapping-add-u8-requires returns returns-2)
+goes-on-spec = tie.close (tie.spec (λ c κs. tt) returns returns-2)

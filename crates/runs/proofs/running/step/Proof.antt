@@ -7,36 +7,9 @@ use Rattle.runs.specs.Run.{dropped, goesOn, fits, summed, continued, ste
 use Rattle.runs.proofs.running.step.Statement.{statement}
 use Rattle.runs.proofs.running.step.Tie as tie
 
-cast-goes-on : tie.Need-cast-goes-on
-cast-goes-on c = search needs
-
-goes-on-requires : tie.Need-goes-on-requires
-goes-on-requires c κs = search needs
-
 returns : tie.Need-returns
 unfolding stepped continued
 returns c = rw (eq-eqb _ _ (c .before .before .if1 .taken)) (c .goes-on .ensures)
-
-enum-told : tie.Need-enum-told
-enum-told c = search needs
-
-dropped-requires : tie.Need-dropped-requires
-dropped-requires c κs = search needs
-
-enum-known-run : tie.Need-enum-known-run
-enum-known-run c = search needs
-
-same-key-requires : tie.Need-same-key-requires
-same-key-requires c κs = search needs
-
-cast-wrapping-add-u16 : tie.Need-cast-wrapping-add-u16
-cast-wrapping-add-u16 c = search needs
-
-wrapping-add-u16-requires : tie.Need-wrapping-add-u16-requires
-wrapping-add-u16-requires c κs = search needs
-
-goes-on-requires-2 : tie.Need-goes-on-requires-2
-goes-on-requires-2 c κs = search needs
 
 -- a packet that does not begin a run, where one is open
 opened : (c : tie.After-known-told)
@@ -51,16 +24,10 @@ returns-2 c =
     let same = sym (c .before .before .before .before .before .before .before .same-key .ensures) ∙ c .before .before .before .before .before .before .if2 .taken in
     rw (opened (c .before .before .before .before .before .before .before .before), same, eq-eqb _ _ (c .before .before .before .if3 .taken), ← c .before .wrapping-add-u16 .ensures) (c .goes-on2 .ensures)
 
-dropped-requires-2 : tie.Need-dropped-requires-2
-dropped-requires-2 c κs = search needs
-
 returns-3 : tie.Need-returns-3
 returns-3 c =
     let same = sym (c .before .before .before .before .before .same-key .ensures) ∙ c .before .before .before .before .if2 .taken in
     rw (opened (c .before .before .before .before .before .before), same, ne-eqb _ _ (c .before .if3 .left)) (c .dropped2 .ensures)
-
-dropped-requires-3 : tie.Need-dropped-requires-3
-dropped-requires-3 c κs = search needs
 
 returns-4 : tie.Need-returns-4
 unfolding stepped continued
@@ -75,19 +42,19 @@ pub step-spec : {M : Type 1} → statement M
 step-spec =
     tie.close
     (tie.spec
-    cast-goes-on
-    goes-on-requires
+    (λ c. search needs)
+    (λ c κs. tt)
     returns
-    enum-told
-    dropped-requires
-    enum-known-run
-    same-key-requires
-    cast-wrapping-add-u16
-    wrapping-add-u16-requires
-    goes-on-requires-2
+    (λ c. search needs)
+    (λ c κs. tt)
+    (λ c. search needs)
+    (λ c κs. tt)
+    (λ c. search needs)
+    (λ c κs. tt)
+    (λ c κs. tt)
     returns-2
-    dropped-requires-2
+    (λ c κs. tt)
     returns-3
-    dropped-requires-3
+    (λ c κs. tt)
     returns-4
     returns-5)

@@ -20,26 +20,11 @@ returns-2 c =
     let x : Content = record { kind = a .kind; sender = a .sender; payload = a .payload .now } in
     came (a .state .now) x (a .report .now) (report-short (a .state .now) x (a .report .now) (omega arith) (omega arith))
 
-recognise-in-requires : tie.Need-recognise-in-requires
-recognise-in-requires c κs = search needs
-
-enum-known-recognised : tie.Need-enum-known-recognised
-enum-known-recognised c = search needs
-
-enum-known-recognised-2 : tie.Need-enum-known-recognised-2
-enum-known-recognised-2 c = search needs
-
 take-requires : tie.Need-take-requires
 take-requires c κs =
     let a = c .before .before .before .before .before .before .before .before .before .before .before .args in
     eight (a .state .now) (record { kind = a .kind; sender = a .sender; payload = a .payload .now })
     (sym (c .before .before .before .before .recognise-in .ensures) ∙ ap recognisedAnswer (c .before .before .recognised2 .given .1))
-
-put-ended-requires : tie.Need-put-ended-requires
-put-ended-requires c κs = search needs
-
-same-length : tie.Need-same-length
-same-length c = search needs
 
 returns-3 : tie.Need-returns-3
 returns-3 c =
@@ -49,12 +34,6 @@ returns-3 c =
     (as-collator (a .state .now) x (a .report .now) (omega arith) (omega arith)
     ∙ sym (c .before .before .before .recognise-in .ensures)
     ∙ ap recognisedAnswer (c .before .recognised .given .1))
-
-same-length-2 : tie.Need-same-length-2
-same-length-2 c = search needs
-
-same-length-3 : tie.Need-same-length-3
-same-length-3 c = search needs
 
 returns-4 : tie.Need-returns-4
 returns-4 c =
@@ -73,13 +52,13 @@ feed-spec =
     (tie.spec
     returns
     returns-2
-    recognise-in-requires
-    enum-known-recognised
-    enum-known-recognised-2
+    (λ c κs. tt)
+    (λ c. search needs)
+    (λ c. search needs)
     take-requires
-    put-ended-requires
-    same-length
+    (λ c κs. search needs)
+    (λ c. search needs)
     returns-3
-    same-length-2
-    same-length-3
+    (λ c. search needs)
+    (λ c. search needs)
     returns-4)

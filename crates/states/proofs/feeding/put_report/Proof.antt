@@ -4,24 +4,6 @@ use borrow.Author.Needs.{needs}
 use Rattle.states.proofs.feeding.put_report.Statement.{statement}
 use Rattle.states.proofs.feeding.put_report.Tie as tie
 
-store-u16-requires : tie.Need-store-u16-requires
-store-u16-requires c κs = search needs
-
-store-u16-requires-2 : tie.Need-store-u16-requires-2
-store-u16-requires-2 c κs = search needs
-
-store-u32-requires : tie.Need-store-u32-requires
-store-u32-requires c κs = search needs
-
-store-u8-requires : tie.Need-store-u8-requires
-store-u8-requires c κs = search needs
-
-store-u16-requires-3 : tie.Need-store-u16-requires-3
-store-u16-requires-3 c κs = search needs
-
-same-length : tie.Need-same-length
-same-length c = search needs
-
 returns : tie.Need-returns
 returns c =
     let k5 = c .before .before in
@@ -35,10 +17,10 @@ pub put-report-spec : {M : Type 1} → statement M
 put-report-spec =
     tie.close
     (tie.spec
-    store-u16-requires
-    store-u16-requires-2
-    store-u32-requires
-    store-u8-requires
-    store-u16-requires-3
-    same-length
+    (λ c κs. tt)
+    (λ c κs. tt)
+    (λ c κs. tt)
+    (λ c κs. tt)
+    (λ c κs. tt)
+    (λ c. search needs)
     returns)

@@ -8,18 +8,6 @@ use borrow.Author.Needs.{needs}
 use Rattle.states.proofs.feeding.take.Statement.{statement}
 use Rattle.states.proofs.feeding.take.Tie as tie
 
-place-in-requires : tie.Need-place-in-requires
-place-in-requires c κs = search needs
-
-step-requires : tie.Need-step-requires
-step-requires c κs = search needs
-
-put-place-requires : tie.Need-put-place-requires
-put-place-requires c κs = search needs
-
-same-length : tie.Need-same-length
-same-length c = search needs
-
 returns : tie.Need-returns
 returns c =
     let a = c .before .before .before .before .before .before .before .before .args in
@@ -28,4 +16,4 @@ returns c =
 
 pub take-spec : {M : Type 1} → statement M
 take-spec =
-    tie.close (tie.spec place-in-requires step-requires put-place-requires same-length returns)
+    tie.close (tie.spec (λ c κs. search needs) (λ c κs. tt) (λ c κs. search needs) (λ c. search needs) returns)

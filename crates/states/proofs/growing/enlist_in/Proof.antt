@@ -5,15 +5,6 @@ use borrow.Author.Needs.{needs}
 use Rattle.states.proofs.growing.enlist_in.Statement.{statement}
 use Rattle.states.proofs.growing.enlist_in.Tie as tie
 
-is-obs-requires : tie.Need-is-obs-requires
-is-obs-requires c κs = search needs
-
-join-requires : tie.Need-join-requires
-join-requires c κs = search needs
-
-same-length : tie.Need-same-length
-same-length c = search needs
-
 returns : tie.Need-returns
 returns c =
     let call = c .before .before .before .before .before in
@@ -26,4 +17,4 @@ returns-2 c =
     enlists-none (a .s .now) (a .kind) (a .sender) (sym (c .before .is-obs .ensures) ∙ c .if1 .left)
 
 pub enlist-in-spec : {M : Type 1} → statement M
-enlist-in-spec = tie.close (tie.spec is-obs-requires join-requires same-length returns returns-2)
+enlist-in-spec = tie.close (tie.spec (λ c κs. tt) (λ c κs. tt) (λ c. search needs) returns returns-2)

@@ -7,17 +7,8 @@ use Rattle.states.proofs.growing.grow.Tie as tie
 returns : tie.Need-returns
 returns c = grows-32 (c .before .before .args .state .now) (c .if1 .taken)
 
-slice-aggregate-made : tie.Need-slice-aggregate-made
-slice-aggregate-made c = search needs
-
-made-requires : tie.Need-made-requires
-made-requires c κs = search needs
-
 put-collator-requires : tie.Need-put-collator-requires
 put-collator-requires c κs = grows-few (c .before .before .before .before .before .before .args .state .now) (c .before .before .made .ensures)
-
-same-length : tie.Need-same-length
-same-length c = search needs
 
 returns-2 : tie.Need-returns-2
 returns-2 c =
@@ -29,8 +20,8 @@ grow-spec =
     tie.close
     (tie.spec
     returns
-    slice-aggregate-made
-    made-requires
+    (λ c. search needs)
+    (λ c κs. tt)
     put-collator-requires
-    same-length
+    (λ c. search needs)
     returns-2)

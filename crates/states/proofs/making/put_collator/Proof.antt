@@ -5,21 +5,6 @@ use Rattle.states.specs.State.{seatsStored, placesStored}
 use Rattle.states.proofs.making.put_collator.Statement.{statement}
 use Rattle.states.proofs.making.put_collator.Tie as tie
 
-cast-store-u8 : tie.Need-cast-store-u8
-cast-store-u8 c = search needs
-
-store-u8-requires : tie.Need-store-u8-requires
-store-u8-requires c κs = search needs
-
-put-seats-requires : tie.Need-put-seats-requires
-put-seats-requires c κs = search needs
-
-put-places-requires : tie.Need-put-places-requires
-put-places-requires c κs = search needs
-
-same-length : tie.Need-same-length
-same-length c = search needs
-
 returns : tie.Need-returns
 returns c =
     let counted = c .before .before .before .before .before .before .before .before .before .before .before .before in
@@ -30,4 +15,4 @@ returns c =
 
 pub put-collator-spec : {M : Type 1} → statement M
 put-collator-spec =
-    tie.close (tie.spec cast-store-u8 store-u8-requires put-seats-requires put-places-requires same-length returns)
+    tie.close (tie.spec (λ c. search needs) (λ c κs. tt) (λ c κs. tt) (λ c κs. tt) (λ c. search needs) returns)

@@ -25,9 +25,6 @@ mul-place c = omega arith
 array-copy-out-place : tie.Need-array-copy-out-place Inv-loop μ-loop
 array-copy-out-place c = omega arith
 
-put-place-requires : tie.Need-put-place-requires Inv-loop μ-loop
-put-place-requires c κs = search needs
-
 add-i : tie.Need-add-i Inv-loop μ-loop
 add-i c = omega arith
 
@@ -52,7 +49,7 @@ put-places-spec =
     loop-holds
     mul-place
     array-copy-out-place
-    put-place-requires
+    (λ c κs. search needs)
     add-i
     loop-less
     loop-again

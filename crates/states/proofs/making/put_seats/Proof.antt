@@ -2,7 +2,6 @@
 use mathlib.Core.Path.{_≡_, ap, _∙_}
 use Prim.Native.Nat.{ℕ, _-_, _≤_}
 use native.Mathlib.Omega.{arith}
-use borrow.Author.Needs.{needs}
 use lib.ListN.{length}
 use Rattle.lent_rows.specs.Lent.{firstRowsStored}
 use Rattle.states.specs.State.{seatFields, seatsAt, seatRow}
@@ -31,9 +30,6 @@ mul-store-u16-2 c = omega arith
 array-read-store-u16 : tie.Need-array-read-store-u16 Inv-loop μ-loop
 array-read-store-u16 c = omega arith
 
-store-u16-requires : tie.Need-store-u16-requires Inv-loop μ-loop
-store-u16-requires c κs = search needs
-
 add-i : tie.Need-add-i Inv-loop μ-loop
 add-i c = omega arith
 
@@ -60,7 +56,7 @@ put-seats-spec =
     add-store-u16
     mul-store-u16-2
     array-read-store-u16
-    store-u16-requires
+    (λ c κs. tt)
     add-i
     loop-less
     loop-again

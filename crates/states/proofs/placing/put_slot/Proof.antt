@@ -9,9 +9,6 @@ use Rattle.states.specs.State.{slotFields, slotRow}
 use Rattle.states.proofs.placing.put_slot.Statement.{statement}
 use Rattle.states.proofs.placing.put_slot.Tie as tie
 
-slot-at-requires : tie.Need-slot-at-requires
-slot-at-requires c κs = search needs
-
 add-tow : tie.Need-add-tow
 add-tow c = omega arith
 
@@ -26,27 +23,6 @@ add-next c = omega arith
 
 add-total : tie.Need-add-total
 add-total c = omega arith
-
-store-u8-requires : tie.Need-store-u8-requires
-store-u8-requires c κs = search needs
-
-store-u32-requires : tie.Need-store-u32-requires
-store-u32-requires c κs = search needs
-
-store-u16-requires : tie.Need-store-u16-requires
-store-u16-requires c κs = search needs
-
-store-u8-requires-2 : tie.Need-store-u8-requires-2
-store-u8-requires-2 c κs = search needs
-
-store-u8-requires-3 : tie.Need-store-u8-requires-3
-store-u8-requires-3 c κs = search needs
-
-store-u16-requires-2 : tie.Need-store-u16-requires-2
-store-u16-requires-2 c κs = search needs
-
-same-length : tie.Need-same-length
-same-length c = search needs
 
 returns : tie.Need-returns
 returns c =
@@ -65,17 +41,17 @@ pub put-slot-spec : {M : Type 1} → statement M
 put-slot-spec =
     tie.close
     (tie.spec
-    slot-at-requires
+    (λ c κs. search needs)
     add-tow
     add-wn
     add-n
     add-next
     add-total
-    store-u8-requires
-    store-u32-requires
-    store-u16-requires
-    store-u8-requires-2
-    store-u8-requires-3
-    store-u16-requires-2
-    same-length
+    (λ c κs. tt)
+    (λ c κs. tt)
+    (λ c κs. tt)
+    (λ c κs. tt)
+    (λ c κs. tt)
+    (λ c κs. tt)
+    (λ c. search needs)
     returns)

@@ -9,9 +9,6 @@ use Rattle.states.specs.declared.placing.Slot.{Slot}
 use Rattle.states.proofs.placing.slot_in.Statement.{statement}
 use Rattle.states.proofs.placing.slot_in.Tie as tie
 
-slot-at-requires : tie.Need-slot-at-requires
-slot-at-requires c κs = search needs
-
 add-tow : tie.Need-add-tow
 add-tow c = omega arith
 
@@ -26,24 +23,6 @@ add-next c = omega arith
 
 add-total : tie.Need-add-total
 add-total c = omega arith
-
-read-u8-requires : tie.Need-read-u8-requires
-read-u8-requires c κs = search needs
-
-read-u32-requires : tie.Need-read-u32-requires
-read-u32-requires c κs = search needs
-
-read-u16-requires : tie.Need-read-u16-requires
-read-u16-requires c κs = search needs
-
-read-u8-requires-2 : tie.Need-read-u8-requires-2
-read-u8-requires-2 c κs = search needs
-
-read-u8-requires-3 : tie.Need-read-u8-requires-3
-read-u8-requires-3 c κs = search needs
-
-read-u16-requires-2 : tie.Need-read-u16-requires-2
-read-u16-requires-2 c κs = search needs
 
 returns : tie.Need-returns
 returns c =
@@ -61,16 +40,16 @@ pub slot-in-spec : {M : Type 1} → statement M
 slot-in-spec =
     tie.close
     (tie.spec
-    slot-at-requires
+    (λ c κs. search needs)
     add-tow
     add-wn
     add-n
     add-next
     add-total
-    read-u8-requires
-    read-u32-requires
-    read-u16-requires
-    read-u8-requires-2
-    read-u8-requires-3
-    read-u16-requires-2
+    (λ c κs. tt)
+    (λ c κs. tt)
+    (λ c κs. tt)
+    (λ c κs. tt)
+    (λ c κs. tt)
+    (λ c κs. tt)
     returns)

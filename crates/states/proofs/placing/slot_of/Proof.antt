@@ -5,12 +5,6 @@ use borrow.Author.Needs.{needs}
 use Rattle.states.proofs.placing.slot_of.Statement.{statement}
 use Rattle.states.proofs.placing.slot_of.Tie as tie
 
-enum-told : tie.Need-enum-told
-enum-told c = search needs
-
-enum-known-run : tie.Need-enum-known-run
-enum-known-run c = search needs
-
 returns : tie.Need-returns
 returns c = ap slotFor (sym (c .enum-told .given .1))
 
@@ -18,4 +12,4 @@ returns-2 : tie.Need-returns-2
 returns-2 c = ap slotFor (sym (c .before .before .run .given .1))
 
 pub slot-of-spec : {M : Type 1} → statement M
-slot-of-spec = tie.close (tie.spec enum-told enum-known-run returns returns-2)
+slot-of-spec = tie.close (tie.spec (λ c. search needs) (λ c. search needs) returns returns-2)

@@ -1,14 +1,10 @@
 -- `system::empty::read_read_by_index_done` meets its contract.
-use borrow.Author.Needs.{needs}
 use Rattle.system.specs.Empty.{readByIndexDone}
 use Rattle.system.proofs.empty.read_read_by_index_done.Statement.{statement}
 use Rattle.system.proofs.empty.read_read_by_index_done.Tie as tie
-
-read-empty-requires : tie.Need-read-empty-requires
-read-empty-requires c κs = search needs
 
 returns : tie.Need-returns
 returns c = c .read-empty .ensures (readByIndexDone .kind)
 
 pub read-read-by-index-done-spec : {M : Type 1} → statement M
-read-read-by-index-done-spec = tie.close (tie.spec read-empty-requires returns)
+read-read-by-index-done-spec = tie.close (tie.spec (λ c κs. tt) returns)

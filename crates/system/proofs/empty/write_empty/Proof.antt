@@ -8,21 +8,6 @@ use borrow.Author.Needs.{needs}
 use Rattle.system.proofs.empty.write_empty.Statement.{statement}
 use Rattle.system.proofs.empty.write_empty.Tie as tie
 
-plan-requires : tie.Need-plan-requires
-plan-requires c κs = search needs
-
-enum-told : tie.Need-enum-told
-enum-told c = search needs
-
-seal-requires : tie.Need-seal-requires
-seal-requires c κs = search needs
-
-enum-told-2 : tie.Need-enum-told-2
-enum-told-2 c = search needs
-
-same-length : tie.Need-same-length
-same-length c = search needs
-
 returns : tie.Need-returns
 returns c =
     let at = c .before .before .before .before in
@@ -39,4 +24,4 @@ returns-2 c =
 pub write-empty-spec : {M : Type 1} → statement M
 write-empty-spec =
     tie.close
-    (tie.spec plan-requires enum-told seal-requires enum-told-2 same-length returns returns-2)
+    (tie.spec (λ c κs. tt) (λ c. search needs) (λ c κs. tt) (λ c. search needs) (λ c. search needs) returns returns-2)

@@ -1,6 +1,5 @@
 -- `system::heartbeat::read_heartbeat` meets its contract.
 use mathlib.Core.Path.{refl}
-use borrow.Author.Needs.{needs}
 use Rattle.layouts.proofs.Descriptions.{gives-22, gives}
 use Rattle.system.specs.Heartbeat.{heartbeat}
 use Rattle.system.proofs.heartbeat.read_heartbeat.Statement.{statement}
@@ -9,11 +8,8 @@ use Rattle.system.proofs.heartbeat.read_heartbeat.Tie as tie
 returns : tie.Need-returns
 returns c = gives-22 heartbeat (c .before .before .args .s .now) (c .if1 .taken)
 
-take-heartbeat-requires : tie.Need-take-heartbeat-requires
-take-heartbeat-requires c κs = search needs
-
 returns-2 : tie.Need-returns-2
 returns-2 c = gives heartbeat (c .before .before .before .args .s .now) (c .take-heartbeat .result) (c .before .if1 .left) (c .take-heartbeat .ensures) refl
 
 pub read-heartbeat-spec : {M : Type 1} → statement M
-read-heartbeat-spec = tie.close (tie.spec returns take-heartbeat-requires returns-2)
+read-heartbeat-spec = tie.close (tie.spec returns (λ c κs. tt) returns-2)

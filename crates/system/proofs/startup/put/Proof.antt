@@ -3,14 +3,8 @@ use borrow.Author.Needs.{needs}
 use Rattle.system.proofs.startup.put.Statement.{statement}
 use Rattle.system.proofs.startup.put.Tie as tie
 
-store-u32-requires : tie.Need-store-u32-requires
-store-u32-requires c κs = search needs
-
-same-length : tie.Need-same-length
-same-length c = search needs
-
 returns : tie.Need-returns
 returns c = c .before .before .store-u32 .ensures
 
 pub put-spec : {M : Type 1} → statement M
-put-spec = tie.close (tie.spec store-u32-requires same-length returns)
+put-spec = tie.close (tie.spec (λ c κs. tt) (λ c. search needs) returns)

@@ -3,7 +3,6 @@ use mathlib.Core.Path.{subst⁻¹}
 use mathlib.Core.Bool.{Bool}
 use Prim.Native.Nat.{_+_, _-_}
 use native.Mathlib.Omega.{arith}
-use borrow.Author.Needs.{needs}
 use lib.ListN.{length}
 use Rattle.wire.proofs.Texts.{Clean, none-looked-at, looked-at, looked-at-all}
 use Rattle.wire.proofs.padded.no_zero.Statement.{statement}
@@ -20,9 +19,6 @@ loop-holds c = none-looked-at (c .before .args .s .now)
 
 shared-slice-read-clean-after : tie.Need-shared-slice-read-clean-after Inv-loop μ-loop
 shared-slice-read-clean-after c = omega arith
-
-clean-after-requires : tie.Need-clean-after-requires Inv-loop μ-loop
-clean-after-requires c κs = search needs
 
 add-i : tie.Need-add-i Inv-loop μ-loop
 add-i c = omega arith
@@ -43,4 +39,4 @@ returns c =
     looked-at-all (c .before .before .before .args .s .now) (loop .i) (loop .clean) (loop .inv) (c .loop-test .left)
 
 pub no-zero-spec : {M : Type 1} → statement M
-no-zero-spec = tie.close (tie.spec Inv-loop μ-loop loop-holds shared-slice-read-clean-after clean-after-requires add-i loop-less loop-again returns)
+no-zero-spec = tie.close (tie.spec Inv-loop μ-loop loop-holds shared-slice-read-clean-after (λ c κs. tt) add-i loop-less loop-again returns)

@@ -9,21 +9,6 @@ use Rattle.wire.proofs.Texts.{whole-text}
 use Rattle.wire.proofs.padded.text_length.Statement.{statement}
 use Rattle.wire.proofs.padded.text_length.Tie as tie
 
-trimmed-requires : tie.Need-trimmed-requires
-trimmed-requires c κs = search needs
-
-sub-no-zero : tie.Need-sub-no-zero
-sub-no-zero c = search needs
-
-part-no-zero-start : tie.Need-part-no-zero-start
-part-no-zero-start c = search needs
-
-part-no-zero-end : tie.Need-part-no-zero-end
-part-no-zero-end c = search needs
-
-no-zero-requires : tie.Need-no-zero-requires
-no-zero-requires c κs = search needs
-
 returns : tie.Need-returns
 returns c =
     let t = c .before .before .before in
@@ -32,11 +17,8 @@ returns c =
     let none = ap (λ (k : ℕ). noZero (take k s)) (sym (sub-zero n)) ∙ sym (c .before .no-zero .ensures) ∙ c .if1 .taken in
     whole-text s n (t .trimmed .ensures .0) none (t .trimmed .ensures .1)
 
-first-zero-requires : tie.Need-first-zero-requires
-first-zero-requires c κs = search needs
-
 returns-2 : tie.Need-returns-2
 returns-2 c = c .first-zero .ensures
 
 pub text-length-spec : {M : Type 1} → statement M
-text-length-spec = tie.close (tie.spec trimmed-requires sub-no-zero part-no-zero-start part-no-zero-end no-zero-requires returns first-zero-requires returns-2)
+text-length-spec = tie.close (tie.spec (λ c κs. tt) (λ c. search needs) (λ c. search needs) (λ c. search needs) (λ c κs. tt) returns (λ c κs. tt) returns-2)

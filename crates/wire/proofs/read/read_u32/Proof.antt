@@ -8,27 +8,6 @@ use Rattle.wire.proofs.read.read_u32.Tie as tie
 returns : tie.Need-returns
 returns c = sym (number-past 4 (c .before .before .args .s .now) (c .before .before .args .at) (c .if1 .taken))
 
-read-u16-requires : tie.Need-read-u16-requires
-read-u16-requires c κs = search needs
-
-cast-result : tie.Need-cast-result
-cast-result c = search needs
-
-add-read-u16 : tie.Need-add-read-u16
-add-read-u16 c = search needs
-
-read-u16-requires-2 : tie.Need-read-u16-requires-2
-read-u16-requires-2 c κs = search needs
-
-cast-result-2 : tie.Need-cast-result-2
-cast-result-2 c = search needs
-
-mul-result : tie.Need-mul-result
-mul-result c = search needs
-
-add-result : tie.Need-add-result
-add-result c = search needs
-
 returns-2 : tie.Need-returns-2
 returns-2 c =
     let a = c .before .before .before .before .args in
@@ -39,11 +18,11 @@ read-u32-spec =
     tie.close
     (tie.spec
     returns
-    read-u16-requires
-    cast-result
-    add-read-u16
-    read-u16-requires-2
-    cast-result-2
-    mul-result
-    add-result
+    (λ c κs. tt)
+    (λ c. search needs)
+    (λ c. search needs)
+    (λ c κs. tt)
+    (λ c. search needs)
+    (λ c. search needs)
+    (λ c. search needs)
     returns-2)

@@ -8,11 +8,8 @@ use Rattle.wire.proofs.read.read_u8.Tie as tie
 returns : tie.Need-returns
 returns c = sym (number-past 1 (c .before .args .s .now) (c .before .args .at) (c .if1 .taken))
 
-shared-slice-read-result : tie.Need-shared-slice-read-result
-shared-slice-read-result c = search needs
-
 returns-2 : tie.Need-returns-2
 returns-2 c = number-byte (c .before .before .args .s .now) (c .before .before .args .at) (c .before .if1 .left)
 
 pub read-u8-spec : {M : Type 1} → statement M
-read-u8-spec = tie.close (tie.spec returns shared-slice-read-result returns-2)
+read-u8-spec = tie.close (tie.spec returns (λ c. search needs) returns-2)

@@ -7,17 +7,8 @@ use Rattle.wire.proofs.Signed.{turned-twice}
 use Rattle.wire.proofs.read.signed_16.Statement.{statement}
 use Rattle.wire.proofs.read.signed_16.Tie as tie
 
-cast-result : tie.Need-cast-result
-cast-result c = search needs
-
-cast-result-2 : tie.Need-cast-result-2
-cast-result-2 c = search needs
-
-returns : tie.Need-returns
-returns c = search needs
-
 returns-2 : tie.Need-returns-2
 returns-2 c = ap (toZ w16) (turned-twice w16 (c .before .args .n) (c .before .fits .n))
 
 pub signed-16-spec : {M : Type 1} → statement M
-signed-16-spec = tie.close (tie.spec cast-result cast-result-2 returns returns-2)
+signed-16-spec = tie.close (tie.spec (λ c. search needs) (λ c. search needs) (λ c. search needs) returns-2)

@@ -2,7 +2,6 @@
 use mathlib.Core.Path.{sym, _∙_}
 use Prim.Native.Nat.{_+_, _-_}
 use native.Mathlib.Omega.{arith}
-use borrow.Author.Needs.{needs}
 use borrow.Author.Tests.{leb-true, leb-false}
 use lib.ListN.{length}
 use Rattle.wire.proofs.Stored.{bytes-sets, bytes-nowhere}
@@ -15,9 +14,6 @@ Inv-loop buf₀ at bytes i₀ buf i = Copied at buf₀ bytes buf i
 
 abbrev μ-loop : tie.MeasureT-loop
 μ-loop buf₀ at bytes i₀ buf i = length bytes - i
-
-room-requires : tie.Need-room-requires Inv-loop μ-loop
-room-requires c κs = search needs
 
 loop-holds : tie.Need-loop-holds Inv-loop μ-loop
 loop-holds c = let a = c .before .before .before .before .args in copied-none (a .at) (a .buf .now) (a .bytes .now)
@@ -76,7 +72,7 @@ store-bytes-spec =
     (tie.spec
     Inv-loop
     μ-loop
-    room-requires
+    (λ c κs. tt)
     loop-holds
     shared-slice-read-buf
     add-buf

@@ -9,28 +9,10 @@ use Rattle.wire.proofs.Numbers.{stored-halves, stored-nowhere}
 use Rattle.wire.proofs.store.store_u64.Statement.{statement}
 use Rattle.wire.proofs.store.store_u64.Tie as tie
 
-room-requires : tie.Need-room-requires
-room-requires c κs = search needs
-
-cast-store-u32 : tie.Need-cast-store-u32
-cast-store-u32 c = search needs
-
-store-u32-requires : tie.Need-store-u32-requires
-store-u32-requires c κs = search needs
-
 add-store-u32 : tie.Need-add-store-u32
 add-store-u32 c =
     let a = c .before .before .before .before .before .before .before .before .args in
     omega (arith, leb-true (a .at + 8) (length (a .buf .now)) (sym (c .before .before .before .before .before .before .room .ensures) ∙ c .before .before .before .before .before .if1 .taken))
-
-cast-store-u32-2 : tie.Need-cast-store-u32-2
-cast-store-u32-2 c = search needs
-
-store-u32-requires-2 : tie.Need-store-u32-requires-2
-store-u32-requires-2 c κs = search needs
-
-same-length : tie.Need-same-length
-same-length c = search needs
 
 returns : tie.Need-returns
 returns c =
@@ -46,12 +28,12 @@ pub store-u64-spec : {M : Type 1} → statement M
 store-u64-spec =
     tie.close
     (tie.spec
-    room-requires
-    cast-store-u32
-    store-u32-requires
+    (λ c κs. tt)
+    (λ c. search needs)
+    (λ c κs. tt)
     add-store-u32
-    cast-store-u32-2
-    store-u32-requires-2
-    same-length
+    (λ c. search needs)
+    (λ c κs. tt)
+    (λ c. search needs)
     returns
     returns-2)

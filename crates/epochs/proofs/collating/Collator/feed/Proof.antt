@@ -11,15 +11,6 @@ use borrow.Author.Needs.{needs}
 use Rattle.epochs.proofs.collating.Collator.feed.Statement.{statement}
 use Rattle.epochs.proofs.collating.Collator.feed.Tie as tie
 
-recognise-requires : tie.Need-recognise-requires
-recognise-requires c κs = search needs
-
-enum-known-found : tie.Need-enum-known-found
-enum-known-found c = search needs
-
-enum-known-found-2 : tie.Need-enum-known-found-2
-enum-known-found-2 c = search needs
-
 -- the frame is a packet for a place, which is one of the eight
 for : (c : tie.After-known-told2)
     → forPlace (rosterOf (c .before .before .before .before .before .before .args .t1)) (record { kind = c .before .before .before .before .before .before .args .kind; sender = c .before .before .before .before .before .before .args .sender; payload = c .before .before .before .before .before .before .args .payload .now })
@@ -38,17 +29,11 @@ mul-place c = omega (arith, within c)
 element-copy-out-place : tie.Need-element-copy-out-place
 element-copy-out-place c = within c
 
-step-requires : tie.Need-step-requires
-step-requires c κs = search needs
-
 mul-t20 : tie.Need-mul-t20
 mul-t20 c = omega (arith, within (c .before .before))
 
 element-set-from-self : tie.Need-element-set-from-self
 element-set-from-self c = within (c .before .before)
-
-outcome-requires : tie.Need-outcome-requires
-outcome-requires c κs = search needs
 
 returns : tie.Need-returns
 returns c =
@@ -64,14 +49,14 @@ pub feed-spec : {M : Type 1} → statement M
 feed-spec =
     tie.close
     (tie.spec
-    recognise-requires
-    enum-known-found
-    enum-known-found-2
+    (λ c κs. tt)
+    (λ c. search needs)
+    (λ c. search needs)
     mul-place
     element-copy-out-place
-    step-requires
+    (λ c κs. tt)
     mul-t20
     element-set-from-self
-    outcome-requires
+    (λ c κs. tt)
     returns
     returns-2)

@@ -6,36 +6,17 @@ use lib.ListN.{length, replicate}
 use Rattle.epochs.specs.Collator.{idle}
 use Rattle.epochs.specs.declared.collating.Collator.{Collator}
 use Rattle.epochs.proofs.Making.{made-empty, made-long, made-twice, made-whole}
-use borrow.Author.Needs.{needs}
 use Rattle.epochs.proofs.collating.Collator.made.Statement.{statement}
 use Rattle.epochs.proofs.collating.Collator.made.Tie as tie
-
-fresh-requires : tie.Need-fresh-requires
-fresh-requires c κs = search needs
 
 returns : tie.Need-returns
 returns c = made-empty (c .before .before .before .args .roster .now) (c .before .if1 .taken) (c .fresh .ensures)
 
-fresh-requires-2 : tie.Need-fresh-requires-2
-fresh-requires-2 c κs = search needs
-
 returns-2 : tie.Need-returns-2
 returns-2 c = made-long (c .before .before .before .before .args .roster .now) (c .before .if2 .taken) (c .fresh2 .ensures)
 
-repeated-requires : tie.Need-repeated-requires
-repeated-requires c κs = search needs
-
-fresh-requires-3 : tie.Need-fresh-requires-3
-fresh-requires-3 c κs = search needs
-
 returns-3 : tie.Need-returns-3
 returns-3 c = made-twice (c .before .before .before .before .before .before .args .roster .now) (c .before .before .before .before .if1 .left) (c .before .before .before .if2 .left) (sym (c .before .before .repeated .ensures) ∙ c .before .if3 .taken) (c .fresh3 .ensures)
-
-seats-requires : tie.Need-seats-requires
-seats-requires c κs = search needs
-
-fresh-requires-4 : tie.Need-fresh-requires-4
-fresh-requires-4 c κs = search needs
 
 returns-4 : tie.Need-returns-4
 returns-4 c =
@@ -47,13 +28,13 @@ pub made-spec : {M : Type 1} → statement M
 made-spec =
     tie.close
     (tie.spec
-    fresh-requires
+    (λ c κs. tt)
     returns
-    fresh-requires-2
+    (λ c κs. tt)
     returns-2
-    repeated-requires
-    fresh-requires-3
+    (λ c κs. tt)
+    (λ c κs. tt)
     returns-3
-    seats-requires
-    fresh-requires-4
+    (λ c κs. tt)
+    (λ c κs. tt)
     returns-4)

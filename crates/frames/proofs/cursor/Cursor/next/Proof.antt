@@ -2,7 +2,6 @@
 use mathlib.Core.Path.{_≡_, refl, sym, _∙_}
 use Prim.Native.Nat.{_-_}
 use native.Mathlib.Omega.{arith}
-use borrow.Author.Needs.{needs}
 use lib.ListN.{length}
 use Rattle.frames.specs.Cursors.{nextOf}
 use Rattle.frames.proofs.GoingOn.{passed-on, comes-further, next-kept, next-given}
@@ -16,23 +15,11 @@ Inv-loop s table c₀ c = nextOf s c ≡ nextOf s c₀
 abbrev μ-loop : tie.MeasureT-loop
 μ-loop s table c₀ c = length s - c .at
 
-entries-requires : tie.Need-entries-requires Inv-loop μ-loop
-entries-requires c κs = search needs
-
 loop-holds : tie.Need-loop-holds Inv-loop μ-loop
 loop-holds c = refl
 
 step-by-requires : tie.Need-step-by-requires Inv-loop μ-loop
 step-by-requires c κs = c .before .before .entries .ensures
-
-passes-requires : tie.Need-passes-requires Inv-loop μ-loop
-passes-requires c κs = search needs
-
-over-requires : tie.Need-over-requires Inv-loop μ-loop
-over-requires c κs = search needs
-
-past-junk-requires : tie.Need-past-junk-requires Inv-loop μ-loop
-past-junk-requires c κs = search needs
 
 loop-less : tie.Need-loop-less Inv-loop μ-loop
 loop-less c =
@@ -54,9 +41,6 @@ loop-again c =
     ∙ next-kept (start .args .s .now) (start .good .1 .0 .0) (k .c) (c .before .before .before .before .step-by .ensures) (c .before .over .ensures) (sym (c .before .before .before .passes .ensures) ∙ c .before .before .if1 .taken)
     ∙ k .inv
 
-ended-requires : tie.Need-ended-requires Inv-loop μ-loop
-ended-requires c κs = search needs
-
 returns : tie.Need-returns Inv-loop μ-loop
 returns c =
     let start = c .before .before .before .before .before .before .before .before in
@@ -69,13 +53,13 @@ next-spec =
     (tie.spec
     Inv-loop
     μ-loop
-    entries-requires
+    (λ c κs. tt)
     loop-holds
     step-by-requires
-    passes-requires
-    over-requires
-    past-junk-requires
+    (λ c κs. tt)
+    (λ c κs. tt)
+    (λ c κs. tt)
     loop-less
     loop-again
-    ended-requires
+    (λ c κs. tt)
     returns)

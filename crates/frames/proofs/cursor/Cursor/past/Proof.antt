@@ -1,22 +1,6 @@
 -- `frames::cursor::Cursor::past` meets its contract: its five sums.
-use borrow.Author.Needs.{needs}
 use Rattle.frames.proofs.cursor.Cursor.past.Statement.{statement}
 use Rattle.frames.proofs.cursor.Cursor.past.Tie as tie
-
-wrapping-add-usize-requires : tie.Need-wrapping-add-usize-requires
-wrapping-add-usize-requires c κs = search needs
-
-wrapping-add-usize-requires-2 : tie.Need-wrapping-add-usize-requires-2
-wrapping-add-usize-requires-2 c κs = search needs
-
-wrapping-add-usize-requires-3 : tie.Need-wrapping-add-usize-requires-3
-wrapping-add-usize-requires-3 c κs = search needs
-
-wrapping-add-usize-requires-4 : tie.Need-wrapping-add-usize-requires-4
-wrapping-add-usize-requires-4 c κs = search needs
-
-wrapping-add-usize-requires-5 : tie.Need-wrapping-add-usize-requires-5
-wrapping-add-usize-requires-5 c κs = search needs
 
 returns : tie.Need-returns
 returns c =
@@ -32,9 +16,9 @@ pub past-spec : {M : Type 1} → statement M
 past-spec =
     tie.close
     (tie.spec
-    wrapping-add-usize-requires
-    wrapping-add-usize-requires-2
-    wrapping-add-usize-requires-3
-    wrapping-add-usize-requires-4
-    wrapping-add-usize-requires-5
+    (λ c κs. tt)
+    (λ c κs. tt)
+    (λ c κs. tt)
+    (λ c κs. tt)
+    (λ c κs. tt)
     returns)

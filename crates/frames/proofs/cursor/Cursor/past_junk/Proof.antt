@@ -9,20 +9,8 @@ use Rattle.frames.proofs.cursor.Cursor.past_junk.Tie as tie
 returns : tie.Need-returns
 returns c = let a = c .before .before .args in past-junk-end (a .s .now) (a .self) (c .if1 .taken)
 
-shared-slice-read-if2 : tie.Need-shared-slice-read-if2
-shared-slice-read-if2 c = search needs
-
 returns-2 : tie.Need-returns-2
 returns-2 c = let a = c .before .before .before .before .args in past-junk-mark (a .s .now) (a .self) (c .before .before .if1 .left) (c .if2 .taken)
-
-junk-run-requires : tie.Need-junk-run-requires
-junk-run-requires c κs = search needs
-
-tally-requires : tie.Need-tally-requires
-tally-requires c κs = search needs
-
-past-requires : tie.Need-past-requires
-past-requires c κs = search needs
 
 returns-3 : tie.Need-returns-3
 returns-3 c =
@@ -37,9 +25,9 @@ past-junk-spec =
     tie.close
     (tie.spec
     returns
-    shared-slice-read-if2
+    (λ c. search needs)
     returns-2
-    junk-run-requires
-    tally-requires
-    past-requires
+    (λ c κs. search needs)
+    (λ c κs. tt)
+    (λ c κs. tt)
     returns-3)

@@ -1,13 +1,9 @@
 -- `wire::double::Double::of_bits` meets its contract, by cases on the pattern.
 use mathlib.Core.Path.{sym, _∙_}
-use borrow.Author.Needs.{needs}
 use lib.Ieee.{div, ofBits}
 use Rattle.wire.proofs.Doubles.{of-nan, of-number, fails}
 use Rattle.wire.proofs.double.Double.of_bits.Statement.{statement}
 use Rattle.wire.proofs.double.Double.of_bits.Tie as tie
-
-is-nan-pattern-requires : tie.Need-is-nan-pattern-requires
-is-nan-pattern-requires c κs = search needs
 
 -- 0.0 / 0.0 is the NaN
 returns : tie.Need-returns
@@ -21,4 +17,4 @@ returns-2 : tie.Need-returns-2
 returns-2 c = sym (of-number (c .before .before .args .n) (sym (c .before .is-nan-pattern .ensures) ∙ c .if1 .left))
 
 pub of-bits-spec : {M : Type 1} → statement M
-of-bits-spec = tie.close (tie.spec is-nan-pattern-requires returns float-from-bits-t4 returns-2)
+of-bits-spec = tie.close (tie.spec (λ c κs. tt) returns float-from-bits-t4 returns-2)
