@@ -8,7 +8,7 @@ use Rattle.refusals.proofs.Ordered.{exactly-first, exactly-all}
 use Rattle.frame_writer.specs.Writer.{planned, withFrame}
 use Rattle.frame_writer.specs.Faithful.{writeAnswer, writtenAs}
 use Rattle.observation.specs.Obs.{readEntry, readEntryOf, readObs}
-use Rattle.observation.specs.ObsWriter.{obsWriteAnswer, obsWritten}
+use Rattle.obs_writer.specs.ObsWriter.{obsWriteAnswer, obsWritten}
 use Rattle.phases.specs.Phase.{readPhase}
 use Rattle.logs.specs.Log.{readLog}
 use Rattle.obs_reader.specs.declared.ObsReader.{ObsReader}

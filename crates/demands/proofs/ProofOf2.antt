@@ -9,7 +9,7 @@ use Rattle.frames.proofs.Frames.{found-bytes}
 use Rattle.frames.proofs.Tiling.{closed-tiled, only-closed, open-closed, each-once, adds-up}
 use Rattle.frame_writer.proofs.WrittenRead.{reads-back-at}
 use Rattle.frame_writer.proofs.WrittenStream.{closed-stream, stream-payloads}
-use Rattle.observation.proofs.ObsThrough.{obs-faithful}
+use Rattle.obs_writer.proofs.ObsThrough.{obs-faithful}
 use Rattle.phases.proofs.Phases.{phase-parts, parts-phase}
 use Rattle.logs.proofs.Logs.{log-faithful}
 use Rattle.obs_reader.proofs.HandedOut.{whole-walk}

@@ -18,7 +18,7 @@ use Rattle.frame_writer.specs.Writer.{writingFrame, planned, withFrame}
 use Rattle.frame_writer.specs.Faithful.{writing, writeAnswer, writtenAs}
 use Rattle.observation.specs.Edition.{first, startOf, Head}
 use Rattle.observation.specs.Obs.{entryAt, oneObservation, oneOfFrame, readEntry, readEntryOf, obsIn, readingObs, readObs}
-use Rattle.observation.specs.ObsWriter.{writingObs, obsWriteAnswer, obsWritten}
+use Rattle.obs_writer.specs.ObsWriter.{writingObs, obsWriteAnswer, obsWritten}
 use Rattle.phases.specs.Phase.{partsOf, phaseRange, readPhase}
 use Rattle.observation.specs.declared.entry.Observation.{Observation}
 use Rattle.logs.specs.Log.{log, shown, readLog}

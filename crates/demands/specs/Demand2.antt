@@ -22,7 +22,7 @@ use Rattle.frames.specs.declared.step.Step.{Step}
 use Rattle.frames.specs.declared.step.Step.the-variants.{Found}
 use Rattle.observation.specs.Edition.{first}
 use Rattle.observation.specs.Obs.{readObs}
-use Rattle.observation.specs.ObsFaithful.{ObsFaithful}
+use Rattle.obs_writer.specs.ObsFaithful.{ObsFaithful}
 use Rattle.phases.specs.Phase.{phaseOf, partsOf}
 use Rattle.phases.specs.declared.phase.Phase.{Phase}
 use Rattle.logs.specs.Log as system

@@ -15,6 +15,9 @@ module _ {M : Type 1} (𝓤 : URA M) (H : Heap 𝓤) (A : Atoms 𝓤) (mem : Mem
   pub wire : public.Wire 𝓤 H A mem run
   wire = search determinations
 
+  pub padded : public.Padded 𝓤 H A mem run
+  padded = search determinations
+
   pub text : public.Text 𝓤 H A mem run
   text = search determinations
 
@@ -45,6 +48,9 @@ module _ {M : Type 1} (𝓤 : URA M) (H : Heap 𝓤) (A : Atoms 𝓤) (mem : Mem
   pub observation : public.Observation 𝓤 H A mem run
   observation = search determinations
 
+  pub obs-writer : public.ObsWriter 𝓤 H A mem run
+  obs-writer = search determinations
+
   pub base-positions : public.BasePositions 𝓤 H A mem run
   base-positions = search determinations
 
@@ -68,6 +74,9 @@ module _ {M : Type 1} (𝓤 : URA M) (H : Heap 𝓤) (A : Atoms 𝓤) (mem : Mem
 
   pub payloads : public.Payloads 𝓤 H A mem run
   payloads = search determinations
+
+  pub readings : public.Readings 𝓤 H A mem run
+  readings = search determinations
 
   pub row-reader : public.RowReader 𝓤 H A mem run
   row-reader = search determinations

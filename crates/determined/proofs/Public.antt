@@ -11,6 +11,7 @@ use ghost.Atoms.{Atoms}
 use contract.Monad.{Fun}
 use denote.Ref.{now}
 use Rattle.wire.proofs as wire
+use Rattle.padded.proofs as padded
 use Rattle.text.proofs as text
 use Rattle.crc.proofs as crc
 use Rattle.formats.proofs as formats
@@ -21,6 +22,7 @@ use Rattle.navigation.proofs as navigation
 use Rattle.baselines.proofs as baselines
 use Rattle.phases.proofs as phases
 use Rattle.observation.proofs as observation
+use Rattle.obs_writer.proofs as obs_writer
 use Rattle.base_positions.proofs as base_positions
 use Rattle.times.proofs as times
 use Rattle.orbits.proofs as orbits
@@ -29,6 +31,7 @@ use Rattle.logs.proofs as logs
 use Rattle.system.proofs as system
 use Rattle.obs_reader.proofs as obs_reader
 use Rattle.payloads.proofs as payloads
+use Rattle.readings.proofs as readings
 use Rattle.row_reader.proofs as row_reader
 use Rattle.row_writer.proofs as row_writer
 use Rattle.packets.proofs as packets
@@ -47,9 +50,6 @@ module _ {M : Type 1} (𝓤 : URA M) (H : Heap 𝓤) (A : Atoms 𝓤) (mem : Mem
   pub record Wire : Type 1 where
     pub flag : Determined 𝓤 wire.flag.ended (wire.flag.clauses 𝓤 H A mem run)
     pub room : Determined 𝓤 wire.room.ended (wire.room.clauses 𝓤 H A mem run)
-    pub text-length : Determined 𝓤 wire.text_length.ended (wire.text_length.clauses 𝓤 H A mem run)
-    pub no-zero : Determined 𝓤 wire.no_zero.ended (wire.no_zero.clauses 𝓤 H A mem run)
-    pub all-zero : Determined 𝓤 wire.all_zero.ended (wire.all_zero.clauses 𝓤 H A mem run)
     pub of-bits : Determined 𝓤 wire.double.Double.of_bits.ended (wire.double.Double.of_bits.clauses 𝓤 H A mem run)
     pub bits : Determined 𝓤 wire.double.Double.bits.ended (wire.double.Double.bits.clauses 𝓤 H A mem run)
     pub read-u8 : Determined 𝓤 wire.read_u8.ended (wire.read_u8.clauses 𝓤 H A mem run)
@@ -67,7 +67,12 @@ module _ {M : Type 1} (𝓤 : URA M) (H : Heap 𝓤) (A : Atoms 𝓤) (mem : Mem
     pub store-s32 : Determined 𝓤 wire.store_s32.ended (wire.store_s32.clauses 𝓤 H A mem run)
     pub store-double : Determined 𝓤 wire.store_double.ended (wire.store_double.clauses 𝓤 H A mem run)
     pub store-bytes : Determined 𝓤 wire.store_bytes.ended (wire.store_bytes.clauses 𝓤 H A mem run)
-    pub store-zeros : Determined 𝓤 wire.store_zeros.ended (wire.store_zeros.clauses 𝓤 H A mem run)
+
+  pub record Padded : Type 1 where
+    pub text-length : Determined 𝓤 padded.text_length.ended (padded.text_length.clauses 𝓤 H A mem run)
+    pub no-zero : Determined 𝓤 padded.no_zero.ended (padded.no_zero.clauses 𝓤 H A mem run)
+    pub all-zero : Determined 𝓤 padded.all_zero.ended (padded.all_zero.clauses 𝓤 H A mem run)
+    pub store-zeros : Determined 𝓤 padded.store_zeros.ended (padded.store_zeros.clauses 𝓤 H A mem run)
 
   pub record Text : Type 1 where
     pub put-line : Determined 𝓤 text.put_line.ended (text.put_line.clauses 𝓤 H A mem run)
@@ -154,7 +159,9 @@ module _ {M : Type 1} (𝓤 : URA M) (H : Heap 𝓤) (A : Atoms 𝓤) (mem : Mem
     pub is-obs : Determined 𝓤 observation.is_obs.ended (observation.is_obs.clauses 𝓤 H A mem run)
     pub is-obs-length : Determined 𝓤 observation.is_obs_length.ended (observation.is_obs_length.clauses 𝓤 H A mem run)
     pub read-obs : Determined 𝓤 observation.read_obs.ended (observation.read_obs.clauses 𝓤 H A mem run)
-    pub write-obs : Determined 𝓤 observation.write_obs.ended (observation.write_obs.clauses 𝓤 H A mem run)
+
+  pub record ObsWriter : Type 1 where
+    pub write-obs : Determined 𝓤 obs_writer.write_obs.ended (obs_writer.write_obs.clauses 𝓤 H A mem run)
 
   pub record BasePositions : Type 1 where
     pub take-base-pos-ecef : Determined 𝓤 base_positions.take_base_pos_ecef.ended (base_positions.take_base_pos_ecef.clauses 𝓤 H A mem run)
@@ -226,9 +233,11 @@ module _ {M : Type 1} (𝓤 : URA M) (H : Heap 𝓤) (A : Atoms 𝓤) (mem : Mem
 
   pub record Payloads : Type 1 where
     pub answer : Determined 𝓤 payloads.answer.ended (payloads.answer.clauses 𝓤 H A mem run)
-    pub read : Determined 𝓤 payloads.read.ended (payloads.read.clauses 𝓤 H A mem run)
     pub is-known : Determined 𝓤 payloads.is_known.ended (payloads.is_known.clauses 𝓤 H A mem run)
     pub shape-of : Determined 𝓤 payloads.shape_of.ended (payloads.shape_of.clauses 𝓤 H A mem run)
+
+  pub record Readings : Type 1 where
+    pub read : Determined 𝓤 readings.read.ended (readings.read.clauses 𝓤 H A mem run)
 
   pub record RowReader : Type 1 where
     pub read-row : Determined 𝓤 row_reader.read_row.ended (row_reader.read_row.clauses 𝓤 H A mem run)

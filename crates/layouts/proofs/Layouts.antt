@@ -10,13 +10,13 @@ use lib.ListN.{length, getD, take, drop, length-append, length-drop, take-append
 use lib.Seq.{sets, drop-drop, drop-at, length-take-le, length-sets}
 use borrow.Author.Tests.{le-leb, lt-leb, leb-true, eq-eqb, eqb-true}
 use Rattle.wire.specs.Number.{Bytes, bytesStored}
-use Rattle.wire.specs.Padded.{noZero, allZero}
+use Rattle.padded.specs.Padded.{noZero, allZero}
 use Rattle.layouts.specs.Field.{Field, Row, HeldRow, SettledRow, allowedRow, rowBits, size, encode, decode, rowStored}
 use Rattle.layouts.specs.Layout as lay
 use Rattle.layouts.specs.Layout.{Layout, HeldRows, SettledRows, allowedRows, rowsBits, encodeRows, decodeRows, rowsStored, countIn, Body, HeldBody, SettledBody, allowedBody, fewEnough, bodyBits, bodySize, lengths, LengthOf, encodeBody, decodeBody, bodyStored, Sound}
 use Rattle.wire.proofs.Numbers.{bytes-take, bytes-drop, sets-append}
 use Rattle.wire.proofs.Stored.{bytes-sets, length-bytes-stored}
-use Rattle.wire.proofs.Texts.{before-from, length-split, split-joined}
+use Rattle.padded.proofs.Texts.{before-from, length-split, split-joined}
 use Rattle.layouts.proofs.Fields.{again, again-bits, again-settled, allowed-again-row, length-encode, decode-encode, encode-decode, decode-settled, decode-drop, decode-take, decode-append, row-sets, length-row}
 
 -- ---- rows one after the other

@@ -7,7 +7,7 @@ use mathlib.Core.List.{List, [], _∷_, _++_}
 use lib.Dec.{leb, eqb}
 use lib.ListN.{length, drop}
 use Rattle.wire.specs.Number.{Bytes, bytesStored}
-use Rattle.wire.specs.Padded.{beforeZero, fromZero, noZero, allZero}
+use Rattle.padded.specs.Padded.{beforeZero, fromZero, noZero, allZero}
 use Rattle.layouts.specs.Field.{Field, Row, HeldRow, SettledRow, allowedRow, rowBits, size, encode, decode, rowStored}
 
 pub data Layout : Type 0 where

@@ -7,7 +7,7 @@ use native.Mathlib.Omega.{arith}
 use lib.Dec.{eqb}
 use lib.ListN.{getD}
 use borrow.Author.Tests.{eq-eqb, ne-eqb, eqb-true, eqb-false}
-use Rattle.wire.specs.Padded.{fromZero, allZero}
+use Rattle.padded.specs.Padded.{fromZero, allZero}
 
 -- some byte is not zero
 some-left : (s : List ℕ) → allZero s ≡ false → (j : ℕ) × (getD s j 0 ≡ 0 → ⊥)

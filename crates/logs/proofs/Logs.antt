@@ -10,13 +10,13 @@ use lib.ListN.{length, getD, take, drop, length-replicate}
 use lib.Seq.{getD-drop}
 use borrow.Author.Tests.{leb-false, eqb-false}
 use Rattle.wire.specs.Number.{Bytes, numberAt}
-use Rattle.wire.specs.Padded.{beforeZero, fromZero, noZero, zeros}
+use Rattle.padded.specs.Padded.{beforeZero, fromZero, noZero, zeros}
 use Rattle.layouts.specs.Layout.{allowedBody, fewEnough, bodySize, decodeBody, bodyStored}
 use Rattle.layouts.specs.Description.{inside, reading, readAs}
 use Rattle.refusals.specs.Refusals.{refused, given, Answer, ordered, FirstFails, AllPass}
 use Rattle.refusals.proofs.Ordered.{exactly-first, exactly-all}
 use Rattle.wire.proofs.Lent.{lentFrom, lent-all}
-use Rattle.wire.proofs.Texts.{before-from, length-split, before-take, from-drop, no-zero-before, split-joined, all-zeros, only-zeros, bytes-zeros}
+use Rattle.padded.proofs.Texts.{before-from, length-split, before-take, from-drop, no-zero-before, split-joined, all-zeros, only-zeros, bytes-zeros}
 use Rattle.frames.specs.Step.{payloadIn}
 use Rattle.frame_writer.specs.Writer.{planned, sealed, writingFrame, withFrame}
 use Rattle.frame_writer.specs.Faithful.{Faithful, writeAnswer, writtenAs, frameWritten}

@@ -5,7 +5,7 @@ use mathlib.Core.Path.{refl}
 use mathlib.Core.Bool.{Bool}
 use mathlib.Core.List.{List, [], _∷_}
 use lib.ListN.{length, drop}
-use Rattle.wire.specs.Padded.{beforeZero, fromZero, allZero, zeros}
+use Rattle.padded.specs.Padded.{beforeZero, fromZero, allZero, zeros}
 use Rattle.wire.specs.Value.{u8}
 use Rattle.layouts.specs.Field.{any}
 use Rattle.layouts.specs.Layout.{then, text, lengths}

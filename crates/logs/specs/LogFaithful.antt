@@ -7,7 +7,7 @@ use mathlib.Core.List.{List, _∷_, _++_}
 use mathlib.Core.Logic.{_↔_}
 use lib.ListN.{length, getD, drop}
 use Rattle.wire.specs.Number.{Bytes}
-use Rattle.wire.specs.Padded.{noZero, zeros}
+use Rattle.padded.specs.Padded.{noZero, zeros}
 use Rattle.refusals.specs.Refusals.{refused, given, ordered}
 use Rattle.frames.specs.Step.{payloadIn}
 use Rattle.frame_writer.specs.Writer.{writingFrame, withFrame}

@@ -45,7 +45,7 @@ pub fn log_text(s: &[u8]) -> &[u8]
     ensures { λ r. ⌜ now r ≡ textIn (now (s .entry)) ⌝ }
 {
     let rest = after_level(s);
-    let n = wire::text_length(rest);
+    let n = padded::text_length(rest);
     &rest[..n]
 }
 
@@ -54,15 +54,15 @@ pub fn log_padded(s: &[u8]) -> bool
     ensures { λ r. ⌜ r ≡ logPadded (now (s .entry)) ⌝ }
 {
     let rest = after_level(s);
-    let n = wire::text_length(rest);
-    wire::all_zero(&rest[n..])
+    let n = padded::text_length(rest);
+    padded::all_zero(&rest[n..])
 }
 
 pub fn take_log(s: &[u8]) -> Log
     ensures { λ r. ⌜ r ≡ shown (inside log (now (s .entry))) ⌝ }
 {
     let rest = after_level(s);
-    let n = wire::text_length(rest);
+    let n = padded::text_length(rest);
     Log {
         level: wire::read_u8(s, 0),
         length: n,
@@ -88,7 +88,7 @@ fn put_log(buf: &mut [u8], level: u8, text: &[u8], padding: usize)
 {
     wire::store_u8(buf, 6, level);
     wire::store_bytes(buf, 7, text);
-    wire::store_zeros(buf, 7 + text.len(), padding);
+    padded::store_zeros(buf, 7 + text.len(), padding);
 }
 
 // 23 for a zero in the text, 31 for a text and zeros over 254 bytes, then 32.
@@ -96,7 +96,7 @@ pub fn write_log(buf: &mut [u8], sender: Sender, level: u8, text: &[u8], padding
     ensures { λ w. ⌜ writtenAnswer w ≡ writeAnswer log (logged level (now (text .entry)) padding) (length (now (buf .entry))) ⌝ }
     ensures { λ _. ⌜ now (buf .exit) ≡ writtenAs log (senderOf sender) (logged level (now (text .entry)) padding) (now (buf .entry)) ⌝ }
 {
-    let clean = wire::no_zero(text);
+    let clean = padded::no_zero(text);
     let few = wire::room(254, text.len(), padding);
     if clean {
         if few {

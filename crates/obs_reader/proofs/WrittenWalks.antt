@@ -6,7 +6,7 @@ use Rattle.layouts.specs.Layout.{HeldBody, encodeBody}
 use Rattle.observation.specs.Edition.{Observed, obs, Head, first}
 use Rattle.observation.specs.declared.entry.Observation.{Observation}
 use Rattle.observation.proofs.Editions.{first-is-obs}
-use Rattle.observation.proofs.ObsThrough.{held-whole}
+use Rattle.obs_writer.proofs.ObsThrough.{held-whole}
 use Rattle.obs_reader.specs.Walk.{HandsOut}
 use Rattle.obs_reader.proofs.HandedOut.{read-walk}
 

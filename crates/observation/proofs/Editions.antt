@@ -1,21 +1,15 @@
--- An edition of OBS: which types are observations; which lengths its payloads have, those of a header and k observations, k up to the most; and
--- how long what is written is.
-use mathlib.Core.Path.{_≡_, refl, sym, ap, _∙_}
+-- An edition of OBS: which types are observations; which lengths its payloads have, those of a header and k observations, k up to
+-- the most.
+use mathlib.Core.Path.{_≡_, refl}
 use mathlib.Core.Bool.{true, false}
-use mathlib.Core.List.{List, [], _∷_}
-use Prim.Native.Nat.{ℕ, zero, suc, _+_, _-_, _*_, _%_, _≤_, _<_}
+use Prim.Native.Nat.{ℕ, _+_, _-_, _*_, _%_, _≤_, _<_}
 use native.Mathlib.Nat.{div-add-mod'}
 use native.Mathlib.Omega.{arith}
 use lib.Dec.{leb}
-use lib.ListN.{length, take}
-use lib.Seq.{length-take-le}
 use borrow.Author.Tests.{le-leb, lt-leb, eq-eqb, ne-eqb, eqb-true}
 use Rattle.layouts.specs.Field.{size}
-use Rattle.layouts.specs.Layout.{bodySize}
-use Rattle.layouts.specs.Description.{Part, rowsOf}
 use Rattle.layouts.proofs.Layouts.{lengths-of}
 use Rattle.observation.specs.Edition.{Edition, obs, fitting, countIn, startOf, first, isObs}
-use Rattle.observation.specs.ObsWriter.{observed}
 
 -- ---- types
 
@@ -49,16 +43,3 @@ module _ {H O : Type 0} (e : Edition H O) where
       let (head, (rest, few)) = lengths-of (obs e .layout) n fits in
       let split = div-add-mod' (n - size (e .header .fields)) (size (e .row .fields)) in
       (omega arith, few)
-
-  -- ---- a header and the first k of some observations take as many bytes as observation k begins at
-
-  pub rows-counted : (os : List O) → length (rowsOf (e .row) os) ≡ length os
-  rows-counted [] = refl
-  rows-counted (o ∷ os) = ap suc (rows-counted os)
-
-  module _ (h : H) (k : ℕ) (os : List O) (enough : k ≤ length os) where
-    pub first-rows : length (rowsOf (e .row) (take k os)) ≡ k
-    first-rows = rows-counted (take k os) ∙ length-take-le k os enough
-
-    pub sized : bodySize (obs e .layout) (obs e .row (observed e h k os)) ≡ startOf e k
-    sized = ap (startOf e) first-rows

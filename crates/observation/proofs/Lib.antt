@@ -1,5 +1,2 @@
 pub mod Editions
 pub mod ObsReading
-pub mod EntriesStored
-pub mod ObsWritten
-pub mod ObsThrough

@@ -1,4 +1,2 @@
 pub mod Edition
 pub mod Obs
-pub mod ObsWriter
-pub mod ObsFaithful

@@ -1,6 +1,6 @@
 // One observation of an OBS payload.
 ghost use mathlib.Core.Path.{_≡_};
-ghost use Rattle.layouts.specs.Field.{decode, rowStored};
+ghost use Rattle.layouts.specs.Field.{decode};
 ghost use Rattle.observation.specs.Edition.{observation, first};
 ghost use Rattle.observation.specs.Obs.{readEntry, readEntryOf, entryAnswer};
 use crate::obs::EACH;
@@ -38,20 +38,6 @@ fn take(s: &[u8]) -> Observation
         code: wire::read_u8(s, 14),
         reserved: wire::read_u8(s, 15),
     }
-}
-
-// Stores an observation at the start of buf.
-pub fn put(buf: &mut [u8], r: Observation)
-    ensures { λ _. ⌜ now (buf .exit) ≡ rowStored (observation .fields) (observation .row r) (now (buf .entry)) 0 ⌝ }
-{
-    wire::store_u32(buf, 0, r.p);
-    wire::store_s32(buf, 4, r.l_i);
-    wire::store_u8(buf, 8, r.l_f);
-    wire::store_u8(buf, 9, r.cn0);
-    wire::store_u16(buf, 10, r.lock);
-    wire::store_u16(buf, 12, r.sat);
-    wire::store_u8(buf, 14, r.code);
-    wire::store_u8(buf, 15, r.reserved);
 }
 
 // Observation i of a payload: 22 where the payload is no OBS, then 25 where it has no such observation.

@@ -8,18 +8,15 @@ use lib.Dec.{eqb, ltb}
 use lib.ListN.{length}
 use borrow.Author.Tests.{ne-eqb, ltb-true}
 use Rattle.refusals.specs.Refusals.{refused, given, Answer, Tests, ordered, zeroOr}
-use Rattle.observation.specs.Edition.{fitting, obs, first}
-use Rattle.observation.specs.Obs as observation
+use Rattle.observation.specs.Edition.{fitting, first}
 use Rattle.logs.specs.Log.{logLength}
 use Rattle.logs.proofs.Logs.{as-padded}
-use Rattle.payloads.specs.Payloads.{under, others, Entry, entryOf, table, entryFor, knownFor, testsOf, readingAny, readFor, answerFor}
-use Rattle.payloads.specs.Inner.{recordIn}
+use Rattle.payloads.specs.Payloads.{Entry, table, entryFor, knownFor, testsOf, readingAny, readFor, answerFor}
 use Rattle.payloads.specs.Checks.{document, checkIn, checkFor, tests, testsBy, numberBy, Agrees, AsInDocument}
 use Rattle.payloads.specs.declared.Message.{Message}
-use Rattle.payloads.specs.declared.Message.the-variants as M
 use Rattle.payloads.specs.declared.check.Check.{Check}
 use Rattle.payloads.specs.declared.check.Check.the-variants.{Unknown, Length, Ns, Fix, Obs, Log}
-use Rattle.payloads.proofs.Entries.{obs-allowed, both, Absent, past}
+use Rattle.payloads.proofs.Entries.{obs-allowed, both, Absent}
 
 -- a range that stands last in its row
 last : (fits inside : Bool) → tests fits (inside && true) ≡ tests fits inside
@@ -110,12 +107,6 @@ module _ (kind : ℕ) (s : List ℕ) where
     gives z q e =
         let positive-tests = ap positive (tests-agree table document agreed kind s) ∙ positive-by (checkFor kind) s in
         ap given (e ∙ sym (ap (λ (k : ℕ). entryFor table k .holds s) q)) ∙ passes (readingAny kind s) (entryFor table kind .holds s) positive-tests (sym p ∙ z)
-
-    -- and of another type than OBS the record
-    pub gives-record : {Q : Type 0} {x : Message} → n ≡ 0 → Absent Q (first .kind ∷ []) kind → x ≡ recordIn kind s → given x ≡ readFor kind s
-    gives-record z other e =
-        let among-others = past (entryOf (under (obs first) (λ r. M.Obs (observation.shown r))) ∷ []) (map entryOf others) kind other .1 in
-        gives z refl (e ∙ sym (ap (λ (e : Entry). e .holds s) among-others))
 
   -- what a type's payloads are read as, at a type that was met as equal to it
   pub at-kind : {k : ℕ} {a b : Answer Message} → readFor k s ≡ b → a ≡ b → kind ≡ k → a ≡ readFor kind s

@@ -1,3 +1,2 @@
 pub mod Payloads
 pub mod Checks
-pub mod Inner

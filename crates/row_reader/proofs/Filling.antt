@@ -10,8 +10,8 @@ use borrow.Author.Tests.{eq-eqb, ne-eqb}
 use Rattle.wire.specs.Number.{bytesStored}
 use Rattle.wire.proofs.Stored.{bytes-sets}
 use Rattle.wire.proofs.Lent.{lentFrom, backFrom, lent-all, lent-length}
-use Rattle.wire.specs.Padded.{beforeZero, fromZero}
-use Rattle.wire.proofs.Texts.{length-split}
+use Rattle.padded.specs.Padded.{beforeZero, fromZero}
+use Rattle.padded.proofs.Texts.{length-split}
 use Rattle.formats.specs.Digits.{formatsBy, sizeOf, numbersAt, textDigit}
 use Rattle.formats.proofs.Rows.{length-numbers}
 use Rattle.row_reader.specs.ReadRow.{beginning}

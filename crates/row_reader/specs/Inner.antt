@@ -5,7 +5,7 @@ use mathlib.Core.Bool.{cond}
 use mathlib.Core.List.{List, [], _∷_, _++_}
 use lib.Dec.{eqb}
 use lib.ListN.{length, drop}
-use Rattle.wire.specs.Padded.{beforeZero, fromZero}
+use Rattle.padded.specs.Padded.{beforeZero, fromZero}
 use Rattle.formats.specs.Digits.{formatsBy, sizeOf, numbersAt, textDigit}
 use Rattle.formats.specs.declared.Shape.{Shape}
 

@@ -18,7 +18,7 @@ fn fill_text(row: &mut [u64], s: &[u8])
     requires { ⌜ 2 ≤ length (now row) ⌝ }
     ensures { λ _. ⌜ now (row .exit) ≡ beginning (textNumbers (now (s .entry))) (now (row .entry)) ⌝ }
 {
-    let n = wire::text_length(s);
+    let n = padded::text_length(s);
     row[0] = n as u64;
     row[1] = (s.len() - n) as u64;
 }

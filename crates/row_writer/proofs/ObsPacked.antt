@@ -17,7 +17,7 @@ use Rattle.formats.specs.Digits.{upTo, formatsBy, runStored}
 use Rattle.formats.proofs.Narrow.{Words, stored-narrow}
 use Rattle.observation.specs.Edition.{obs, startOf, head, observation, first}
 use Rattle.observation.specs.declared.entry.Observation.{Observation}
-use Rattle.observation.proofs.EntriesStored.{Stored, stored-none, stored-all, stored-more}
+use Rattle.obs_writer.proofs.EntriesStored.{Stored, stored-none, stored-all, stored-more}
 use Rattle.row_writer.specs.WriteObsRow.{rowsIn, observedOf}
 use Rattle.wire.proofs.Lent.{lentFrom}
 use Rattle.row_writer.proofs.Runs.{front-sets}

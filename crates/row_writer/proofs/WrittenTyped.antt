@@ -16,9 +16,9 @@ use Rattle.frames.specs.Frame.{frameBytes}
 use Rattle.frame_writer.specs.Writer.{writingFrame, startingWith}
 use Rattle.frame_writer.specs.Faithful.{writeAnswer, writtenAs}
 use Rattle.observation.specs.Edition.{obs, startOf, observation, first}
-use Rattle.observation.specs.ObsWriter.{writingObs, obsWriteAnswer}
+use Rattle.obs_writer.specs.ObsWriter.{writingObs, obsWriteAnswer}
 use Rattle.observation.specs.declared.entry.Observation.{Observation}
-use Rattle.observation.proofs.ObsWritten.{same-answer}
+use Rattle.obs_writer.proofs.ObsWritten.{same-answer}
 use Rattle.payloads.specs.Payloads.{Described, messages, Entry}
 use Rattle.payloads.proofs.Entries.{Found, found, all-of}
 use Rattle.row_writer.specs.WriteRow.{alone, bodyOf, writingBy, writeRow, rowWritten}

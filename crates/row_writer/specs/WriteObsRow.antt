@@ -11,7 +11,7 @@ use Rattle.formats.specs.Wide.{narrowRow, fitsRow, narrowRows, fitsRows}
 use Rattle.frames.specs.Frame.{frameBytes}
 use Rattle.frame_writer.specs.Writer.{startingWith}
 use Rattle.observation.specs.Edition.{Observed, obs, startOf, Head, head, observation, first, isObs}
-use Rattle.observation.specs.ObsWriter.{writingObs}
+use Rattle.obs_writer.specs.ObsWriter.{writingObs}
 use Rattle.observation.specs.declared.entry.Observation.{Observation}
 
 -- how many observations so many numbers are

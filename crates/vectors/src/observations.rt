@@ -112,7 +112,7 @@ fn rewritten(s: &[u8], count: u8) {
 
 fn again(o: Obs, entries: [Observation; 15], count: u8) {
     let mut buf = [0u8; 264];
-    let w = observation::write_obs(
+    let w = obs_writer::write_obs(
         &mut buf,
         Sender::Named(0),
         Obs {

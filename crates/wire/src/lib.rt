@@ -1,18 +1,13 @@
-// Numbers, doubles and padded texts in bytes, little-endian.
-// Read specs/Number.antt, specs/Double.antt and specs/Padded.antt; specs/Tabulated.antt has lists by their index.
+// Numbers and doubles in bytes, little-endian.
+// Read specs/Number.antt, specs/Double.antt and specs/Value.antt; specs/Tabulated.antt has lists by their index.
 // Nothing here has a requires, and all are inner parts: a byte past the end reads 0, a store that runs past the end changes nothing.
 mod bits;
 mod double;
-mod padded;
 mod read;
 mod store;
 
 pub use bits::flag;
 pub use double::Double;
-pub use padded::all_zero;
-pub use padded::no_zero;
-pub use padded::store_zeros;
-pub use padded::text_length;
 pub use read::read_double;
 pub use read::read_s16;
 pub use read::read_s32;

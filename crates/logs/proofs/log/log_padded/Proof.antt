@@ -1,8 +1,8 @@
 -- `logs::log::log_padded` meets its contract.
 use mathlib.Core.Path.{ap, _∙_}
 use borrow.Author.Needs.{needs}
-use Rattle.wire.specs.Padded.{allZero}
-use Rattle.wire.proofs.Texts.{no-longer}
+use Rattle.padded.specs.Padded.{allZero}
+use Rattle.padded.proofs.Texts.{no-longer}
 use Rattle.logs.proofs.Logs.{padding-part}
 use Rattle.logs.proofs.log.log_padded.Statement.{statement}
 use Rattle.logs.proofs.log.log_padded.Tie as tie

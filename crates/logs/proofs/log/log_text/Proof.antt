@@ -1,7 +1,7 @@
 -- `logs::log::log_text` meets its contract.
 use mathlib.Core.Path.{sym}
 use lib.Seq.{length-take-le}
-use Rattle.wire.proofs.Texts.{no-longer}
+use Rattle.padded.proofs.Texts.{no-longer}
 use Rattle.logs.proofs.Logs.{text-part}
 use Rattle.logs.proofs.log.log_text.Statement.{statement}
 use Rattle.logs.proofs.log.log_text.Tie as tie

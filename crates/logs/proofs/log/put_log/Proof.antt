@@ -4,7 +4,7 @@ use mathlib.Core.List.{List}
 use Prim.Native.Nat.{ℕ, _+_}
 use lib.ListN.{length}
 use Rattle.wire.specs.Number.{bytesStored}
-use Rattle.wire.specs.Padded.{zeros}
+use Rattle.padded.specs.Padded.{zeros}
 use borrow.Author.Needs.{needs}
 use Rattle.logs.proofs.log.put_log.Statement.{statement}
 use Rattle.logs.proofs.log.put_log.Tie as tie

@@ -1,5 +1,5 @@
 -- `logs::log::take_log` meets its contract.
-use Rattle.wire.proofs.Texts.{no-longer}
+use Rattle.padded.proofs.Texts.{no-longer}
 use Rattle.logs.proofs.Logs.{both-shown}
 use Rattle.logs.proofs.log.take_log.Statement.{statement}
 use Rattle.logs.proofs.log.take_log.Tie as tie

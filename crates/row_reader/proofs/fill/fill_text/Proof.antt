@@ -1,6 +1,6 @@
 -- `row_reader::fill::fill_text` meets its contract.
 use borrow.Author.Needs.{needs}
-use Rattle.wire.proofs.Texts.{no-longer}
+use Rattle.padded.proofs.Texts.{no-longer}
 use Rattle.row_reader.proofs.Filling.{text-set}
 use Rattle.row_reader.proofs.fill.fill_text.Statement.{statement}
 use Rattle.row_reader.proofs.fill.fill_text.Tie as tie

@@ -3,7 +3,7 @@
 use Prim.Native.Nat.{_-_}
 use native.Mathlib.Omega.{arith}
 use borrow.Author.Needs.{needs}
-use Rattle.observation.proofs.EntriesStored.{stored-length, has-room}
+use Rattle.obs_writer.proofs.EntriesStored.{stored-length, has-room}
 use Rattle.row_writer.proofs.ObsPacked.{Packed, packed-none, packed-all, packed-more}
 use Rattle.row_writer.proofs.obs.pack_rows.Statement.{statement}
 use Rattle.row_writer.proofs.obs.pack_rows.Tie as tie

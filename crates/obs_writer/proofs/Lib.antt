@@ -1,0 +1,4 @@
+pub mod ObsLong
+pub mod EntriesStored
+pub mod ObsWritten
+pub mod ObsThrough

@@ -1,0 +1,2 @@
+pub mod ObsWriter
+pub mod ObsFaithful

@@ -1,0 +1,32 @@
+-- OBS written: a header and the first k of some observations, over the edition.
+use Prim.Native.Nat.{ℕ, _+_}
+use mathlib.Core.List.{List, _∷_}
+use lib.Dec.{leb}
+use lib.ListN.{length, take}
+use Rattle.layouts.specs.Layout.{encodeBody}
+use Rattle.refusals.specs.Refusals.{Answer, Tests, ordered, leaves}
+use Rattle.frames.specs.Frame.{frameBytes}
+use Rattle.frame_writer.specs.Writer.{writingFrame, startingWith}
+use Rattle.observation.specs.Edition.{Edition, Observed, obs, startOf, Head}
+use Rattle.observation.specs.declared.obs.Obs.{Obs}
+
+module _ {H O : Type 0} (e : Edition H O) where
+  -- 31 for more observations than the edition has, then 31 and 32 as every frame
+  abbrev pub writingObs : ℕ → ℕ → Tests
+  writingObs k room = (leb k (e .most), 31) ∷ writingFrame (startOf e k) room
+
+  unfoldable pub obsWriteAnswer : ℕ → ℕ → Answer ℕ
+  obsWriteAnswer k room = ordered (writingObs k room) (startOf e k + 8)
+
+  -- what is written: the header, and the first k of the observations
+  abbrev pub observed : H → ℕ → List O → Observed H O
+  observed h k os = record { header = h; observations = take k os }
+
+  -- the buffer after it: the frame and the bytes after it as they were, or all as it was
+  unfoldable pub obsWritten : ℕ → H → ℕ → List O → List ℕ → List ℕ
+  obsWritten sender h k os buf =
+      leaves (startingWith (frameBytes (e .kind) sender (encodeBody (obs e .layout) (obs e .row (observed h k os))))) (obsWriteAnswer k (length buf)) buf
+
+-- the header that the code's summary has
+abbrev pub headOf : Obs → Head
+headOf o = record { tow = o .tow; wn = o .wn; nObs = o .«n_obs» }
