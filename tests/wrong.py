@@ -3,10 +3,11 @@
 
 An edit is a file tests/wrong/NAME.edit as in crates/*/must-fail (lines 'file: PATH' from the root, 'old: TEXT', which is there once, 'new:
 TEXT'), with a line 'test: COMMAND'. Without the edit the command passes. With it the command fails, and at a comparison: it prints a line that
-begins with 'differs: ', which nothing prints that is not compiled. All happens in one copy of the repository. The last line is 'N passed, M
+begins with 'differs: ', which nothing prints that is not compiled. All happens in two copies of the repository, side by side. The last line is 'N passed, M
 failed'.
 usage: wrong.py [NAME..] (after link/library and rt check sbplist)
 """
+import concurrent.futures
 import os
 import shutil
 import signal
@@ -65,20 +66,40 @@ def refused(folder, name, sound):
         raise Wrong("'%s' does not fail at a comparison:\n%s" % (test, said))
 
 
-def main():
-    names = sys.argv[1:] or sorted(name[:-5] for name in os.listdir(EDITS) if name.endswith(".edit"))
-    passed, failed, sound = 0, 0, {}
+def tried(names):
+    """Tries edits one after the other in a copy of their own; says of each what is wrong, or None."""
+    said, sound = {}, {}
     with tempfile.TemporaryDirectory() as folder:
         copied(folder)
         for name in names:
             try:
                 refused(folder, name, sound)
-                passed += 1
+                said[name] = None
             except Wrong as why:
-                failed += 1
-                print("not refused: %s: %s" % (name, why))
-    print("%d passed, %d failed" % (passed, failed))
-    return 1 if failed or not passed else 0
+                said[name] = why
+    return said
+
+
+def halves(names):
+    """The edits in two parts of about one size; those of one test are together, since it is run once without them."""
+    by_test, parts = {}, ([], [])
+    for name in names:
+        by_test.setdefault(read(os.path.join(EDITS, name + ".edit"), "test")[0][0], []).append(name)
+    for group in sorted(by_test.values(), key=len, reverse=True):
+        min(parts, key=len).extend(group)
+    return parts
+
+
+def main():
+    names = sys.argv[1:] or sorted(name[:-5] for name in os.listdir(EDITS) if name.endswith(".edit"))
+    with concurrent.futures.ThreadPoolExecutor(2) as pool:
+        said = {name: why for part in pool.map(tried, halves(names)) for name, why in part.items()}
+    for name in names:
+        if said[name] is not None:
+            print("not refused: %s: %s" % (name, said[name]))
+    failed = sum(why is not None for why in said.values())
+    print("%d passed, %d failed" % (len(said) - failed, failed))
+    return 1 if failed or not said else 0
 
 
 if __name__ == "__main__":
