@@ -99,6 +99,9 @@ module _ {M : Type 1} (𝓤 : URA M) (H : Heap 𝓤) (A : Atoms 𝓤) (mem : Mem
   pub enlisting : public.Enlisting 𝓤 H A mem run
   enlisting = search determinations
 
+  pub lines : public.Lines 𝓤 H A mem run
+  lines = search determinations
+
   pub listing : public.Listing 𝓤 H A mem run
   listing = search determinations
 

@@ -39,6 +39,7 @@ use Rattle.runs.proofs as runs
 use Rattle.epochs.proofs as epochs
 use Rattle.captures.proofs as captures
 use Rattle.enlisting.proofs as enlisting
+use Rattle.lines.proofs as lines
 use Rattle.listing.proofs as listing
 use Rattle.frame_rows.proofs as frame_rows
 use Rattle.states.proofs as states
@@ -267,6 +268,11 @@ module _ {M : Type 1} (𝓤 : URA M) (H : Heap 𝓤) (A : Atoms 𝓤) (mem : Mem
 
   pub record Enlisting : Type 1 where
     pub enlist : Determined 𝓤 enlisting.enlist.ended (enlisting.enlist.clauses 𝓤 H A mem run)
+
+  pub record Lines : Type 1 where
+    pub put-frame : Determined 𝓤 lines.put_frame.ended (lines.put_frame.clauses 𝓤 H A mem run)
+    pub put-epoch : Determined 𝓤 lines.put_epoch.ended (lines.put_epoch.clauses 𝓤 H A mem run)
+    pub put-totals : Determined 𝓤 lines.put_totals.ended (lines.put_totals.clauses 𝓤 H A mem run)
 
   pub record Listing : Type 1 where
     pub list : Determined 𝓤 listing.list.ended (listing.list.clauses 𝓤 H A mem run)

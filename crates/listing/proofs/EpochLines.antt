@@ -16,7 +16,8 @@ use Rattle.epochs.proofs.Feeding.{never-refused, never-taken}
 use Rattle.epochs.proofs.Collations.{came-to}
 use Rattle.enlisting.specs.FirstEight.{obsSendersIn, rosterIn}
 use Rattle.enlisting.proofs.EightSenders.{first-seated, first-empty}
-use Rattle.listing.specs.Listing.{frameLine, totalsLine, epochPart, framesText, outcomesIn, textOf}
+use Rattle.listing.specs.Listing.{frameLine, totalsLine, framesText, outcomesIn, textOf}
+use Rattle.lines.specs.Lines.{epochPart}
 use Rattle.listing.specs.Words.{Lines, none, ending, passing}
 
 module _ {s roster : List ℕ} where

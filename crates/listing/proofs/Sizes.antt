@@ -31,7 +31,8 @@ use Rattle.text.specs.Line.{fields, line}
 use Rattle.text.proofs.Decimals.{few-digits}
 use Rattle.text.proofs.LinesPut.{length-fields, length-line}
 use Rattle.enlisting.specs.FirstEight.{rosterIn}
-use Rattle.listing.specs.Listing.{frameLine, totalsLine, epochPart, framesText, textOf, mostListed}
+use Rattle.listing.specs.Listing.{frameLine, totalsLine, framesText, textOf, mostListed}
+use Rattle.lines.specs.Lines.{epochPart}
 
 -- ---- a line of five numbers
 

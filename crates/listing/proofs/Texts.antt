@@ -29,7 +29,8 @@ use Rattle.epochs.specs.declared.collating.Happened.{Happened}
 use Rattle.text.proofs.Pending.{Pending, pending-begun, pending-stored, pending-done, pending-last}
 use Rattle.enlisting.specs.Enlisting.{enlistedTo, newOutcomes}
 use Rattle.enlisting.proofs.Growing.{as-of-the-first}
-use Rattle.listing.specs.Listing.{frameShown, frameLine, totalsShown, totalsLine, epochPart, framesText, textOf, mostListed, listAnswer, withListing}
+use Rattle.listing.specs.Listing.{frameLine, totalsLine, framesText, textOf, mostListed, listAnswer, withListing}
+use Rattle.lines.specs.Lines.{frameShown, totalsShown, epochPart}
 
 -- ---- line by line
 
@@ -95,22 +96,6 @@ module _ (s buf : List ℕ) where
         let counts = q ∙ end-counts s small (w .honest) e in
         let all = subst (λ (x : Counts). Left now at (totalsShown (length s) x)) (sym counts) (walking-end s small w e .pending) in
         pending-done (pending-stored (totalsShown (length s) k) [] (pending-last (totalsShown (length s) k) all) short room stored place)
-
-stored-nothing : (buf : List ℕ) (at : ℕ) → bytesStored [] buf at ≡ buf
-unfolding bytesStored
-stored-nothing buf at = either (leb (at + 0) (length buf))
-  where
-    either : (t : Bool) → cond t buf buf ≡ buf
-    either true = refl
-    either false = refl
-
--- nothing is put where no epoch ends
-pub puts-nothing : (buf : List ℕ) (at : ℕ) (h : Happened) → at < 2 ^ 64 → epochPart h ≡ [] → (at ≡ (at + length (epochPart h)) % 2 ^ 64) × (buf ≡ bytesStored (epochPart h) buf at)
-puts-nothing buf at h small e = (omega (arith, small, ap length e), sym (ap (λ (t : List ℕ). bytesStored t buf at) e ∙ stored-nothing buf at))
-
-pub puts : (buf : List ℕ) (at : ℕ) {to : ℕ} {after : List ℕ} {h k : Happened} → h ≡ k → to ≡ (at + length (epochPart k)) % 2 ^ 64 → after ≡ bytesStored (epochPart k) buf at
-    → (to ≡ (at + length (epochPart h)) % 2 ^ 64) × (after ≡ bytesStored (epochPart h) buf at)
-puts buf at e q r = (q ∙ ap (λ (h : Happened). (at + length (epochPart h)) % 2 ^ 64) (sym e), r ∙ ap (λ (h : Happened). bytesStored (epochPart h) buf at) (sym e))
 
 -- ---- what `list` answers
 

@@ -9,39 +9,21 @@ use Rattle.frame_writer.specs.Writer.{startingWith}
 use Rattle.frames.specs.Step.{payloadIn}
 use Rattle.frames.specs.Reading.{closedSteps, framesOf, countsOf}
 use Rattle.frames.specs.declared.step.Frame.{Frame}
-use Rattle.frames.specs.declared.cursor.Counts.{Counts}
 use Rattle.payloads.specs.Payloads.{answerFor}
 use Rattle.epochs.specs.Collator.{made}
 use Rattle.epochs.specs.Epoch.{contentsOf, outcomes}
-use Rattle.epochs.specs.declared.collating.Report.{Report}
 use Rattle.epochs.specs.declared.collating.Happened.{Happened}
-use Rattle.epochs.specs.declared.collating.Happened.the-variants.{Refused, Taken, Epoch}
 use Rattle.text.specs.Line.{line}
 use Rattle.enlisting.specs.FirstEight.{rosterIn}
+use Rattle.lines.specs.Lines.{frameShown, totalsShown, epochPart}
 
--- `F` offset type sender length payload-answer
-abbrev pub frameShown : Frame → ℕ → List ℕ
-frameShown f answer = line 0x46 (f .at ∷ f .kind ∷ f .sender ∷ f .length ∷ answer ∷ [])
-
+-- of a frame of the capture
 abbrev pub frameLine : List ℕ → Frame → List ℕ
 frameLine s f = frameShown f (answerFor (f .kind) (payloadIn s f))
 
--- `E` sender wn tow n observations
-abbrev pub epochLine : Report → List ℕ
-epochLine e = line 0x45 (e .sender ∷ e .wn ∷ e .tow ∷ e .n ∷ e .observations ∷ [])
-
--- `T` length, frame bytes, junk, bad, short
-abbrev pub totalsShown : ℕ → Counts → List ℕ
-totalsShown n c = line 0x54 (n ∷ c .framed ∷ c .junk ∷ c .bad ∷ c .short ∷ [])
-
+-- of the whole capture
 abbrev pub totalsLine : List ℕ → List ℕ
 totalsLine s = totalsShown (length s) (countsOf (closedSteps s))
-
--- what stands after a frame's line: the epoch that it ends
-abbrev pub epochPart : Happened → List ℕ
-epochPart (Refused n) = []
-epochPart Taken = []
-epochPart (Epoch e) = epochLine e
 
 -- each frame's line, and after it the epoch's where the frame came to one
 unfoldable pub framesText : List ℕ → List Frame → List Happened → List ℕ

@@ -5,7 +5,8 @@ use Rattle.frames.specs.Frame.{Content}
 use Rattle.frames.specs.declared.step.Frame.{Frame}
 use Rattle.epochs.specs.Epoch.{contentIn, EndsEpoch}
 use Rattle.epochs.specs.declared.collating.Report.{Report}
-use Rattle.listing.specs.Listing.{frameLine, epochLine}
+use Rattle.listing.specs.Listing.{frameLine}
+use Rattle.lines.specs.Lines.{epochLine}
 
 -- "for each frame `F` ..; after the frame that ends an epoch, `E` ..": the lines of the frames that come after those of the past
 pub data Lines (s roster : List ℕ) : List Content → List Frame → List ℕ → Type 0 where

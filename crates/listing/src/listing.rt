@@ -1,82 +1,15 @@
 // The lines of a listing, one after the other in a lent buffer.
 ghost use mathlib.Core.Path.{_≡_};
-ghost use Prim.Native.Nat.{_+_, _%_, _^_, _≤_, _<_};
+ghost use Prim.Native.Nat.{_^_, _≤_, _<_};
 ghost use lib.Dec.{leb};
 ghost use lib.ListN.{length};
 ghost use lib.Seq.{sets};
 ghost use Rattle.frame_writer.specs.Writer.{writtenAnswer};
-ghost use Rattle.wire.specs.Number.{bytesStored};
-ghost use Rattle.listing.specs.Listing.{frameShown, totalsShown, epochPart, textOf, mostListed, listAnswer, withListing};
+ghost use Rattle.listing.specs.Listing.{textOf, mostListed, listAnswer, withListing};
 use epochs::Collator;
-use epochs::Happened;
 use frame_writer::Written;
-use frames::Counts;
 use frames::Cursor;
-use frames::Frame;
 use frames::Next;
-
-// `F` offset type sender length payload-answer
-fn put_frame(buf: &mut [u8], at: usize, f: Frame, answer: u8) -> usize
-    ensures { λ r. ⌜ r ≡ (at + length (frameShown f answer)) % 2 ^ 64 ⌝ }
-    ensures { λ _. ⌜ now (buf .exit) ≡ bytesStored (frameShown f answer) (now (buf .entry)) at ⌝ }
-{
-    text::put_line(
-        buf,
-        at,
-        0x46,
-        [
-            f.at as u64,
-            f.kind as u64,
-            f.sender as u64,
-            f.length as u64,
-            answer as u64,
-        ],
-    )
-}
-
-// `E` sender wn tow n observations, where an epoch was reported
-fn put_epoch(buf: &mut [u8], at: usize, happened: Happened) -> usize
-    ensures { λ r. ⌜ r ≡ (at + length (epochPart happened)) % 2 ^ 64 ⌝ }
-    ensures { λ _. ⌜ now (buf .exit) ≡ bytesStored (epochPart happened) (now (buf .entry)) at ⌝ }
-{
-    match happened {
-        Happened::Refused(_) => at,
-        Happened::Taken => at,
-        Happened::Epoch(e) => {
-            text::put_line(
-                buf,
-                at,
-                0x45,
-                [
-                    e.sender as u64,
-                    e.wn as u64,
-                    e.tow as u64,
-                    e.n as u64,
-                    e.observations as u64,
-                ],
-            )
-        }
-    }
-}
-
-// `T` length, frame bytes, junk, bad, short
-fn put_totals(buf: &mut [u8], at: usize, n: usize, c: Counts) -> usize
-    ensures { λ r. ⌜ r ≡ (at + length (totalsShown n c)) % 2 ^ 64 ⌝ }
-    ensures { λ _. ⌜ now (buf .exit) ≡ bytesStored (totalsShown n c) (now (buf .entry)) at ⌝ }
-{
-    text::put_line(
-        buf,
-        at,
-        0x54,
-        [
-            n as u64,
-            c.framed as u64,
-            c.junk as u64,
-            c.bad as u64,
-            c.short as u64,
-        ],
-    )
-}
 
 // The text of a capture, in a buffer that may be too short for it; and its length. A sender has its seat before its frame is fed.
 fn put_text(s: &[u8], buf: &mut [u8]) -> usize
@@ -94,16 +27,16 @@ fn put_text(s: &[u8], buf: &mut [u8]) -> usize
         match next {
             Next::Frame(frame, rest) => {
                 let payload = frames::payload(s, frame);
-                at = put_frame(buf, at, frame, payloads::answer(frame.kind, payload));
+                at = lines::put_frame(buf, at, frame, payloads::answer(frame.kind, payload));
                 let seated = enlisting::enlist(collator, frame.kind, frame.sender);
                 let fed = seated.feed(frame.kind, frame.sender, payload);
                 let happened = fed.happened;
-                at = put_epoch(buf, at, happened);
+                at = lines::put_epoch(buf, at, happened);
                 collator = fed.collator;
                 cursor = rest;
             }
             Next::End(last) => {
-                return put_totals(buf, at, s.len(), last.counts());
+                return lines::put_totals(buf, at, s.len(), last.counts());
             }
             Next::Needs(_, _) => {
                 return at;

@@ -1,10 +1,10 @@
--- `listing::listing::put_epoch` meets its contract.
+-- `lines::put_epoch` meets its contract.
 use mathlib.Core.Path.{ap}
-use Rattle.listing.specs.Listing.{epochPart}
-use Rattle.listing.proofs.Texts.{puts-nothing, puts}
+use Rattle.lines.specs.Lines.{epochPart}
+use Rattle.lines.proofs.Puts.{puts-nothing, puts}
 use borrow.Author.Needs.{needs}
-use Rattle.listing.proofs.listing.put_epoch.Statement.{statement}
-use Rattle.listing.proofs.listing.put_epoch.Tie as tie
+use Rattle.lines.proofs.put_epoch.Statement.{statement}
+use Rattle.lines.proofs.put_epoch.Tie as tie
 
 returns : tie.Need-returns
 returns c = let a = c .before .before .before in puts-nothing (a .args .buf .now) (a .args .at) (a .args .happened) (a .fits .at .fits) (ap epochPart (c .enum-told .given .1))
