@@ -37,7 +37,7 @@ use Rattle.frame_rows.specs.Found.{foundSize, startAt, foundIn, finding, nextFr
 use Rattle.frame_rows.specs.Totals.{totalsSize, totalling, totalsFor, totalsStored}
 use Rattle.exports.specs.Write.{sentBy}
 use Rattle.exports.specs.Flagged.{tableFor, isTable, fixBy, fixNumber, bitNumber, flagging, fixAnswer, availableAnswer, repairedAnswer, aboveSeaAnswer}
-use Rattle.states.specs.State.{stateSize, stateIn}
+use Rattle.places.specs.State.{stateSize, stateIn}
 use Rattle.states.specs.Feed.{making, madeIn, madeStored, reportSize, feedingIn, forPlaceIn, fedIn, afterIn}
 use Rattle.told.specs.Told.{AsSent, told, toldIn, Filled}
 use Rattle.states.specs.Enlist.{growingIn, enlistedIn, enlistIn}

@@ -108,6 +108,9 @@ module _ {M : Type 1} (𝓤 : URA M) (H : Heap 𝓤) (A : Atoms 𝓤) (mem : Mem
   pub frame-rows : public.FrameRows 𝓤 H A mem run
   frame-rows = search determinations
 
+  pub places : public.Places 𝓤 H A mem run
+  places = search determinations
+
   pub states : public.States 𝓤 H A mem run
   states = search determinations
 

@@ -42,6 +42,7 @@ use Rattle.enlisting.proofs as enlisting
 use Rattle.lines.proofs as lines
 use Rattle.listing.proofs as listing
 use Rattle.frame_rows.proofs as frame_rows
+use Rattle.places.proofs as places
 use Rattle.states.proofs as states
 use Rattle.exports.proofs as exports
 use Rattle.determined.specs.Determined.{Determined, DeterminedAs}
@@ -280,6 +281,10 @@ module _ {M : Type 1} (𝓤 : URA M) (H : Heap 𝓤) (A : Atoms 𝓤) (mem : Mem
   pub record FrameRows : Type 1 where
     pub next-row : Determined 𝓤 frame_rows.next_row.ended (frame_rows.next_row.clauses 𝓤 H A mem run)
     pub totals-row : Determined 𝓤 frame_rows.totals_row.ended (frame_rows.totals_row.clauses 𝓤 H A mem run)
+
+  pub record Places : Type 1 where
+    pub place-in : Determined 𝓤 places.place_in.ended (places.place_in.clauses 𝓤 H A mem run)
+    pub put-place : Determined 𝓤 places.put_place.ended (places.put_place.clauses 𝓤 H A mem run)
 
   pub record States : Type 1 where
     pub make : Determined 𝓤 states.make.ended (states.make.clauses 𝓤 H A mem run)

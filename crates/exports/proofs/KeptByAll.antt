@@ -7,7 +7,7 @@ use Rattle.row_reader.specs.ReadRow.{beginning, readRow, readOne}
 use Rattle.row_writer.specs.WriteObsRow.{writeObsRow, obsRowWritten}
 use Rattle.row_writer.specs.WriteRow.{writeRow, rowWritten}
 use Rattle.logs.specs.Log.{log}
-use Rattle.states.specs.State.{collatorStored}
+use Rattle.places.specs.State.{collatorStored}
 use Rattle.states.specs.Enlist.{growingIn, enlistIn}
 use Rattle.exports.specs.Kept.{Kept}
 use Rattle.exports.proofs.Untouched.{not-zero, next-keeps, totals-keeps, list-keeps, collator-keeps, feed-keeps}

@@ -16,7 +16,7 @@ use Rattle.listing.specs.Listing.{listAnswer, withListing}
 use Rattle.frame_rows.specs.Found.{numberIn, nextFrom, nextAnswer, nextStored}
 use Rattle.frame_rows.specs.Totals.{totalsFor, totalsAnswer, totalsStored}
 use Rattle.exports.specs.Text.{textAnswer, sizeAfter}
-use Rattle.states.specs.State.{collatorStored}
+use Rattle.places.specs.State.{collatorStored}
 use Rattle.states.specs.Feed.{madeIn, madeAnswer, madeStored, endedNumber, forPlaceIn, stepIn, fedIn}
 
 -- a number that is none of those of what is given says that nothing was put

@@ -19,11 +19,11 @@ use Rattle.epochs.specs.declared.collating.Collator.{Collator}
 use Rattle.epochs.specs.declared.collating.Made.{Made}
 use Rattle.epochs.proofs.Making.{nobody, made-seated}
 use Rattle.enlisting.specs.Enlisting.{seatedIn, enlistedTo}
-use Rattle.states.specs.State.{countFields, seatFields, slotFields, stateSize, seatAt, slotAt, slotMake, placeOf, placeIn, sendersIn, seatIn, stateIn, collatorStored}
+use Rattle.places.specs.State.{countFields, seatFields, slotFields, stateSize, seatAt, slotAt, slotMake, placeOf, placeIn, sendersIn, seatIn, stateIn, collatorStored}
 use Rattle.states.specs.Enlist.{growingIn, growingAnswer, growingStored, seatTaken, seatedBy, joinedIn, enlistedIn, enlistIn, enlistAnswer, enlistStored}
 use Rattle.lent_rows.proofs.Parts.{decode-stored, decode-before, decode-after}
 use Rattle.wire.proofs.Tables.{tabulated-set, tabulated-same}
-use Rattle.states.proofs.States.{state-stored, length-collator}
+use Rattle.places.proofs.States.{state-stored, length-collator}
 use Rattle.states.proofs.Makes.{fresh-held}
 
 -- ---- the three ways through `join`

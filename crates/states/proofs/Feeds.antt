@@ -1,7 +1,7 @@
 -- A frame fed to a collator in bytes: what `feed` answers, case by case, and that it is what the collator does that the bytes stand for.
 use mathlib.Core.Path.{_≡_, refl, sym, ap, _∙_, subst}
 use mathlib.Core.List.{List}
-use Prim.Native.Nat.{ℕ, _≤_, _<_}
+use Prim.Native.Nat.{ℕ, _^_, _≤_, _<_}
 use native.Mathlib.Omega.{arith}
 use lib.ListN.{length, getD, set, length-take}
 use borrow.Author.Tests.{le-leb, lt-leb}
@@ -16,7 +16,9 @@ use Rattle.packets.proofs.Recognitions.{formed, n-small, time-small}
 use Rattle.runs.specs.declared.running.Ended.{Ended}
 use Rattle.runs.specs.declared.running.Ended.the-variants.{Not, Whole}
 use Rattle.runs.specs.declared.running.Stepped.{Stepped}
+use Rattle.runs.specs.declared.running.Run.{Run}
 use Rattle.runs.specs.Run.{stepped}
+use Rattle.runs.proofs.StepCases.{step-cases}
 use Rattle.epochs.specs.Collator.{forPlace, idle, outcome, acted, rosterOf, fedFrame}
 use Rattle.epochs.specs.declared.collating.Place.{Place}
 use Rattle.epochs.specs.declared.collating.Report.{Report}
@@ -26,10 +28,10 @@ use Rattle.epochs.specs.declared.collating.Happened.the-variants as H
 use Rattle.epochs.proofs.Placings.{placed, placed-below}
 use Rattle.epochs.proofs.Reports.{SmallIn, Small, report-small}
 use Rattle.lent_rows.specs.Lent.{atFront}
-use Rattle.states.specs.State.{stateSize, placeIn, placeStored, stateIn}
+use Rattle.places.specs.State.{stateSize, placeIn, placeStored, stateIn}
 use Rattle.states.specs.Feed.{reportFields, reportSize, reportRow, endedNumber, endedStored, forPlaceIn, stepIn, FedIn, cameOut, fedIn}
 use Rattle.lent_rows.proofs.Parts.{stored-front, decode-stored}
-use Rattle.states.proofs.States.{SmallPacket, stepped-small, state-place}
+use Rattle.places.proofs.States.{SmallRun, state-place}
 
 module _ (s : List ℕ) (x : Content) (report : List ℕ) where
   -- an answer, a state and a report as they have to be
@@ -73,6 +75,18 @@ unfolding tabulated
 eight s x e = omega (arith, simp length-take at (placed-below (rosterOf (stateIn s)) x e))
 
 -- ---- tied to the collator
+
+-- a packet whose numbers are small leaves a run whose numbers are
+pub record SmallPacket (p : Packet) : Type 0 where
+  pub tow : p .key .tow < 2 ^ 32
+  pub wn : p .key .wn < 65536
+  pub n : p .key .n < 256
+  pub observations : p .observations < 65536
+
+pub stepped-small : (p : Packet) → SmallPacket p → (run : Run) → SmallRun (stepped run p .run)
+stepped-small p small =
+    step-cases (λ (s : Stepped). SmallRun (s .run)) p tt (λ total h. tt)
+    (λ total h. record { tow = small .tow; wn = small .wn; n = small .n; next = omega arith; total = h (small .observations) })
 
 -- what happened, as a number and as the bytes of a report
 abbrev pub happenedNumber : Happened → ℕ

@@ -1,4 +1,3 @@
-pub mod States
 pub mod Feeds
 pub mod Makes
 pub mod Enlists

@@ -16,9 +16,9 @@ use Rattle.epochs.specs.declared.collating.Collator.{Collator}
 use Rattle.epochs.specs.declared.collating.Made.{Made}
 use Rattle.epochs.proofs.Making.{accepted}
 use Rattle.epochs.proofs.Searches.{with-zeros}
-use Rattle.states.specs.State.{stateSize, stateIn, collatorStored}
+use Rattle.places.specs.State.{stateSize, stateIn, collatorStored}
 use Rattle.states.specs.Feed.{madeIn, madeAnswer, madeStored}
-use Rattle.states.proofs.States.{Held, Small, state-stored, length-collator}
+use Rattle.places.proofs.States.{Held, Small, state-stored, length-collator}
 
 -- an accepted roster passes its tests
 passes : (roster : List ℕ) → made roster .number ≡ 0 → ordered (rostering roster) (fresh roster) ≡ given (fresh roster)

@@ -12,7 +12,7 @@ use Rattle.epochs.specs.Collator.{rosterOf, made}
 use Rattle.epochs.specs.declared.seating.Seat.{Seat}
 use Rattle.epochs.specs.declared.seating.Seat.the-variants.{At, Nowhere}
 use Rattle.epochs.specs.declared.collating.Collator.{Collator}
-use Rattle.states.specs.State.{stateSize, seatFields, seatAt, sendersIn, stateIn, countStored, collatorStored}
+use Rattle.places.specs.State.{stateSize, seatFields, seatAt, sendersIn, stateIn, countStored, collatorStored}
 
 -- ---- a collator that lists nobody: 32
 

@@ -15,7 +15,7 @@ use Rattle.epochs.specs.Collator.{feeding, ownPlace, reportOf, rosterOf, fresh,
 use Rattle.epochs.specs.declared.collating.Collator.{Collator}
 use Rattle.epochs.specs.declared.collating.Report.{Report}
 use Rattle.lent_rows.specs.Lent.{atFront}
-use Rattle.states.specs.State.{stateSize, placeIn, placeStored, stateIn, collatorStored}
+use Rattle.places.specs.State.{stateSize, placeIn, placeStored, stateIn, collatorStored}
 
 -- ---- made
 

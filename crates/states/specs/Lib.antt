@@ -1,3 +1,2 @@
-pub mod State
 pub mod Feed
 pub mod Enlist

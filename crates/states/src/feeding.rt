@@ -4,18 +4,18 @@ ghost use Prim.Native.Nat.{_<_, _≤_};
 ghost use lib.ListN.{length};
 ghost use Rattle.layouts.specs.Field.{rowStored};
 ghost use Rattle.epochs.specs.Collator.{recognisedAnswer, forPlace, rosterOf};
-ghost use Rattle.states.specs.State.{seatIn, seatsIn, stateIn, placeStored};
+ghost use Rattle.places.specs.State.{seatIn, seatsIn, stateIn, placeStored};
 ghost use Rattle.states.specs.Feed.{reportFields, reportSize, reportRow, endedNumber, endedStored, stepIn, fedIn};
-use crate::placing::place_in;
-use crate::placing::put_place;
 use crate::sizes::REPORT_SIZE;
-use crate::sizes::SEAT_SIZE;
-use crate::sizes::SEATS_AT;
 use crate::sizes::STATE_SIZE;
 use epochs::Place;
 use epochs::Recognised;
 use epochs::Report;
 use packets::Packet;
+use places::place_in;
+use places::put_place;
+use places::sizes::SEAT_SIZE;
+use places::sizes::SEATS_AT;
 use runs::Ended;
 
 fn seat_in(s: &[u8], i: usize) -> u16

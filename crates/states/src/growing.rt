@@ -2,15 +2,15 @@
 ghost use mathlib.Core.Path.{_≡_};
 ghost use Prim.Native.Nat.{_<_};
 ghost use lib.ListN.{length};
-ghost use Rattle.states.specs.State.{sendersIn};
+ghost use Rattle.places.specs.State.{sendersIn};
 ghost use Rattle.states.specs.Enlist.{growingAnswer, growingStored, seatTaken, joinedIn, enlistedIn, enlistAnswer, enlistStored};
 use crate::feeding::seats_in;
 use crate::making::put_collator;
-use crate::sizes::SEAT_SIZE;
-use crate::sizes::SEATS_AT;
 use crate::sizes::STATE_SIZE;
 use epochs::Collator;
 use epochs::Seat;
+use places::sizes::SEAT_SIZE;
+use places::sizes::SEATS_AT;
 
 // A fresh collator that lists nobody; 32 where the state has no room.
 pub fn grow(state: &mut [u8]) -> u8

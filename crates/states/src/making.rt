@@ -2,14 +2,14 @@
 ghost use mathlib.Core.Path.{_≡_};
 ghost use Prim.Native.Nat.{_≤_};
 ghost use lib.ListN.{length};
-ghost use Rattle.states.specs.State.{seatsStored, placesStored, collatorStored};
+ghost use Rattle.places.specs.State.{seatsStored, placesStored, collatorStored};
 ghost use Rattle.states.specs.Feed.{madeAnswer, madeStored};
-use crate::placing::put_place;
-use crate::sizes::SEAT_SIZE;
-use crate::sizes::SEATS_AT;
 use crate::sizes::STATE_SIZE;
 use epochs::Collator;
 use epochs::Place;
+use places::put_place;
+use places::sizes::SEAT_SIZE;
+use places::sizes::SEATS_AT;
 
 fn put_seats(s: &mut [u8], roster: [u16; 8])
     ensures { λ _. ⌜ now (s .exit) ≡ seatsStored roster (now (s .entry)) ⌝ }

@@ -15,7 +15,7 @@ use Rattle.epochs.specs.declared.collating.Happened.{Happened}
 use Rattle.epochs.specs.declared.collating.Happened.the-variants as H
 use Rattle.epochs.proofs.Making.{seated}
 use Rattle.epochs.proofs.Collations.{epoch-outcome}
-use Rattle.states.specs.State.{stateSize, stateIn}
+use Rattle.places.specs.State.{stateSize, stateIn}
 use Rattle.states.specs.Feed.{reportSize, fedIn, afterIn, madeStored}
 use Rattle.told.specs.Told.{AsSent, Sent, told, toldIn, Filled}
 use Rattle.states.proofs.Feeds.{feeds}

@@ -22,7 +22,7 @@ use Rattle.epochs.specs.declared.collating.Collator.{Collator}
 use Rattle.epochs.specs.declared.collating.Report.{Report}
 use Rattle.epochs.specs.declared.collating.Happened.{Happened}
 use Rattle.epochs.specs.declared.collating.Happened.the-variants as H
-use Rattle.states.specs.State.{stateSize, slotFields, slotAt, slotRow, slotOf, stateIn}
+use Rattle.places.specs.State.{stateSize, slotFields, slotAt, slotRow, slotOf, stateIn}
 use Rattle.states.specs.Feed.{reportFields, reportSize, reportRow, endedStored, forPlaceIn, stepIn, FedIn, cameOut, fedIn}
 use Rattle.told.specs.Told.{toldBy, told}
 use Rattle.lent_rows.proofs.Parts.{stored-front}

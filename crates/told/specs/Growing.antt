@@ -10,7 +10,7 @@ use Rattle.epochs.specs.Epoch.{after, outcomes}
 use Rattle.epochs.specs.declared.collating.Happened.{Happened}
 use Rattle.enlisting.specs.FirstEight.{firstEight}
 use Rattle.enlisting.specs.Enlisting.{enlistedTo, newOutcomes, newAfter}
-use Rattle.states.specs.State.{stateSize, stateIn}
+use Rattle.places.specs.State.{stateSize, stateIn}
 use Rattle.states.specs.Feed.{reportSize, FedIn, fedIn}
 use Rattle.states.specs.Enlist.{growingStored, enlistStored}
 use Rattle.told.specs.Told.{Sent, told}

@@ -11,7 +11,7 @@ use Rattle.epochs.specs.Collator.{made}
 use Rattle.epochs.specs.declared.collating.Report.{Report}
 use Rattle.epochs.specs.declared.collating.Happened.{Happened}
 use Rattle.epochs.specs.declared.collating.Happened.the-variants as H
-use Rattle.states.specs.State.{stateSize}
+use Rattle.places.specs.State.{stateSize}
 use Rattle.states.specs.Feed.{reportSize, FedIn, fedIn}
 
 -- a frame as C has it: its payload is bytes, its sender a number of 16 bits

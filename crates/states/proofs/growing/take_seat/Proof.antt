@@ -2,7 +2,7 @@
 use mathlib.Core.Path.{ap, _∙_}
 use Prim.Native.Nat.{ℕ, _+_}
 use Rattle.layouts.specs.Field.{rowStored}
-use Rattle.states.specs.State.{seatFields, seatAt, countStored}
+use Rattle.places.specs.State.{seatFields, seatAt, countStored}
 use Rattle.states.specs.Enlist.{seatTaken}
 use borrow.Author.Needs.{needs}
 use Rattle.states.proofs.growing.take_seat.Statement.{statement}

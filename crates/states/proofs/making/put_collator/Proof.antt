@@ -1,7 +1,7 @@
 -- `states::making::put_collator` meets its contract: the count, then the seats, then the places.
 use mathlib.Core.Path.{ap, _∙_}
 use borrow.Author.Needs.{needs}
-use Rattle.states.specs.State.{seatsStored, placesStored}
+use Rattle.places.specs.State.{seatsStored, placesStored}
 use Rattle.states.proofs.making.put_collator.Statement.{statement}
 use Rattle.states.proofs.making.put_collator.Tie as tie
 

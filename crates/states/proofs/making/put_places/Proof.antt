@@ -1,11 +1,13 @@
 -- `states::making::put_places` meets its contract. The loop's invariant: the first i places are stored.
 use mathlib.Core.Path.{_≡_, ap, _∙_}
-use Prim.Native.Nat.{ℕ, _-_, _≤_}
+use Prim.Native.Nat.{ℕ, _-_, _%_, _≤_}
+use native.Mathlib.Nat.{mod-eq-of-lt}
 use native.Mathlib.Omega.{arith}
 use borrow.Author.Needs.{needs}
-use lib.ListN.{length}
+use lib.ListN.{length, getD}
+use Rattle.epochs.specs.Collator.{idle}
 use Rattle.lent_rows.specs.Lent.{firstRowsStored}
-use Rattle.states.specs.State.{slotFields, placesAt, placeRow}
+use Rattle.places.specs.State.{slotFields, placesAt, placeStored, placeRow}
 use Rattle.lent_rows.proofs.Tables.{rows-none, rows-more, length-stored}
 use Rattle.states.proofs.making.put_places.Statement.{statement}
 use Rattle.states.proofs.making.put_places.Tie as tie
@@ -32,7 +34,14 @@ loop-less : tie.Need-loop-less Inv-loop μ-loop
 loop-less c = omega arith
 
 loop-again : tie.Need-loop-again Inv-loop μ-loop
-loop-again c = let k = c .before .before .before .before .before .before .loop in let a = c .before .before .before .before .before .before .before .before .args in (omega arith, rows-more slotFields (placeRow (a .t2)) (a .s .now) placesAt (k .i) (k .inv .1) (c .before .before .put-place .ensures))
+loop-again c =
+    let k = c .before .before .before .before .before .before .loop in
+    let a = c .before .before .before .before .before .before .before .before .args in
+    let own : k .i % 8 ≡ k .i = mod-eq-of-lt (omega arith) in (
+      omega arith,
+      rows-more slotFields (placeRow (a .t2)) (a .s .now) placesAt (k .i) (k .inv .1)
+          (c .before .before .put-place .ensures ∙ ap (λ (i : ℕ). placeStored (k .s) i (getD (a .t2) (k .i) idle)) own),
+    )
 
 same-length : tie.Need-same-length Inv-loop μ-loop
 same-length c = let a = c .before .before .before .args in ap length (c .before .loop .inv .1) ∙ length-stored slotFields (placeRow (a .t2)) (a .s .now) placesAt (c .before .loop .i)
@@ -49,7 +58,7 @@ put-places-spec =
     loop-holds
     mul-place
     array-copy-out-place
-    (λ c κs. search needs)
+    (λ c κs. tt)
     add-i
     loop-less
     loop-again

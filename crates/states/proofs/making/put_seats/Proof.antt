@@ -4,7 +4,7 @@ use Prim.Native.Nat.{ℕ, _-_, _≤_}
 use native.Mathlib.Omega.{arith}
 use lib.ListN.{length}
 use Rattle.lent_rows.specs.Lent.{firstRowsStored}
-use Rattle.states.specs.State.{seatFields, seatsAt, seatRow}
+use Rattle.places.specs.State.{seatFields, seatsAt, seatRow}
 use Rattle.lent_rows.proofs.Tables.{rows-none, rows-more, length-stored}
 use Rattle.states.proofs.making.put_seats.Statement.{statement}
 use Rattle.states.proofs.making.put_seats.Tie as tie

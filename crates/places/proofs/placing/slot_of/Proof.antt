@@ -1,9 +1,9 @@
--- `states::placing::slot_of` meets its contract, run by run.
+-- `places::placing::slot_of` meets its contract, run by run.
 use mathlib.Core.Path.{sym, ap}
-use Rattle.states.specs.State.{slotFor}
+use Rattle.places.specs.State.{slotFor}
 use borrow.Author.Needs.{needs}
-use Rattle.states.proofs.placing.slot_of.Statement.{statement}
-use Rattle.states.proofs.placing.slot_of.Tie as tie
+use Rattle.places.proofs.placing.slot_of.Statement.{statement}
+use Rattle.places.proofs.placing.slot_of.Tie as tie
 
 returns : tie.Need-returns
 returns c = ap slotFor (sym (c .enum-told .given .1))

@@ -1,7 +1,7 @@
 // A sender's place among the bytes of a collator.
 ghost use mathlib.Core.Path.{_≡_};
-ghost use Prim.Native.Nat.{_<_};
-ghost use Rattle.states.specs.State.{slotAt, placeOf, slotOf, slotIn, slotStored, placeIn, placeStored};
+ghost use Prim.Native.Nat.{_%_};
+ghost use Rattle.places.specs.State.{slotAt, placeOf, slotOf, slotIn, slotStored, placeIn, placeStored};
 use crate::sizes::PLACES_AT;
 use crate::sizes::SLOT_SIZE;
 use epochs::Place;
@@ -65,17 +65,15 @@ fn slot_of(place: Place) -> Slot
     }
 }
 
-// Where the bytes of place i begin. Its remainder by 8 is i, which tells the compiler that all of them lie within a state.
+// Where the bytes of place i % 8 begin. With the remainder every number is a place's, and the compiler knows that its bytes lie within a state.
 fn slot_at(i: usize) -> usize
-    requires { ⌜ i < 8 ⌝ }
-    ensures { λ r. ⌜ r ≡ slotAt i ⌝ }
+    ensures { λ r. ⌜ r ≡ slotAt (i % 8) ⌝ }
 {
     PLACES_AT + i % 8 * SLOT_SIZE
 }
 
 fn slot_in(s: &[u8], i: usize) -> Slot
-    requires { ⌜ i < 8 ⌝ }
-    ensures { λ r. ⌜ r ≡ slotIn (now (s .entry)) i ⌝ }
+    ensures { λ r. ⌜ r ≡ slotIn (now (s .entry)) (i % 8) ⌝ }
 {
     let opened = slot_at(i);
     let tow = opened + 1;
@@ -94,8 +92,7 @@ fn slot_in(s: &[u8], i: usize) -> Slot
 }
 
 fn put_slot(s: &mut [u8], i: usize, slot: Slot)
-    requires { ⌜ i < 8 ⌝ }
-    ensures { λ _. ⌜ now (s .exit) ≡ slotStored (now (s .entry)) i slot ⌝ }
+    ensures { λ _. ⌜ now (s .exit) ≡ slotStored (now (s .entry)) (i % 8) slot ⌝ }
 {
     let opened = slot_at(i);
     let tow = opened + 1;
@@ -111,16 +108,15 @@ fn put_slot(s: &mut [u8], i: usize, slot: Slot)
     wire::store_u16(s, total, slot.total);
 }
 
-pub(crate) fn place_in(s: &[u8], i: usize) -> Place
-    requires { ⌜ i < 8 ⌝ }
-    ensures { λ r. ⌜ r ≡ placeIn (now (s .entry)) i ⌝ }
+// Place i % 8 of the eight.
+pub fn place_in(s: &[u8], i: usize) -> Place
+    ensures { λ r. ⌜ r ≡ placeIn (now (s .entry)) (i % 8) ⌝ }
 {
     place_of(slot_in(s, i))
 }
 
-pub(crate) fn put_place(s: &mut [u8], i: usize, place: Place)
-    requires { ⌜ i < 8 ⌝ }
-    ensures { λ _. ⌜ now (s .exit) ≡ placeStored (now (s .entry)) i place ⌝ }
+pub fn put_place(s: &mut [u8], i: usize, place: Place)
+    ensures { λ _. ⌜ now (s .exit) ≡ placeStored (now (s .entry)) (i % 8) place ⌝ }
 {
     put_slot(s, i, slot_of(place));
 }

@@ -14,7 +14,7 @@ use Rattle.runs.specs.declared.running.Run.the-variants.{Idle, Open}
 use Rattle.epochs.specs.declared.collating.Place.{Place}
 use Rattle.epochs.specs.declared.collating.Collator.{Collator}
 use Rattle.lent_rows.specs.Lent.{firstRowsStored}
-use Rattle.states.specs.declared.placing.Slot.{Slot}
+use Rattle.places.specs.declared.placing.Slot.{Slot}
 
 -- ---- where the parts stand
 

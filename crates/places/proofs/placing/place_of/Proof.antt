@@ -1,7 +1,7 @@
--- `states::placing::place_of` meets its contract: idle where the number is 0.
+-- `places::placing::place_of` meets its contract: idle where the number is 0.
 use borrow.Author.Tests.{eq-eqb, ne-eqb}
-use Rattle.states.proofs.placing.place_of.Statement.{statement}
-use Rattle.states.proofs.placing.place_of.Tie as tie
+use Rattle.places.proofs.placing.place_of.Statement.{statement}
+use Rattle.places.proofs.placing.place_of.Tie as tie
 
 returns : tie.Need-returns
 returns c = rw (eq-eqb _ _ (c .if1 .taken))

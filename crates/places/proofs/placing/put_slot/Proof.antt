@@ -1,13 +1,13 @@
--- `states::placing::put_slot` meets its contract: one store after the other.
+-- `places::placing::put_slot` meets its contract: one store after the other.
 use mathlib.Core.Path.{ap, _∙_}
 use Prim.Native.Nat.{ℕ}
 use native.Mathlib.Omega.{arith}
 use borrow.Author.Needs.{needs}
 use Rattle.layouts.specs.Field.{rowStored}
 use Rattle.layouts.proofs.Fields.{then}
-use Rattle.states.specs.State.{slotFields, slotRow}
-use Rattle.states.proofs.placing.put_slot.Statement.{statement}
-use Rattle.states.proofs.placing.put_slot.Tie as tie
+use Rattle.places.specs.State.{slotFields, slotRow}
+use Rattle.places.proofs.placing.put_slot.Statement.{statement}
+use Rattle.places.proofs.placing.put_slot.Tie as tie
 
 add-tow : tie.Need-add-tow
 add-tow c = omega arith
@@ -41,7 +41,7 @@ pub put-slot-spec : {M : Type 1} → statement M
 put-slot-spec =
     tie.close
     (tie.spec
-    (λ c κs. search needs)
+    (λ c κs. tt)
     add-tow
     add-wn
     add-n

@@ -1,13 +1,13 @@
--- `states::placing::slot_in` meets its contract, field by field.
+-- `places::placing::slot_in` meets its contract, field by field.
 use mathlib.Core.Path.{_≡_, ap, _∙_}
 use Prim.Native.Nat.{ℕ}
 use native.Mathlib.Omega.{arith}
 use borrow.Author.Needs.{needs}
 use Rattle.layouts.specs.Field.{decode}
-use Rattle.states.specs.State.{slotFields, slotMake}
-use Rattle.states.specs.declared.placing.Slot.{Slot}
-use Rattle.states.proofs.placing.slot_in.Statement.{statement}
-use Rattle.states.proofs.placing.slot_in.Tie as tie
+use Rattle.places.specs.State.{slotFields, slotMake}
+use Rattle.places.specs.declared.placing.Slot.{Slot}
+use Rattle.places.proofs.placing.slot_in.Statement.{statement}
+use Rattle.places.proofs.placing.slot_in.Tie as tie
 
 add-tow : tie.Need-add-tow
 add-tow c = omega arith
@@ -40,7 +40,7 @@ pub slot-in-spec : {M : Type 1} → statement M
 slot-in-spec =
     tie.close
     (tie.spec
-    (λ c κs. search needs)
+    (λ c κs. tt)
     add-tow
     add-wn
     add-n

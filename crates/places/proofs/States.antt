@@ -10,17 +10,13 @@ use borrow.Author.Tests.{ltb-true, ltb-false}
 use Rattle.layouts.specs.Field.{HeldRow, SettledRow, Row, size}
 use Rattle.layouts.proofs.Fields.{length-row}
 use Rattle.wire.specs.Tabulated.{tabulated}
-use Rattle.runs.specs.Run.{stepped}
 use Rattle.epochs.specs.Collator.{idle}
-use Rattle.packets.specs.declared.packet.Packet.{Packet}
 use Rattle.runs.specs.declared.running.Part.{Part}
 use Rattle.runs.specs.declared.running.Run.{Run}
 use Rattle.runs.specs.declared.running.Run.the-variants.{Idle, Open}
 use Rattle.epochs.specs.declared.collating.Place.{Place}
-use Rattle.runs.specs.declared.running.Stepped.{Stepped}
 use Rattle.epochs.specs.declared.collating.Collator.{Collator}
-use Rattle.runs.proofs.StepCases.{step-cases}
-use Rattle.states.specs.State.{countFields, seatFields, slotFields, seatsAt, placesAt, stateSize, seatAt, slotAt, slotRow, slotMake, placeOf, slotFor, slotOf, placeIn, placeStored, sendersIn, seatIn, seatsIn, stateIn, countStored, seatRow, seatsStored, placeRow, collatorStored}
+use Rattle.places.specs.State.{countFields, seatFields, slotFields, seatsAt, placesAt, stateSize, seatAt, slotAt, slotRow, slotMake, placeOf, slotFor, slotOf, placeIn, placeStored, sendersIn, seatIn, seatsIn, stateIn, countStored, seatRow, seatsStored, placeRow, collatorStored}
 use Rattle.lent_rows.proofs.Parts.{decode-stored, decode-before, decode-after}
 use Rattle.wire.proofs.Tables.{tabulated-set, tabulated-same, tabulated-all}
 use Rattle.lent_rows.proofs.Tables.{rows-own, rows-before, length-stored}
@@ -54,18 +50,6 @@ settled r = (refl, (refl, (refl, (refl, (refl, (refl, tt))))))
 back : (r : Run) → placeOf (slotFor r) ≡ record { run = r }
 back Idle = refl
 back (Open part) = refl
-
--- a packet whose numbers are small leaves a run whose numbers are
-pub record SmallPacket (p : Packet) : Type 0 where
-  pub tow : p .key .tow < 2 ^ 32
-  pub wn : p .key .wn < 65536
-  pub n : p .key .n < 256
-  pub observations : p .observations < 65536
-
-pub stepped-small : (p : Packet) → SmallPacket p → (run : Run) → SmallRun (stepped run p .run)
-stepped-small p small =
-    step-cases (λ (s : Stepped). SmallRun (s .run)) p tt (λ total h. tt)
-    (λ total h. record { tow = small .tow; wn = small .wn; n = small .n; next = omega arith; total = h (small .observations) })
 
 -- ---- one place stored
 
