@@ -1,44 +1,85 @@
 #!/usr/bin/env python3
-"""Works out what vectors must print, by the twin beside it and Python's own codecs.
+"""Works out published values and edge cases, by the twin beside it and Python's own codecs: what vectors must print, and what the linked functions
+have to say when tests/values asks them.
 
 usage: answers.py > crates/vectors/stdout
+       answers.py --asked
 """
 import binascii
 import struct
+import sys
 
-from twin import FIX_MODES, FLAGS, HEARTBEAT_FLAGS, MESSAGES, OBS, Sorter, answer, frame, is_obs, made, obs, reading, row
+from twin import FIX_MODES, FLAGS, HEARTBEAT_FLAGS, MESSAGES, OBS, Sorter, answer, frame, is_obs, log_answer, made, obs, reading, row
 
 # type through payload of the example frame of 003, section 4, and the fields that table 4.0.2 reads in it
 EXAMPLE = bytes.fromhex("0202cc0414703dd018cfefffffefe8fffff018000000000500")
 FIELDS = dict(tow=416300400, x=-4145, y=-5905, z=6384, accuracy=0, n_sats=5, flags=0)
 
+# the CRC's check text, and the starts from which parts are taken
+TEXT = b"123456789"
+STARTS = 0, 1, 65535
 
-def checksums():
-    for name, data in ("nothing", b""), ("123456789", b"123456789"), ("example-frame", EXAMPLE):
+
+def published():
+    """The CRC of nothing, of its check text and of the example frame; that frame read, with its fields; and read with a CRC that differs."""
+    for name, data in ("nothing", b""), ("123456789", TEXT), ("example-frame", EXAMPLE):
         yield "crc %s %04x" % (name, binascii.crc_hqx(data, 0))
+    example = frame(0x0202, 1228, EXAMPLE[5:])
+    yield from readings("example", example)
+    yield "baseline-ecef %s %s" % (" ".join("%d" % v for v in FIELDS.values()), frame(0x0202, 0x0201, EXAMPLE[5:]).hex())
+    yield from readings("example-damaged", example[:-1] + b"\x95")
+
+
+def readings(name, data):
+    """A capture read frame by frame, open and closed, and its totals."""
+    for mode in "open", "closed":
+        found, counts, need = reading(data, mode == "open")
+        line = "%s %s" % (mode, name)
+        for at, kind, sender, payload in found:
+            line += " frame %d %d %d %d %s" % (at, kind, sender, len(payload), payload.hex())
+        yield line + (" end " if need is None else " needs %d " % need) + row(counts)
+    yield "totals %s %s" % (name, row(reading(data, False)[1]))
+
+
+def mixed(seed, step, size):
+    return bytes((seed + step * i) % 256 for i in range(size))
+
+
+def cuts():
+    """From each start the check text cut at its ten places, then parts of 0, 1 and 255 bytes."""
+    sizes = 0, 1, 255
+    pairs = [(TEXT[:at], TEXT[at:]) for at in range(10)] + [(mixed(3, 37, n), mixed(9, 41, m)) for n in sizes for m in sizes]
+    return [(start, first, second) for start in STARTS for first, second in pairs]
+
+
+def sums():
+    """A frame's header and its payload, and each without the other; then parts, the second begun at what the first comes to."""
     head = b"\x55" + EXAMPLE[:5]
     for name, header, payload in ("example-frame", head, EXAMPLE[5:]), ("no-header", b"", EXAMPLE[5:]), ("no-payload", head, b""):
         yield "crc-apart %s %04x" % (name, binascii.crc_hqx(header[1:] + payload, 0))
-    text, sizes = b"123456789", (0, 1, 255)
-    cuts = [(text[:at], text[at:]) for at in range(10)] + [(mixed(3, 37, n), mixed(9, 41, m)) for n in sizes for m in sizes]
-    for start in 0, 1, 65535:
-        yield "crc-from %d %04x" % (start, binascii.crc_hqx(text, start))
-        for first, second in cuts:
-            whole = binascii.crc_hqx(first + second, start)
-            yield "crc-parts %d %d %d %04x %04x %04x" % (start, len(first), len(second), binascii.crc_hqx(first, start), whole, whole)
+    for start in STARTS:
+        yield "crc-from %d %04x" % (start, binascii.crc_hqx(TEXT, start))
+    for start, first, second in cuts():
+        sizes = start, len(first), len(second)
+        yield "crc-parts %d %d %d %04x %04x" % (*sizes, binascii.crc_hqx(first, start), binascii.crc_hqx(first + second, start))
+
+
+def sums_apart():
+    """The same parts by the one function that takes both, which what is linked calls with a start of 0 alone."""
+    for start, first, second in cuts():
+        yield "crc-apart-from %d %d %d %04x" % (start, len(first), len(second), binascii.crc_hqx(first + second, start))
 
 
 def numbers():
-    data = bytes([1, 2, 3, 4, 0x85, 0x86, 0x87, 0x88])
-    for name, at in ("0", 0), ("4", 4), ("7", 7), ("8", 8), ("greatest", 2**64 - 1):
+    data, greatest = bytes([1, 2, 3, 4, 0x85, 0x86, 0x87, 0x88]), 2**64 - 1
+    for at in 0, 4, 7, 8, greatest:
         read = [int.from_bytes((data[at:at + w] + bytes(8))[:w], "little") for w in (1, 2, 4, 8)]
-        yield "read-at %s %d %d %d %d" % (name, *read)
-    ends = ("least-16", "00800000"), ("greatest-16", "ff7f0000"), ("least-32", "00000080"), ("greatest-32", "ffffff7f"), ("minus-one", "ffffffff")
-    for name, text in ends:
-        raw = bytes.fromhex(text)
-        yield "signed %s %d %d %s" % (name, *struct.unpack("<h", raw[:2]), *struct.unpack("<i", raw), (raw[:2] + raw).hex())
-    for name, at in ("0", 0), ("3", 3), ("5", 5), ("7", 7), ("9", 9), ("greatest", 2**64 - 1):
-        buf, line = bytearray([0x11] * 9), "store-at " + name
+        yield "read-at %d %d %d %d %d" % (at, *read)
+    for n in 0x8000, 0x7FFF, 0x80000000, 0x7FFFFFFF, 0xFFFFFFFF:
+        raw = struct.pack("<I", n)
+        yield "signed %08x %d %d %s" % (n, *struct.unpack("<h", raw[:2]), *struct.unpack("<i", raw), (raw[:2] + raw).hex())
+    for at in 0, 3, 5, 7, 9, greatest:
+        buf, line = bytearray([0x11] * 9), "store-at %d" % at
         for w, value in (1, 0xA1), (2, 0xB2B1), (4, 0xC4C3C2C1), (8, 0xD8D7D6D5D4D3D2D1):
             if at + w <= len(buf):
                 buf[at:at + w] = value.to_bytes(w, "little")
@@ -47,43 +88,29 @@ def numbers():
 
 
 def doubles():
-    patterns = (
-        ("zero", 0x0000000000000000), ("minus-zero", 0x8000000000000000), ("one", 0x3FF0000000000000),
-        ("least-subnormal", 0x0000000000000001), ("greatest-subnormal", 0x000FFFFFFFFFFFFF),
-        ("least-normal", 0x0010000000000000), ("greatest", 0x7FEFFFFFFFFFFFFF),
-        ("infinity", 0x7FF0000000000000), ("minus-infinity", 0xFFF0000000000000),
-        ("signalling-nan", 0x7FF0000000000001), ("quiet-nan", 0x7FF8000000000000),
-        ("quiet-nan-with-payload", 0x7FF8DEADBEEF0001), ("minus-signalling-nan", 0xFFF4000000000000),
-        ("minus-quiet-nan", 0xFFFFFFFFFFFFFFFF))
-    for name, bits in patterns:
+    """Both zeros, one, the ends of the subnormals and of the normals; both infinities; signalling and quiet NaNs; and two that no reading makes."""
+    for bits in (
+            0x0000000000000000, 0x8000000000000000, 0x3FF0000000000000, 0x0000000000000001, 0x000FFFFFFFFFFFFF, 0x0010000000000000, 0x7FEFFFFFFFFFFFFF,
+            0x7FF0000000000000, 0xFFF0000000000000, 0x7FF0000000000001, 0x7FF8000000000000, 0x7FF8DEADBEEF0001, 0xFFF4000000000000, 0xFFFFFFFFFFFFFFFF):
         value = struct.unpack("<d", bits.to_bytes(8, "little"))[0]
         nan = value != value
-        yield "double %s %016x %d %016x %016x" % (name, bits, nan, bits if nan else 0, bits)
+        yield "double %016x %d %016x %016x" % (bits, nan, bits if nan else 0, bits)
     yield "double nan-without-pattern 7ff8000000000000"
     yield "double one-with-pattern 3ff0000000000000"
 
 
 def captures():
-    example = frame(0x0202, 1228, EXAMPLE[5:])
     inside = bytes.fromhex("5501010202085500000000000000aabb")
-    cases = (
-        ("example", example), ("example-damaged", example[:-1] + b"\x95"), ("all-zero-frame", b"\x55" + bytes(7)), ("nothing", b""),
-        ("five-bytes", b"\x55" + bytes(4)), ("frame-inside-a-bad-one", inside), ("preamble-in-a-payload", frame(0x1234, 0x5678, b"\x55\x55")),
-        ("noise-around", b"\x01\x55" + bytes(7) + b"\x02\x03\x55"))
-    for name, data in cases:
-        for mode in "open", "closed":
-            found, counts, need = reading(data, mode == "open")
-            line = "%s %s" % (mode, name)
-            for at, kind, sender, payload in found:
-                line += " frame %d %d %d %d %s" % (at, kind, sender, len(payload), payload.hex())
-            yield line + (" end " if need is None else " needs %d " % need) + row(counts)
-        yield "totals %s %s" % (name, row(reading(data, False)[1]))
-        if name == "example":
-            yield "baseline-ecef %s %s" % (" ".join("%d" % v for v in FIELDS.values()), frame(0x0202, 0x0201, EXAMPLE[5:]).hex())
+    for name, data in (
+            ("all-zero-frame", b"\x55" + bytes(7)), ("nothing", b""), ("five-bytes", b"\x55" + bytes(4)), ("frame-inside-a-bad-one", inside),
+            ("preamble-in-a-payload", frame(0x1234, 0x5678, b"\x55\x55"))):
+        yield from readings(name, data)
+    yield from noise_around()
 
 
-def mixed(seed, step, size):
-    return bytes((seed + step * i) % 256 for i in range(size))
+def noise_around():
+    """A frame with noise before and after it, and a byte that begins a frame: vectors has a cursor that counts from frame to frame."""
+    yield from readings("noise-around", b"\x01\x55" + bytes(7) + b"\x02\x03\x55")
 
 
 def written():
@@ -96,10 +123,10 @@ def written():
         found, _, need = reading(data[:n], True)
         outcome = "frame %d" % found[0][2] if found else "end" if need is None else "needs %d" % need
         yield "cut %d %s %s" % (n, outcome, row(reading(data[:n], False)[1]))
-    untouched = "11" * 12
+    untouched = "ee" * 12
     yield "write 5-into-12 refused 32 " + untouched
     yield "write 256-into-12 refused 31 " + untouched
-    yield "write 3-into-12 11 " + frame(0x0102, 0x42, mixed(7, 3, 3)).hex() + "11"
+    yield "write 3-into-12 11 " + frame(0x0102, 0x42, mixed(7, 3, 3)).hex() + "ee"
 
 
 def message(name, payload):
@@ -192,12 +219,32 @@ def observations():
         yield "parts %d %s" % (z, "%d %d" % (z // 256, z % 256) if -2**39 <= z < 2**39 else "refused 33")
 
 
+def log_payloads():
+    """With zeros after the level and the text, or none; then with a letter after a zero, and a level of 0, which ends nothing."""
+    data = mixed(65, 6, 300)
+    for filled, size in (0, 0), (1, 1), (9, 9), (9, 10), (9, 200), (1, 255), (0, 5), (255, 255), (254, 255), (256, 256):
+        yield (data[:filled] + bytes(256))[:size]
+    for filled, at, size in (9, 10, 20), (9, 19, 20), (9, 9, 20), (0, 1, 6), (0, 2, 6), (9, 200, 256):
+        payload = bytearray((data[:filled] + bytes(256))[:256])
+        payload[at] = 0x41
+        yield bytes(payload[:size])
+
+
+def log_text(payload):
+    """It ends before the first zero after the level."""
+    return payload[1:].split(b"\0")[0]
+
+
+def log_texts():
+    """A payload that is refused has a text too."""
+    for payload in log_payloads():
+        yield "log-text %d %s" % (len(payload), log_text(payload).hex())
+
+
 def read_log(payload):
-    """A LOG's text ends before the first zero after the level, and from there on all is zero; a refused payload has a text too."""
-    text = payload[1:].split(b"\0")[0]
-    refusal = 22 if not 1 <= len(payload) <= 255 else 23 if payload[1 + len(text):].strip(b"\0") else 0
-    record = "refused %d" % refusal if refusal else "%d %d %d" % (payload[0], len(text), len(payload) - 1 - len(text))
-    return "log %d %s %s" % (len(payload), record, text.hex())
+    """Level, length of the text, and how many zeros stand after it."""
+    refusal, size = log_answer(payload), len(log_text(payload))
+    return "log %d %s" % (len(payload), "refused %d" % refusal if refusal else "%d %d %d" % (payload[0], size, len(payload) - 1 - size))
 
 
 def write_log(text, padding, room):
@@ -211,12 +258,7 @@ def write_log(text, padding, room):
 
 def logs():
     data = mixed(65, 6, 300)
-    for filled, size in (0, 0), (1, 1), (9, 9), (9, 10), (9, 200), (1, 255), (0, 5), (255, 255), (254, 255), (256, 256):
-        yield read_log((data[:filled] + bytes(256))[:size])
-    for filled, at, size in (9, 10, 20), (9, 19, 20), (9, 9, 20), (0, 1, 6), (0, 2, 6), (9, 200, 256):
-        payload = bytearray((data[:filled] + bytes(256))[:256])
-        payload[at] = 0x41
-        yield read_log(bytes(payload[:size]))
+    yield from map(read_log, log_payloads())
     for size, padding, room in (0, 0, 9), (0, 3, 13), (5, 0, 14), (5, 0, 13), (5, 2, 16), (5, 2, 15):
         yield write_log(data[:size], padding, room)
     for size, padding in (254, 0), (255, 0), (100, 154), (100, 155), (0, 254), (0, 255), (5, 2**64 - 1):
@@ -238,25 +280,38 @@ def walks():
 
 
 def types():
+    """The lengths up to 264 at which zeros are taken, by type; then how many types answer 21 to an empty payload, and how many 22."""
     sizes = {kind: [struct.calcsize("<" + layout)] for kind, layout, _ in MESSAGES.values()}
     sizes.update({OBS: range(7, 248, 16), 0x0401: range(1, 256)})
-    order = (0x0100, 0x0206, 0x0200, 0x0201, 0x0202, 0x0204, 0x0203, 0x0205, 0x0207, 0x0044, 0x0048, 0x0081, 0x0082, 0x0083, 0x0090, 0x0091, 0x0092,
-             0x0049, 0x0401, 0x00A1, 0x00A6, 0x00A2, 0xFF00, 0xFFFF)
-    for kind in order:
-        yield "lengths %04x %s" % (kind, " ".join("%d" % n for n in sizes[kind]))
-    yield "types %d %d" % (65536 - len(order), sum(0 not in sizes[kind] for kind in order))
+    for kind, lengths in sizes.items():
+        yield "lengths %04x %s" % (kind, " ".join("%d" % n for n in lengths))
+    yield "types %d %d" % (65536 - len(sizes), sum(0 not in lengths for lengths in sizes.values()))
 
 
 def fed(name, sorter, *packets):
     return name + "".join(sorter.feed(OBS, sender, obs(*packet)) for sender, *packet in packets)
 
 
-def replayed(name, data):
+def two_captures():
+    """The same frames for each sender, in order and shuffled between senders, with noise and an unlisted sender; and the epochs of both."""
+    base = (1228, 10, 1900, 0x20, 1), (1228, 10, 1900, 0x21, 2), (1228, 20, 1900, 0x10, 3)
+    rover = (0, 10, 1900, 0x20, 2), (0, 10, 1900, 0x21, 1), (0, 20, 1900, 0x20, 1)
+    stranger = 77, 10, 1900, 0x21, 1
+    in_a_row = lambda *packets: b"".join(frame(OBS, sender, obs(*packet)) for sender, *packet in packets)
+    yield "ordered", epochs_in(in_a_row(*base, *rover))
+    yield "shuffled", epochs_in(bytes(3) + in_a_row(rover[0], base[0], stranger, base[1]) + bytes(5) + in_a_row(*rover[1:], base[2]))
+
+
+def epochs_in(data):
     sorter = Sorter(1228, 0)
     outcomes = [sorter.feed(kind, sender, payload) for _, kind, sender, payload in reading(data, False)[0]]
-    epochs = [outcome for outcome in outcomes if outcome.startswith(" epoch")]
-    yield name + "".join(epochs)
-    yield "%s 0 %d %d" % (name, *(sum(epoch.startswith(" epoch %d " % s) for epoch in epochs) for s in (1228, 0)))
+    return [outcome for outcome in outcomes if outcome.startswith(" epoch")]
+
+
+def counted():
+    """A whole capture collated: the roster's answer, and how many epochs each of the two senders has."""
+    for name, epochs in two_captures():
+        yield "%s 0 %d %d" % (name, *(sum(epoch.startswith(" epoch %d " % s) for epoch in epochs) for s in (1228, 0)))
 
 
 def collated():
@@ -282,19 +337,22 @@ def collated():
         packets = (1228, 0x30, 12), (0, 0x20, 9), (77, 0x21, 9), (1228, 0x31, 12), (0, 0x00, 1), (0, 0x21, 4), (1228, 0x32, 1)
         outcome += fed("", c, *((sender, tow, 1900, n_obs, count) for sender, n_obs, count in packets))
     yield "ticket %d %d" % (outcome.count(" epoch 1228 "), outcome.count(" epoch 0 "))
-    base = (1228, 10, 1900, 0x20, 1), (1228, 10, 1900, 0x21, 2), (1228, 20, 1900, 0x10, 3)
-    rover = (0, 10, 1900, 0x20, 2), (0, 10, 1900, 0x21, 1), (0, 20, 1900, 0x20, 1)
-    stranger = 77, 10, 1900, 0x21, 1
-    in_a_row = lambda *packets: b"".join(frame(OBS, sender, obs(*packet)) for sender, *packet in packets)
-    yield from replayed("ordered", in_a_row(*base, *rover))
-    yield from replayed("shuffled", bytes(3) + in_a_row(rover[0], base[0], stranger, base[1]) + bytes(5) + in_a_row(*rover[1:], base[2]))
+    for name, epochs in two_captures():
+        yield name + "".join(epochs)
 
 
 def lines():
-    for part in checksums, numbers, doubles, captures, written, each, orbits, flags, observations, logs, walks, types, collated:
+    """What vectors prints: the published values, and what no linked function reaches."""
+    for part in published, noise_around, sums_apart, numbers, doubles, log_texts, walks, counted:
+        yield from part()
+
+
+def asked():
+    """What tests/values prints: the published values again, and all that the linked functions can be asked."""
+    for part in published, sums, captures, written, each, orbits, flags, observations, logs, types, collated:
         yield from part()
 
 
 if __name__ == "__main__":
-    for line in lines():
+    for line in asked() if sys.argv[1:] == ["--asked"] else lines():
         print(line)

@@ -39,6 +39,10 @@ pub fn hex(n: u64, width: usize) {
     io::print_hex(1, n, width);
 }
 
+pub fn sum(n: u16) {
+    hex(n as u64, 4);
+}
+
 // All bytes in hex, with nothing between them.
 pub fn bytes(s: &[u8]) {
     io::write_all(1, b" ");

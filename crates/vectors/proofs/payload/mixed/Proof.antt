@@ -1,7 +1,6 @@
 -- `vectors::payload::mixed` is safe and ends: it counts to 300, and the array keeps its length.
 use Prim.Native.Nat.{_≤_, _-_}
 use native.Mathlib.Omega.{arith}
-use borrow.Author.Needs.{needs}
 use lib.ListN.{length, length-set}
 use mathlib.Core.Path.{_≡_, refl, sym}
 use Rattle.vectors.proofs.payload.mixed.Statement.{statement}
@@ -21,9 +20,6 @@ loop-holds c = (omega arith, refl)
 
 array-write-s : tie.Need-array-write-s Inv-loop μ-loop
 array-write-s c = omega arith
-
-wrapping-add-u8-requires : tie.Need-wrapping-add-u8-requires Inv-loop μ-loop
-wrapping-add-u8-requires c κs = search needs
 
 add-i : tie.Need-add-i Inv-loop μ-loop
 add-i c = omega arith
@@ -46,7 +42,7 @@ mixed-spec =
     cast-b
     loop-holds
     array-write-s
-    wrapping-add-u8-requires
+    (λ c κs. tt)
     add-i
     loop-less
     loop-again

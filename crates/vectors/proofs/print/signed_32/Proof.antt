@@ -9,11 +9,5 @@ use Rattle.vectors.proofs.print.signed_32.Tie as tie
 cast-signed : tie.Need-cast-signed
 cast-signed c = widened w32 w64 (c .args .z) (lit≤ tt) (c .fits .z)
 
-signed-requires : tie.Need-signed-requires
-signed-requires c κs = search needs
-
-returns : tie.Need-returns
-returns c = search needs
-
 pub signed-32-spec : {M : Type 1} → statement M
-signed-32-spec = tie.close (tie.spec cast-signed signed-requires returns)
+signed-32-spec = tie.close (tie.spec cast-signed (λ c κs. tt) (λ c. search needs))

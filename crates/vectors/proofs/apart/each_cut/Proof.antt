@@ -1,10 +1,10 @@
--- `vectors::checksums::each_cut` is safe and ends: it counts to one past the length.
+-- `vectors::apart::each_cut` is safe and ends: it counts to one past the length.
 use Prim.Native.Nat.{_≤_, _+_, _-_}
 use native.Mathlib.Omega.{arith}
 use borrow.Author.Needs.{needs}
 use lib.ListN.{length}
-use Rattle.vectors.proofs.checksums.each_cut.Statement.{statement}
-use Rattle.vectors.proofs.checksums.each_cut.Tie as tie
+use Rattle.vectors.proofs.apart.each_cut.Statement.{statement}
+use Rattle.vectors.proofs.apart.each_cut.Tie as tie
 
 abbrev Inv-loop : tie.InvT-loop
 Inv-loop start s at₀ at = at ≤ length s + 1
@@ -33,9 +33,6 @@ part-parts-start-2 c = omega arith
 part-parts-end-2 : tie.Need-part-parts-end-2 Inv-loop μ-loop
 part-parts-end-2 c = omega arith
 
-parts-requires : tie.Need-parts-requires Inv-loop μ-loop
-parts-requires c κs = search needs
-
 add-at : tie.Need-add-at Inv-loop μ-loop
 add-at c = omega arith
 
@@ -44,9 +41,6 @@ loop-less c = omega arith
 
 loop-again : tie.Need-loop-again Inv-loop μ-loop
 loop-again c = omega arith
-
-returns : tie.Need-returns Inv-loop μ-loop
-returns c = search needs
 
 pub each-cut-spec : {M : Type 1} → statement M
 each-cut-spec =
@@ -61,8 +55,8 @@ each-cut-spec =
     sub-parts-2
     part-parts-start-2
     part-parts-end-2
-    parts-requires
+    (λ c κs. tt)
     add-at
     loop-less
     loop-again
-    returns)
+    (λ c. search needs))
