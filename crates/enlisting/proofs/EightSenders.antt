@@ -18,7 +18,7 @@ use Rattle.epochs.specs.declared.collating.Made.{Made}
 use Rattle.epochs.proofs.Searches.{names-on, names-first, names-later, names-not, once-on}
 use Rattle.epochs.proofs.Making.{made-whole}
 use Rattle.enlisting.specs.FirstEight.{obsSenders, different, firstEight}
-use Rattle.enlisting.proofs.Joining.{Few, joined, by-joining, few-grown, grown-keeps}
+use Rattle.enlisting.proofs.Joining.{joined, by-joining, few-grown, grown-keeps}
 
 -- ---- they are senders of OBS frames, and all of them where there is room
 

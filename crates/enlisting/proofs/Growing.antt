@@ -15,7 +15,7 @@ use Rattle.observation.specs.Edition.{isObs}
 use Rattle.packets.specs.declared.packet.Packet.{Packet}
 use Rattle.packets.proofs.Recognitions.{read-46}
 use Rattle.epochs.specs.Search.{seatOf, names}
-use Rattle.epochs.specs.Collator.{forPlace, idle, acted, fedFrame, made}
+use Rattle.epochs.specs.Collator.{forPlace, idle, acted, fedFrame}
 use Rattle.epochs.specs.Epoch.{after, outcomes}
 use Rattle.epochs.specs.declared.seating.Seat.the-variants.{At}
 use Rattle.epochs.specs.declared.collating.Place.{Place}

@@ -1,17 +1,16 @@
 -- Layouts: both round trips, sizes, lengths and storing, each once from the parts. First of rows one after the other, then of a whole body.
 use mathlib.Core.Path.{_≡_, refl, sym, ap, ap₂, _∙_}
-use mathlib.Core.Bool.{Bool, true, false, _&&_, cond, true≢false, and-eq-true-iff}
+use mathlib.Core.Bool.{Bool, true, false, _&&_, true≢false, and-eq-true-iff}
 use mathlib.Core.List.{List, [], _∷_, _++_}
-use Prim.Native.Nat.{ℕ, zero, suc, _+_, _-_, _*_, _/_, _%_, _≤_, _<_}
+use Prim.Native.Nat.{ℕ, zero, suc, _+_, _-_, _*_, _%_, _≤_, _<_}
 use native.Mathlib.Nat.{zero-mul, suc-mul, add-comm, mul-div-cancel, mul-mod-left, div-add-mod', not-suc-le-zero, le-of-suc-le-suc}
 use native.Mathlib.Omega.{arith}
-use lib.Dec.{leb, eqb}
 use lib.ListN.{length, getD, take, drop, length-append, length-drop, take-append-drop}
-use lib.Seq.{sets, drop-drop, drop-at, length-take-le, length-sets}
-use borrow.Author.Tests.{le-leb, lt-leb, leb-true, eq-eqb, eqb-true}
+use lib.Seq.{sets, drop-drop, drop-at, length-take-le}
+use borrow.Author.Tests.{le-leb, leb-true, eq-eqb, eqb-true}
 use Rattle.wire.specs.Number.{Bytes, bytesStored}
 use Rattle.padded.specs.Padded.{noZero, allZero}
-use Rattle.layouts.specs.Field.{Field, Row, HeldRow, SettledRow, allowedRow, rowBits, size, encode, decode, rowStored}
+use Rattle.layouts.specs.Field.{Field, Row, allowedRow, size, encode, decode, rowStored}
 use Rattle.layouts.specs.Layout as lay
 use Rattle.layouts.specs.Layout.{Layout, HeldRows, SettledRows, allowedRows, rowsBits, encodeRows, decodeRows, rowsStored, countIn, Body, HeldBody, SettledBody, allowedBody, fewEnough, bodyBits, bodySize, lengths, LengthOf, encodeBody, decodeBody, bodyStored, Sound}
 use Rattle.wire.proofs.Numbers.{bytes-take, bytes-drop, sets-append}

@@ -1,6 +1,6 @@
 -- A listing put into a buffer line by line: what the loop of `put_text` keeps, and what `list` answers.
-use mathlib.Core.Path.{_≡_, refl, sym, ap, ap₂, _∙_, subst}
-use mathlib.Core.Bool.{Bool, true, false, cond}
+use mathlib.Core.Path.{_≡_, sym, ap, ap₂, _∙_, subst}
+use mathlib.Core.Bool.{true, false}
 use mathlib.Core.List.{List, [], _++_, append-assoc, map}
 use Prim.Native.Nat.{ℕ, _+_, _%_, _^_, _≤_, _<_}
 use native.Mathlib.Omega.{arith}
@@ -25,7 +25,6 @@ use Rattle.epochs.specs.Collator.{fedFrame, made}
 use Rattle.epochs.specs.Epoch.{contentIn, contentsOf}
 use Rattle.epochs.specs.declared.collating.Collator.{Collator}
 use Rattle.epochs.specs.declared.collating.Fed.{Fed}
-use Rattle.epochs.specs.declared.collating.Happened.{Happened}
 use Rattle.text.proofs.Pending.{Pending, pending-begun, pending-stored, pending-done, pending-last}
 use Rattle.enlisting.specs.Enlisting.{enlistedTo, newOutcomes}
 use Rattle.enlisting.proofs.Growing.{as-of-the-first}

@@ -22,7 +22,7 @@ use Rattle.frames.specs.declared.step.Step.the-variants.{Found}
 use Rattle.frame_writer.proofs.Promised.{faithful}
 use Rattle.observation.specs.Edition.{Observed, obs, Head, observation, first}
 use Rattle.observation.specs.Obs.{readObs, readEntry, shown}
-use Rattle.obs_writer.specs.ObsWriter.{obsWriteAnswer, observed, obsWritten, headOf}
+use Rattle.obs_writer.specs.ObsWriter.{obsWriteAnswer, headOf}
 use Rattle.obs_writer.specs.ObsFaithful.{written, obsFrame, bufferAfter, ObsFaithful}
 use Rattle.observation.specs.declared.entry.Observation.{Observation}
 use Rattle.observation.specs.declared.obs.Obs.{Obs}

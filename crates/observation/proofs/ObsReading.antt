@@ -1,9 +1,9 @@
 -- OBS read, over the edition: what each reading answers, case by case; and that they show the whole message: its header, how many observations it
 -- has, and each of them.
 use mathlib.Core.Path.{_≡_, refl, sym, ap, ap₂, _∙_}
-use mathlib.Core.Bool.{Bool, true, false}
+use mathlib.Core.Bool.{true, false}
 use mathlib.Core.List.{List, [], _∷_}
-use Prim.Native.Nat.{ℕ, zero, suc, _+_, _*_, _≤_, _<_}
+use Prim.Native.Nat.{ℕ, zero, suc, _+_, _≤_, _<_}
 use native.Mathlib.Nat.{zero-mul, suc-mul, zero-add, add-zero, add-suc, suc-add, not-suc-le-zero, le-of-suc-le-suc}
 use native.Mathlib.Omega.{arith}
 use lib.ListN.{length, getD, drop, length-drop}
@@ -16,7 +16,7 @@ use Rattle.layouts.specs.Description.{madeOf, inside, reading, readAs}
 use Rattle.refusals.specs.Refusals.{refused, given}
 use Rattle.refusals.proofs.Ordered.{exactly-all}
 use Rattle.layouts.proofs.Fields.{decode-drop}
-use Rattle.layouts.proofs.Layouts.{allowed-rows, length-rows}
+use Rattle.layouts.proofs.Layouts.{allowed-rows}
 use Rattle.observation.specs.Edition.{Edition, Observed, obs, fitting, countIn, startOf, Head, first, isObs}
 use Rattle.observation.specs.Obs.{entryAt, readEntry, readEntryOf, shown, obsIn, readObs}
 use Rattle.observation.specs.declared.entry.Observation.{Observation}

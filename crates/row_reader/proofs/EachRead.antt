@@ -11,7 +11,7 @@ use Rattle.layouts.specs.Description.{inside, reading, readAs}
 use Rattle.formats.specs.Wide.{wideRow, wideBody, numberCount}
 use Rattle.observation.specs.Edition.{first}
 use Rattle.observation.specs.Obs.{entryAt, oneOfFrame, readEntryOf}
-use Rattle.payloads.specs.Payloads.{Described, messages, Entry, entryOf, entryFor, table, testsOf}
+use Rattle.payloads.specs.Payloads.{Described, messages, Entry, testsOf}
 use Rattle.payloads.proofs.Entries.{Found, found, all-of}
 use Rattle.row_reader.specs.ReadRow.{readRow, observationNumbers, readOne}
 use Rattle.row_reader.specs.ReadsTyped.{ReadsTyped, AllRead}

@@ -8,7 +8,6 @@ use Rattle.packets.specs.declared.packet.Packet.{Packet}
 use Rattle.runs.specs.declared.running.Part.{Part}
 use Rattle.runs.specs.declared.running.Run.{Run}
 use Rattle.runs.specs.declared.running.Run.the-variants.{Idle, Open}
-use Rattle.runs.specs.declared.running.Ended.{Ended}
 use Rattle.runs.specs.declared.running.Ended.the-variants.{Not, Whole}
 use Rattle.runs.specs.declared.running.Stepped.{Stepped}
 

@@ -1,23 +1,38 @@
-// Whole captures collated: two with the same frames for each sender, shuffled between senders, with noise and an unlisted sender in one.
-use crate::payload::front;
-use crate::payload::put_obs;
+// Whole captures collated: two with the same frames for each sender, in order, and shuffled between senders, with noise and an unlisted sender.
 use crate::print;
+use frame_writer::Sender;
 
+// A frame without observations takes 15 bytes.
 pub fn run() {
-    in_order();
-    between_senders();
+    let mut ordered = [0u8; 90];
+    put_all(&mut ordered, [0, 15, 30], [45, 60, 75]);
+    counted(b"ordered", &ordered);
+    // three bytes of noise before, five between
+    let mut shuffled = [0u8; 113];
+    put_all(&mut shuffled, [18, 48, 98], [3, 68, 83]);
+    put(&mut shuffled, 33, 77, 10, 0x21);
+    counted(b"shuffled", &shuffled);
 }
 
-fn in_order() {
-    let mut buf = [0u8; 400];
-    ordered(&mut buf);
-    counted(b"ordered", &buf);
+// The base's and the rover's frames at their places: an epoch of two, and of the base one of one, of the rover half of one.
+fn put_all(buf: &mut [u8], base: [usize; 3], rover: [usize; 3]) {
+    put(buf, base[0], 1228, 10, 0x20);
+    put(buf, base[1], 1228, 10, 0x21);
+    put(buf, base[2], 1228, 20, 0x10);
+    put(buf, rover[0], 0, 10, 0x20);
+    put(buf, rover[1], 0, 10, 0x21);
+    put(buf, rover[2], 0, 20, 0x20);
 }
 
-fn between_senders() {
-    let mut buf = [0u8; 400];
-    shuffled(&mut buf);
-    counted(b"shuffled", &buf);
+// An OBS frame at buf[at..], where it fits: its time, n and counter.
+fn put(buf: &mut [u8], at: usize, sender: u16, tow: u32, n_obs: u8) {
+    let mut payload = [0u8; 7];
+    wire::store_u32(&mut payload, 0, tow);
+    wire::store_u16(&mut payload, 4, 1900);
+    wire::store_u8(&mut payload, 6, n_obs);
+    if at <= buf.len() {
+        frame_writer::write_frame(&mut buf[at..], 0x0049, Sender::Named(sender), &payload);
+    }
 }
 
 // The roster's answer, and how many epochs each of its senders has.
@@ -29,59 +44,4 @@ fn counted(name: &[u8], s: &[u8]) {
     print::number(reports[0] as u64);
     print::number(reports[1] as u64);
     print::end();
-}
-
-// An OBS payload: its time, n and counter; the observations are zeros.
-fn payload(tow: u32, n_obs: u8) -> [u8; 55] {
-    let mut s = [0u8; 55];
-    wire::store_u32(&mut s, 0, tow);
-    wire::store_u16(&mut s, 4, 1900);
-    wire::store_u8(&mut s, 6, n_obs);
-    s
-}
-
-// An OBS frame of n payload bytes: 23, 39 and 55 are those of one, two and three observations.
-fn put(buf: &mut [u8], at: usize, sender: u16, tow: u32, n_obs: u8, n: usize) -> usize {
-    let s = payload(tow, n_obs);
-    put_obs(buf, at, sender, front(&s, n))
-}
-
-fn ordered(buf: &mut [u8]) {
-    let at = base_alone(buf, 0);
-    rover_alone(buf, at);
-}
-
-fn base_alone(buf: &mut [u8], from: usize) -> usize {
-    let mut at = from;
-    at = put(buf, at, 1228, 10, 0x20, 23);
-    at = put(buf, at, 1228, 10, 0x21, 39);
-    put(buf, at, 1228, 20, 0x10, 55)
-}
-
-fn rover_alone(buf: &mut [u8], from: usize) -> usize {
-    let mut at = from;
-    at = put(buf, at, 0, 10, 0x20, 39);
-    at = put(buf, at, 0, 10, 0x21, 23);
-    put(buf, at, 0, 20, 0x20, 23)
-}
-
-// The same for each of them, with three bytes of noise before, five between, and a third sender.
-fn shuffled(buf: &mut [u8]) {
-    let at = begun_mixed(buf, 3);
-    ended_mixed(buf, std::num::wrapping_add_usize(at, 5));
-}
-
-fn begun_mixed(buf: &mut [u8], from: usize) -> usize {
-    let mut at = from;
-    at = put(buf, at, 0, 10, 0x20, 39);
-    at = put(buf, at, 1228, 10, 0x20, 23);
-    at = put(buf, at, 77, 10, 0x21, 23);
-    put(buf, at, 1228, 10, 0x21, 39)
-}
-
-fn ended_mixed(buf: &mut [u8], from: usize) -> usize {
-    let mut at = from;
-    at = put(buf, at, 0, 10, 0x21, 23);
-    at = put(buf, at, 0, 20, 0x20, 23);
-    put(buf, at, 1228, 20, 0x10, 55)
 }

@@ -56,18 +56,14 @@ fn signs(n: u32) {
     print::hex(n as u64, 8);
     let mut buf = [0u8; 6];
     wire::store_u32(&mut buf, 0, n);
-    moved(&mut buf);
-    print::end();
-}
-
-fn moved(buf: &mut [u8]) {
-    let half = wire::read_s16(buf, 0);
-    let whole = wire::read_s32(buf, 0);
+    let half = wire::read_s16(&buf, 0);
+    let whole = wire::read_s32(&buf, 0);
     print::signed_16(half);
     print::signed_32(whole);
-    wire::store_s16(buf, 0, half);
-    wire::store_s32(buf, 2, whole);
-    print::bytes(buf);
+    wire::store_s16(&mut buf, 0, half);
+    wire::store_s32(&mut buf, 2, whole);
+    print::bytes(&buf);
+    print::end();
 }
 
 // Nine bytes after a store of each width.
@@ -75,17 +71,13 @@ fn stores(at: usize) {
     print::word(b"store-at");
     print::number(at as u64);
     let mut buf = [0x11u8; 9];
-    each_width(&mut buf, at);
+    wire::store_u8(&mut buf, at, 0xa1);
+    print::bytes(&buf);
+    wire::store_u16(&mut buf, at, 0xb2b1);
+    print::bytes(&buf);
+    wire::store_u32(&mut buf, at, 0xc4c3_c2c1);
+    print::bytes(&buf);
+    wire::store_u64(&mut buf, at, 0xd8d7_d6d5_d4d3_d2d1);
+    print::bytes(&buf);
     print::end();
-}
-
-fn each_width(buf: &mut [u8], at: usize) {
-    wire::store_u8(buf, at, 0xa1);
-    print::bytes(buf);
-    wire::store_u16(buf, at, 0xb2b1);
-    print::bytes(buf);
-    wire::store_u32(buf, at, 0xc4c3_c2c1);
-    print::bytes(buf);
-    wire::store_u64(buf, at, 0xd8d7_d6d5_d4d3_d2d1);
-    print::bytes(buf);
 }

@@ -1,8 +1,6 @@
-// Payloads to try messages on, and OBS frames of them in a row.
+// Payloads to try.
 ghost use mathlib.Core.Path.{_≡_};
 ghost use lib.ListN.{length};
-use frame_writer::Sender;
-use frame_writer::Written;
 
 // Byte i is seed + step * i, so that neighbours differ.
 pub fn mixed(seed: usize, step: u8) -> [u8; 300]
@@ -25,15 +23,4 @@ pub fn front(s: &[u8], n: usize) -> &[u8] {
         return s;
     }
     &s[0..n]
-}
-
-// Writes an OBS frame at buf[at..], where it fits, and says where the next one goes.
-pub fn put_obs(buf: &mut [u8], at: usize, sender: u16, payload: &[u8]) -> usize {
-    if buf.len() < at {
-        return at;
-    }
-    match frame_writer::write_frame(&mut buf[at..], 0x0049, Sender::Named(sender), payload) {
-        Written::Bytes(n) => std::num::wrapping_add_usize(at, n),
-        Written::Refused(_) => at,
-    }
 }

@@ -1,7 +1,7 @@
 -- `text::put_digits` meets its contract: the digits that are left are those before.
 use mathlib.Core.Path.{refl, _∙_}
 use mathlib.Core.List.{[], _∷_}
-use Prim.Native.Nat.{_-_, _/_, _%_}
+use Prim.Native.Nat.{_-_, _%_}
 use lib.ListN.{length, length-set}
 use lib.Seq.{sets, length-sets}
 use native.Mathlib.Omega.{arith}

@@ -1,7 +1,5 @@
 -- `atmosphere::sv_configuration_gps::take_sv_configuration_gps` meets its contract: field by field.
-use Rattle.atmosphere.proofs.sv_configuration_gps.take_sv_configuration_gps.Statement.{
-  statement,
-}
+use Rattle.atmosphere.proofs.sv_configuration_gps.take_sv_configuration_gps.Statement.{statement}
 use Rattle.atmosphere.proofs.sv_configuration_gps.take_sv_configuration_gps.Tie as tie
 
 returns : tie.Need-returns

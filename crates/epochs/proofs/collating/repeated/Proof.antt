@@ -1,11 +1,9 @@
 -- `epochs::collating::repeated` meets its contract. The loop's invariant: the answer is that of what is left.
-use mathlib.Core.Path.{_≡_, refl, sym, ap, _∙_}
-use mathlib.Core.Bool.{true, cond}
-use Prim.Native.Nat.{_+_, _-_}
+use mathlib.Core.Path.{_≡_, refl, sym, _∙_}
+use Prim.Native.Nat.{_-_}
 use borrow.Author.Needs.{needs}
 use lib.ListN.{length, drop}
-use Rattle.epochs.specs.Search.{isAt, repeats}
-use Rattle.epochs.specs.declared.seating.Seat.{Seat}
+use Rattle.epochs.specs.Search.{repeats}
 use Rattle.epochs.proofs.Searches.{repeats-none, repeats-on}
 use Rattle.epochs.proofs.collating.repeated.Statement.{statement}
 use Rattle.epochs.proofs.collating.repeated.Tie as tie

@@ -2,7 +2,6 @@
 use mathlib.Core.Path.{_≡_, ap, _∙_}
 use Prim.Native.Nat.{ℕ}
 use native.Mathlib.Omega.{arith}
-use borrow.Author.Needs.{needs}
 use Rattle.layouts.specs.Field.{decode}
 use Rattle.places.specs.State.{slotFields, slotMake}
 use Rattle.places.specs.declared.placing.Slot.{Slot}
