@@ -1,14 +1,15 @@
 #!/usr/bin/env bash
 # The C header and its examples: compiled as C99 and C++17 without a warning, every inline function called (tests/inline.c), the examples run on
 # captures and on what goes wrong. A comparison that fails is a line 'differs: ..'; the last line is 'N passed, M failed'.
-# gcc and g++ are needed; clang and clang++ are asked too where they are. LIB names another library than link/library's.
+# gcc and g++ are needed; clang and clang++ are asked too where they are. LIB names another library than link/library's, OPT another optimisation
+# than -O2.
 # usage: tests/header.sh [compile] [inline] [epochs] [grows] [writes] [errors] (all where none is named; after link/library and rt check sbplist)
 set -eu
 cd "$(dirname "$0")/.."
 lib=${LIB:-target/lib/libyaqtumeer.a}
 sample=tests/sample/base-and-rover.sbp
 times=800 # the sample so often is several MiB
-flags="-O2 -Wall -Wextra -Wpedantic -Wconversion -Werror -Ilink/include"
+flags="${OPT:--O2} -Wall -Wextra -Wpedantic -Wconversion -Werror -Ilink/include"
 header=link/include/sbp.h
 work=$(mktemp -d)
 trap 'rm -rf "$work"' EXIT

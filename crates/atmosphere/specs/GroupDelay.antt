@@ -6,7 +6,7 @@ use Rattle.layouts.specs.Field.{any}
 use Rattle.layouts.specs.Description.{Description}
 use Rattle.layouts.specs.Together.{loose, both, named, message}
 use Rattle.refusals.specs.Refusals.{refused, given, Answer}
-use Rattle.times.specs.TimeOfWeek.{timeOfWeek}
+use Rattle.parts.specs.TimeOfWeek.{timeOfWeek}
 use Rattle.atmosphere.specs.declared.group_delay.GroupDelay.{GroupDelay}
 use Rattle.atmosphere.specs.declared.group_delay.GroupDelayRead.{GroupDelayRead}
 use Rattle.atmosphere.specs.declared.group_delay.GroupDelayRead.the-variants.{Record, Refused}

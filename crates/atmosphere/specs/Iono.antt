@@ -6,7 +6,7 @@ use Rattle.layouts.specs.Field.{any}
 use Rattle.layouts.specs.Description.{Description, Part}
 use Rattle.layouts.specs.Together.{both, named, message}
 use Rattle.refusals.specs.Refusals.{refused, given, Answer}
-use Rattle.times.specs.TimeOfWeek.{timeOfWeek}
+use Rattle.parts.specs.TimeOfWeek.{timeOfWeek}
 use Rattle.atmosphere.specs.declared.iono.Cubic.{Cubic}
 use Rattle.atmosphere.specs.declared.iono.Iono.{Iono}
 use Rattle.atmosphere.specs.declared.iono.IonoRead.{IonoRead}

@@ -6,7 +6,7 @@ use Rattle.layouts.specs.Field.{any}
 use Rattle.layouts.specs.Description.{Description}
 use Rattle.layouts.specs.Together.{loose, both, named, message}
 use Rattle.refusals.specs.Refusals.{refused, given, Answer}
-use Rattle.times.specs.TimeOfWeek.{timeOfWeek}
+use Rattle.parts.specs.TimeOfWeek.{timeOfWeek}
 use Rattle.atmosphere.specs.declared.sv_configuration_gps.SvConfigurationGps.{SvConfigurationGps}
 use Rattle.atmosphere.specs.declared.sv_configuration_gps.SvConfigurationGpsRead.{SvConfigurationGpsRead}
 use Rattle.atmosphere.specs.declared.sv_configuration_gps.SvConfigurationGpsRead.the-variants.{Record, Refused}

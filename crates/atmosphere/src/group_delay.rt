@@ -8,7 +8,8 @@ ghost use Rattle.frame_writer.specs.Faithful.{writeAnswer, writtenAs};
 ghost use Rattle.atmosphere.specs.GroupDelay.{groupDelay, answerOf};
 use frame_writer::Sender;
 use frame_writer::Written;
-use times::TimeOfWeek;
+use parts::TimeOfWeek;
+use parts::time_of_week;
 
 pub struct GroupDelay {
     pub t_op: TimeOfWeek,
@@ -28,7 +29,7 @@ pub fn take_group_delay(s: &[u8]) -> GroupDelay
     ensures { λ r. ⌜ r ≡ inside groupDelay (now (s .entry)) ⌝ }
 {
     GroupDelay {
-        t_op: times::take(s, 0),
+        t_op: time_of_week::take(s, 0),
         prn: wire::read_u8(s, 6),
         valid: wire::read_u8(s, 7),
         tgd: wire::read_s16(s, 8),
@@ -40,7 +41,7 @@ pub fn take_group_delay(s: &[u8]) -> GroupDelay
 fn put(buf: &mut [u8], r: GroupDelay)
     ensures { λ _. ⌜ now (buf .exit) ≡ bodyStored (groupDelay .layout) (groupDelay .row r) (now (buf .entry)) 6 ⌝ }
 {
-    times::put(buf, 6, r.t_op);
+    time_of_week::put(buf, 6, r.t_op);
     wire::store_u8(buf, 12, r.prn);
     wire::store_u8(buf, 13, r.valid);
     wire::store_s16(buf, 14, r.tgd);

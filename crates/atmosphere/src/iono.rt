@@ -10,7 +10,8 @@ ghost use Rattle.frame_writer.specs.Faithful.{writeAnswer, writtenAs};
 ghost use Rattle.atmosphere.specs.Iono.{iono, cubic, answerOf};
 use frame_writer::Sender;
 use frame_writer::Written;
-use times::TimeOfWeek;
+use parts::TimeOfWeek;
+use parts::time_of_week;
 use wire::Double;
 
 // 003's a0 to a3, or b0 to b3.
@@ -64,7 +65,7 @@ pub fn take_iono(s: &[u8]) -> Iono
     ensures { λ r. ⌜ r ≡ inside iono (now (s .entry)) ⌝ }
 {
     Iono {
-        t_nmct: times::take(s, 0),
+        t_nmct: time_of_week::take(s, 0),
         a: take_cubic(s, 6),
         b: take_cubic(s, 38),
     }
@@ -73,7 +74,7 @@ pub fn take_iono(s: &[u8]) -> Iono
 fn put(buf: &mut [u8], r: Iono)
     ensures { λ _. ⌜ now (buf .exit) ≡ bodyStored (iono .layout) (iono .row r) (now (buf .entry)) 6 ⌝ }
 {
-    times::put(buf, 6, r.t_nmct);
+    time_of_week::put(buf, 6, r.t_nmct);
     put_cubic(buf, 12, r.a);
     put_cubic(buf, 44, r.b);
 }

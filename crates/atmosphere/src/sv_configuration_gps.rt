@@ -8,7 +8,8 @@ ghost use Rattle.frame_writer.specs.Faithful.{writeAnswer, writtenAs};
 ghost use Rattle.atmosphere.specs.SvConfigurationGps.{svConfigurationGps, answerOf};
 use frame_writer::Sender;
 use frame_writer::Written;
-use times::TimeOfWeek;
+use parts::TimeOfWeek;
+use parts::time_of_week;
 
 pub struct SvConfigurationGps {
     pub t_nmct: TimeOfWeek,
@@ -24,7 +25,7 @@ pub fn take_sv_configuration_gps(s: &[u8]) -> SvConfigurationGps
     ensures { λ r. ⌜ r ≡ inside svConfigurationGps (now (s .entry)) ⌝ }
 {
     SvConfigurationGps {
-        t_nmct: times::take(s, 0),
+        t_nmct: time_of_week::take(s, 0),
         l2c_mask: wire::read_u32(s, 6),
     }
 }
@@ -32,7 +33,7 @@ pub fn take_sv_configuration_gps(s: &[u8]) -> SvConfigurationGps
 fn put(buf: &mut [u8], r: SvConfigurationGps)
     ensures { λ _. ⌜ now (buf .exit) ≡ bodyStored (svConfigurationGps .layout) (svConfigurationGps .row r) (now (buf .entry)) 6 ⌝ }
 {
-    times::put(buf, 6, r.t_nmct);
+    time_of_week::put(buf, 6, r.t_nmct);
     wire::store_u32(buf, 12, r.l2c_mask);
 }
 

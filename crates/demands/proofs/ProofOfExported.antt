@@ -15,7 +15,7 @@ use Rattle.epochs.proofs.Making.{seated}
 use Rattle.epochs.proofs.Collations.{same-state, same-reports}
 use Rattle.frame_rows.specs.Found.{nextFrom}
 use Rattle.frame_rows.specs.Totals.{totalsFor}
-use Rattle.exports.specs.Flagged.{tableFor, isTable, fixAnswer, availableAnswer, repairedAnswer}
+use Rattle.flag_numbers.specs.Flagged.{tableFor, isTable, fixAnswer, availableAnswer, repairedAnswer}
 use Rattle.states.specs.Feed.{madeIn, forPlaceIn}
 use Rattle.states.specs.Enlist.{growingIn, enlistIn}
 use Rattle.frame_rows.proofs.LentRows.{next-left}

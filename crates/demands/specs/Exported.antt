@@ -36,7 +36,7 @@ use Rattle.exports.specs.Kept.{Kept}
 use Rattle.frame_rows.specs.Found.{foundSize, startAt, foundIn, finding, nextFrom, nextStored}
 use Rattle.frame_rows.specs.Totals.{totalsSize, totalling, totalsFor, totalsStored}
 use Rattle.exports.specs.Write.{sentBy}
-use Rattle.exports.specs.Flagged.{tableFor, isTable, fixBy, fixNumber, bitNumber, flagging, fixAnswer, availableAnswer, repairedAnswer, aboveSeaAnswer}
+use Rattle.flag_numbers.specs.Flagged.{tableFor, isTable, fixBy, fixNumber, bitNumber, flagging, fixAnswer, availableAnswer, repairedAnswer, aboveSeaAnswer}
 use Rattle.places.specs.State.{stateSize, stateIn}
 use Rattle.states.specs.Feed.{making, madeIn, madeStored, reportSize, feedingIn, forPlaceIn, fedIn, afterIn}
 use Rattle.told.specs.Told.{AsSent, told, toldIn, Filled}

@@ -54,11 +54,14 @@ module _ {M : Type 1} (𝓤 : URA M) (H : Heap 𝓤) (A : Atoms 𝓤) (mem : Mem
   pub base-positions : public.BasePositions 𝓤 H A mem run
   base-positions = search determinations
 
-  pub times : public.Times 𝓤 H A mem run
-  times = search determinations
+  pub parts : public.Parts 𝓤 H A mem run
+  parts = search determinations
 
   pub orbits : public.Orbits 𝓤 H A mem run
   orbits = search determinations
+
+  pub gps-orbits : public.GpsOrbits 𝓤 H A mem run
+  gps-orbits = search determinations
 
   pub atmosphere : public.Atmosphere 𝓤 H A mem run
   atmosphere = search determinations
@@ -107,6 +110,9 @@ module _ {M : Type 1} (𝓤 : URA M) (H : Heap 𝓤) (A : Atoms 𝓤) (mem : Mem
 
   pub frame-rows : public.FrameRows 𝓤 H A mem run
   frame-rows = search determinations
+
+  pub flag-numbers : public.FlagNumbers 𝓤 H A mem run
+  flag-numbers = search determinations
 
   pub places : public.Places 𝓤 H A mem run
   places = search determinations

@@ -34,12 +34,12 @@ use Rattle.observation.specs.declared.entry.ObservationRead as ObservationRead
 use Rattle.observation.specs.declared.obs.ObsRead.the-variants as ObsRead
 use Rattle.phases.specs.declared.phase.PhaseParts.the-variants as PhaseParts
 use Rattle.orbits.specs.EphemerisGlo as EphemerisGlo
-use Rattle.orbits.specs.EphemerisGps as EphemerisGps
+use Rattle.gps_orbits.specs.EphemerisGps as EphemerisGps
 use Rattle.orbits.specs.EphemerisSbas as EphemerisSbas
 use Rattle.atmosphere.specs.GroupDelay as GroupDelay
 use Rattle.atmosphere.specs.Iono as Iono
 use Rattle.atmosphere.specs.SvConfigurationGps as SvConfigurationGps
-use Rattle.orbits.specs.declared.ephemeris_gps.EphemerisGpsRead.the-variants as EphemerisGpsRead
+use Rattle.gps_orbits.specs.declared.ephemeris_gps.EphemerisGpsRead.the-variants as EphemerisGpsRead
 use Rattle.orbits.specs.declared.ephemeris_sbas.EphemerisSbasRead.the-variants as EphemerisSbasRead
 use Rattle.orbits.specs.declared.ephemeris_glo.EphemerisGloRead.the-variants as EphemerisGloRead
 use Rattle.atmosphere.specs.declared.iono.IonoRead.the-variants as IonoRead

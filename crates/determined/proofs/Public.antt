@@ -24,8 +24,9 @@ use Rattle.phases.proofs as phases
 use Rattle.observation.proofs as observation
 use Rattle.obs_writer.proofs as obs_writer
 use Rattle.base_positions.proofs as base_positions
-use Rattle.times.proofs as times
+use Rattle.parts.proofs as parts
 use Rattle.orbits.proofs as orbits
+use Rattle.gps_orbits.proofs as gps_orbits
 use Rattle.atmosphere.proofs as atmosphere
 use Rattle.logs.proofs as logs
 use Rattle.system.proofs as system
@@ -42,6 +43,7 @@ use Rattle.enlisting.proofs as enlisting
 use Rattle.lines.proofs as lines
 use Rattle.listing.proofs as listing
 use Rattle.frame_rows.proofs as frame_rows
+use Rattle.flag_numbers.proofs as flag_numbers
 use Rattle.places.proofs as places
 use Rattle.states.proofs as states
 use Rattle.exports.proofs as exports
@@ -173,20 +175,24 @@ module _ {M : Type 1} (𝓤 : URA M) (H : Heap 𝓤) (A : Atoms 𝓤) (mem : Mem
     pub read-base-pos-llh : Determined 𝓤 base_positions.read_base_pos_llh.ended (base_positions.read_base_pos_llh.clauses 𝓤 H A mem run)
     pub write-base-pos-llh : Determined 𝓤 base_positions.write_base_pos_llh.ended (base_positions.write_base_pos_llh.clauses 𝓤 H A mem run)
 
-  pub record Times : Type 1 where
-    pub take : Determined 𝓤 times.take.ended (times.take.clauses 𝓤 H A mem run)
-    pub put : Determined 𝓤 times.put.ended (times.put.clauses 𝓤 H A mem run)
+  pub record Parts : Type 1 where
+    pub take-time : Determined 𝓤 parts.time_of_week.take.ended (parts.time_of_week.take.clauses 𝓤 H A mem run)
+    pub put-time : Determined 𝓤 parts.time_of_week.put.ended (parts.time_of_week.put.clauses 𝓤 H A mem run)
+    pub take-common : Determined 𝓤 parts.common.take.ended (parts.common.take.clauses 𝓤 H A mem run)
+    pub put-common : Determined 𝓤 parts.common.put.ended (parts.common.put.clauses 𝓤 H A mem run)
 
   pub record Orbits : Type 1 where
-    pub take-ephemeris-gps : Determined 𝓤 orbits.take_ephemeris_gps.ended (orbits.take_ephemeris_gps.clauses 𝓤 H A mem run)
-    pub read-ephemeris-gps : Determined 𝓤 orbits.read_ephemeris_gps.ended (orbits.read_ephemeris_gps.clauses 𝓤 H A mem run)
-    pub write-ephemeris-gps : Determined 𝓤 orbits.write_ephemeris_gps.ended (orbits.write_ephemeris_gps.clauses 𝓤 H A mem run)
     pub take-ephemeris-sbas : Determined 𝓤 orbits.take_ephemeris_sbas.ended (orbits.take_ephemeris_sbas.clauses 𝓤 H A mem run)
     pub read-ephemeris-sbas : Determined 𝓤 orbits.read_ephemeris_sbas.ended (orbits.read_ephemeris_sbas.clauses 𝓤 H A mem run)
     pub write-ephemeris-sbas : Determined 𝓤 orbits.write_ephemeris_sbas.ended (orbits.write_ephemeris_sbas.clauses 𝓤 H A mem run)
     pub take-ephemeris-glo : Determined 𝓤 orbits.take_ephemeris_glo.ended (orbits.take_ephemeris_glo.clauses 𝓤 H A mem run)
     pub read-ephemeris-glo : Determined 𝓤 orbits.read_ephemeris_glo.ended (orbits.read_ephemeris_glo.clauses 𝓤 H A mem run)
     pub write-ephemeris-glo : Determined 𝓤 orbits.write_ephemeris_glo.ended (orbits.write_ephemeris_glo.clauses 𝓤 H A mem run)
+
+  pub record GpsOrbits : Type 1 where
+    pub take-ephemeris-gps : Determined 𝓤 gps_orbits.take_ephemeris_gps.ended (gps_orbits.take_ephemeris_gps.clauses 𝓤 H A mem run)
+    pub read-ephemeris-gps : Determined 𝓤 gps_orbits.read_ephemeris_gps.ended (gps_orbits.read_ephemeris_gps.clauses 𝓤 H A mem run)
+    pub write-ephemeris-gps : Determined 𝓤 gps_orbits.write_ephemeris_gps.ended (gps_orbits.write_ephemeris_gps.clauses 𝓤 H A mem run)
 
   pub record Atmosphere : Type 1 where
     pub take-iono : Determined 𝓤 atmosphere.take_iono.ended (atmosphere.take_iono.clauses 𝓤 H A mem run)
@@ -281,6 +287,12 @@ module _ {M : Type 1} (𝓤 : URA M) (H : Heap 𝓤) (A : Atoms 𝓤) (mem : Mem
   pub record FrameRows : Type 1 where
     pub next-row : Determined 𝓤 frame_rows.next_row.ended (frame_rows.next_row.clauses 𝓤 H A mem run)
     pub totals-row : Determined 𝓤 frame_rows.totals_row.ended (frame_rows.totals_row.clauses 𝓤 H A mem run)
+
+  pub record FlagNumbers : Type 1 where
+    pub fix-of : Determined 𝓤 flag_numbers.fix_of.ended (flag_numbers.fix_of.clauses 𝓤 H A mem run)
+    pub raim-available-of : Determined 𝓤 flag_numbers.raim_available_of.ended (flag_numbers.raim_available_of.clauses 𝓤 H A mem run)
+    pub raim-repaired-of : Determined 𝓤 flag_numbers.raim_repaired_of.ended (flag_numbers.raim_repaired_of.clauses 𝓤 H A mem run)
+    pub above-sea-of : Determined 𝓤 flag_numbers.above_sea_of.ended (flag_numbers.above_sea_of.clauses 𝓤 H A mem run)
 
   pub record Places : Type 1 where
     pub place-in : Determined 𝓤 places.place_in.ended (places.place_in.clauses 𝓤 H A mem run)

@@ -1,3 +1,2 @@
-pub mod Tabled
 pub mod Untouched
 pub mod KeptByAll

@@ -19,7 +19,7 @@ use Rattle.navigation.specs.GpsTime.{gpsTime}
 use Rattle.navigation.specs.PosEcef.{posEcef}
 use Rattle.navigation.specs.PosLlh.{posLlh}
 use Rattle.orbits.specs.EphemerisGlo.{ephemerisGlo}
-use Rattle.orbits.specs.EphemerisGps.{ephemerisGps}
+use Rattle.gps_orbits.specs.EphemerisGps.{ephemerisGps}
 use Rattle.orbits.specs.EphemerisSbas.{ephemerisSbas}
 use Rattle.observation.specs.Edition.{obs, first, observation}
 use Rattle.observation.specs.Obs.{shown}
@@ -32,7 +32,7 @@ use Rattle.baselines.specs.declared.ned.NedVector.{NedVector}
 use Rattle.baselines.specs.declared.heading.BaselineHeading.{BaselineHeading}
 use Rattle.base_positions.specs.declared.base_pos_llh.BasePosLlh.{BasePosLlh}
 use Rattle.base_positions.specs.declared.base_pos_ecef.BasePosEcef.{BasePosEcef}
-use Rattle.orbits.specs.declared.ephemeris_gps.EphemerisGps.{EphemerisGps}
+use Rattle.gps_orbits.specs.declared.ephemeris_gps.EphemerisGps.{EphemerisGps}
 use Rattle.orbits.specs.declared.ephemeris_sbas.EphemerisSbas.{EphemerisSbas}
 use Rattle.orbits.specs.declared.ephemeris_glo.EphemerisGlo.{EphemerisGlo}
 use Rattle.atmosphere.specs.declared.iono.Iono.{Iono}

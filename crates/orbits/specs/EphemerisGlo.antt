@@ -6,7 +6,7 @@ use Rattle.layouts.specs.Field.{any}
 use Rattle.layouts.specs.Description.{Description}
 use Rattle.layouts.specs.Together.{loose, both, named, message}
 use Rattle.refusals.specs.Refusals.{refused, given, Answer}
-use Rattle.orbits.specs.Common.{common}
+use Rattle.parts.specs.Common.{common}
 use Rattle.orbits.specs.Motion.{motion}
 use Rattle.orbits.specs.declared.ephemeris_glo.EphemerisGlo.{EphemerisGlo}
 use Rattle.orbits.specs.declared.ephemeris_glo.EphemerisGloRead.{EphemerisGloRead}

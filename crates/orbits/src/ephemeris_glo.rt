@@ -6,12 +6,12 @@ ghost use Rattle.layouts.specs.Description.{inside, readAs};
 ghost use Rattle.frame_writer.specs.Writer.{senderOf, writtenAnswer};
 ghost use Rattle.frame_writer.specs.Faithful.{writeAnswer, writtenAs};
 ghost use Rattle.orbits.specs.EphemerisGlo.{ephemerisGlo, answerOf};
-use crate::common;
-use crate::common::EphemerisCommon;
 use crate::motion;
 use crate::motion::Motion;
 use frame_writer::Sender;
 use frame_writer::Written;
+use parts::EphemerisCommon;
+use parts::common;
 use wire::Double;
 
 pub struct EphemerisGlo {

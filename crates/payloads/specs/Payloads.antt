@@ -23,7 +23,7 @@ use Rattle.base_positions.specs.BasePosLlh.{basePosLlh}
 use Rattle.observation.specs.Edition.{obs, first}
 use Rattle.observation.specs.Obs as observation
 use Rattle.orbits.specs.EphemerisGlo.{ephemerisGlo}
-use Rattle.orbits.specs.EphemerisGps.{ephemerisGps}
+use Rattle.gps_orbits.specs.EphemerisGps.{ephemerisGps}
 use Rattle.orbits.specs.EphemerisSbas.{ephemerisSbas}
 use Rattle.atmosphere.specs.GroupDelay.{groupDelay}
 use Rattle.atmosphere.specs.Iono.{iono}

@@ -24,7 +24,7 @@ pub enum Message {
     BaselineHeading(baselines::BaselineHeading),
     BasePosLlh(base_positions::BasePosLlh),
     BasePosEcef(base_positions::BasePosEcef),
-    EphemerisGps(orbits::EphemerisGps),
+    EphemerisGps(gps_orbits::EphemerisGps),
     EphemerisSbas(orbits::EphemerisSbas),
     EphemerisGlo(orbits::EphemerisGlo),
     Iono(atmosphere::Iono),

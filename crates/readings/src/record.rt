@@ -19,7 +19,7 @@ pub(crate) fn record_in(kind: u16, s: &[u8]) -> Message
         0x0207 => Message::BaselineHeading(baselines::take_baseline_heading(s)),
         0x0044 => Message::BasePosLlh(base_positions::take_base_pos_llh(s)),
         0x0048 => Message::BasePosEcef(base_positions::take_base_pos_ecef(s)),
-        0x0081 => Message::EphemerisGps(orbits::take_ephemeris_gps(s)),
+        0x0081 => Message::EphemerisGps(gps_orbits::take_ephemeris_gps(s)),
         0x0082 => Message::EphemerisSbas(orbits::take_ephemeris_sbas(s)),
         0x0083 => Message::EphemerisGlo(orbits::take_ephemeris_glo(s)),
         0x0090 => Message::Iono(atmosphere::take_iono(s)),

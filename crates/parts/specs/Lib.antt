@@ -1,0 +1,2 @@
+pub mod TimeOfWeek
+pub mod Common
