@@ -1,4 +1,4 @@
--- Rows of fields in lent bytes. What a call hands back and leaves is read off its answer (wire's `asNumber`, `leaves`).
+-- Rows of fields in lent bytes. What a call hands back and leaves is read off its answer (refusals' `asNumber`, `leaves`).
 use Prim.Native.Nat.{ℕ, zero, suc, _+_, _*_}
 use mathlib.Core.List.{List}
 use Rattle.layouts.specs.Field.{Field, Row, size, encode, rowStored}
