@@ -4,17 +4,13 @@ pub mod ProofOf3
 pub mod ProofOfExported
 pub mod ProofOfParts
 pub mod ProofOfStays
-pub mod AllHold
 pub mod ShortAtTheEnd
 pub mod CountsAhead
 pub mod RowsGoOn
 pub mod RowCalls
-pub mod ShutOut
 pub mod Nobody
 pub mod AllHanded
 pub mod Room
 pub mod Shuffled
 pub mod Between
-pub mod OnceHonest
-pub mod TwoPackets
 pub mod BackAgain

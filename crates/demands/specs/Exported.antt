@@ -35,7 +35,7 @@ use Rattle.frame_rows.specs.Shown.{FoundShown, CountsShown}
 use Rattle.exports.specs.Kept.{Kept}
 use Rattle.frame_rows.specs.Found.{foundSize, startAt, foundIn, finding, nextFrom, nextStored}
 use Rattle.frame_rows.specs.Totals.{totalsSize, totalling, totalsFor, totalsStored}
-use Rattle.exports.specs.Write.{sentBy}
+use Rattle.frame_writer.specs.Write.{sentBy}
 use Rattle.flag_numbers.specs.Flagged.{tableFor, isTable, fixBy, fixNumber, bitNumber, flagging, fixAnswer, availableAnswer, repairedAnswer, aboveSeaAnswer}
 use Rattle.places.specs.State.{stateSize, stateIn}
 use Rattle.states.specs.Feed.{making, madeIn, madeStored, reportSize, feedingIn, forPlaceIn, fedIn, afterIn}

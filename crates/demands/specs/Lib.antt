@@ -7,7 +7,5 @@ pub mod InParts
 pub mod Swallowed
 pub mod RowsStay
 pub mod Stays
-pub mod Examples
-pub mod Idle
 pub mod Handed
 pub mod Noise

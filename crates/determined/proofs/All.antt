@@ -39,6 +39,9 @@ module _ {M : Type 1} (𝓤 : URA M) (H : Heap 𝓤) (A : Atoms 𝓤) (mem : Mem
   pub navigation : public.Navigation 𝓤 H A mem run
   navigation = search determinations
 
+  pub gps-times : public.GpsTimes 𝓤 H A mem run
+  gps-times = search determinations
+
   pub baselines : public.Baselines 𝓤 H A mem run
   baselines = search determinations
 

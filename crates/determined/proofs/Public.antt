@@ -19,6 +19,7 @@ use Rattle.frames.proofs as frames
 use Rattle.frame_writer.proofs as frame_writer
 use Rattle.flags.proofs as flags
 use Rattle.navigation.proofs as navigation
+use Rattle.gps_times.proofs as gps_times
 use Rattle.baselines.proofs as baselines
 use Rattle.phases.proofs as phases
 use Rattle.observation.proofs as observation
@@ -110,6 +111,7 @@ module _ {M : Type 1} (𝓤 : URA M) (H : Heap 𝓤) (A : Atoms 𝓤) (mem : Mem
     pub plan : Determined 𝓤 frame_writer.plan.ended (frame_writer.plan.clauses 𝓤 H A mem run)
     pub seal : Determined 𝓤 frame_writer.seal.ended (frame_writer.seal.clauses 𝓤 H A mem run)
     pub write-frame : Determined 𝓤 frame_writer.write_frame.ended (frame_writer.write_frame.clauses 𝓤 H A mem run)
+    pub sender-from : Determined 𝓤 frame_writer.sender_from.ended (frame_writer.sender_from.clauses 𝓤 H A mem run)
     pub hand-on : Determined 𝓤 frame_writer.hand_on.ended (frame_writer.hand_on.clauses 𝓤 H A mem run)
 
   pub record Flags : Type 1 where
@@ -125,18 +127,20 @@ module _ {M : Type 1} (𝓤 : URA M) (H : Heap 𝓤) (A : Atoms 𝓤) (mem : Mem
     pub fix-allowed : Determined 𝓤 flags.fix_allowed.ended (flags.fix_allowed.clauses 𝓤 H A mem run)
 
   pub record Navigation : Type 1 where
-    pub take-dops : Determined 𝓤 navigation.take_dops.ended (navigation.take_dops.clauses 𝓤 H A mem run)
-    pub read-dops : Determined 𝓤 navigation.read_dops.ended (navigation.read_dops.clauses 𝓤 H A mem run)
-    pub write-dops : Determined 𝓤 navigation.write_dops.ended (navigation.write_dops.clauses 𝓤 H A mem run)
-    pub take-gps-time : Determined 𝓤 navigation.take_gps_time.ended (navigation.take_gps_time.clauses 𝓤 H A mem run)
-    pub read-gps-time : Determined 𝓤 navigation.read_gps_time.ended (navigation.read_gps_time.clauses 𝓤 H A mem run)
-    pub write-gps-time : Determined 𝓤 navigation.write_gps_time.ended (navigation.write_gps_time.clauses 𝓤 H A mem run)
     pub take-pos-ecef : Determined 𝓤 navigation.take_pos_ecef.ended (navigation.take_pos_ecef.clauses 𝓤 H A mem run)
     pub read-pos-ecef : Determined 𝓤 navigation.read_pos_ecef.ended (navigation.read_pos_ecef.clauses 𝓤 H A mem run)
     pub write-pos-ecef : Determined 𝓤 navigation.write_pos_ecef.ended (navigation.write_pos_ecef.clauses 𝓤 H A mem run)
     pub take-pos-llh : Determined 𝓤 navigation.take_pos_llh.ended (navigation.take_pos_llh.clauses 𝓤 H A mem run)
     pub read-pos-llh : Determined 𝓤 navigation.read_pos_llh.ended (navigation.read_pos_llh.clauses 𝓤 H A mem run)
     pub write-pos-llh : Determined 𝓤 navigation.write_pos_llh.ended (navigation.write_pos_llh.clauses 𝓤 H A mem run)
+
+  pub record GpsTimes : Type 1 where
+    pub take-dops : Determined 𝓤 gps_times.take_dops.ended (gps_times.take_dops.clauses 𝓤 H A mem run)
+    pub read-dops : Determined 𝓤 gps_times.read_dops.ended (gps_times.read_dops.clauses 𝓤 H A mem run)
+    pub write-dops : Determined 𝓤 gps_times.write_dops.ended (gps_times.write_dops.clauses 𝓤 H A mem run)
+    pub take-gps-time : Determined 𝓤 gps_times.take_gps_time.ended (gps_times.take_gps_time.clauses 𝓤 H A mem run)
+    pub read-gps-time : Determined 𝓤 gps_times.read_gps_time.ended (gps_times.read_gps_time.clauses 𝓤 H A mem run)
+    pub write-gps-time : Determined 𝓤 gps_times.write_gps_time.ended (gps_times.write_gps_time.clauses 𝓤 H A mem run)
 
   pub record Baselines : Type 1 where
     pub take-ecef : Determined 𝓤 baselines.take_ecef.ended (baselines.take_ecef.clauses 𝓤 H A mem run)
@@ -155,6 +159,7 @@ module _ {M : Type 1} (𝓤 : URA M) (H : Heap 𝓤) (A : Atoms 𝓤) (mem : Mem
 
   pub record Phases : Type 1 where
     pub carrier-phase : Determined 𝓤 phases.carrier_phase.ended (phases.carrier_phase.clauses 𝓤 H A mem run)
+    pub hand-parts : Determined 𝓤 phases.hand_parts.ended (phases.hand_parts.clauses 𝓤 H A mem run)
     pub phase-parts : Determined 𝓤 phases.phase_parts.ended (phases.phase_parts.clauses 𝓤 H A mem run)
 
   pub record Observation : Type 1 where

@@ -17,11 +17,11 @@ use Rattle.logs.specs.Log.{Logged, log}
 use Rattle.frame_rows.specs.Found.{nextAnswer, nextStored}
 use Rattle.frame_rows.specs.Totals.{totalsAnswer, totalsStored}
 use Rattle.exports.specs.Text.{textAnswer, sizeAfter}
-use Rattle.exports.specs.Phased.{partsNumber, cyclesAfter, partsAfter}
+use Rattle.phases.specs.Phased.{partsNumber, cyclesAfter, partsAfter}
 use Rattle.listing.specs.Listing.{withListing}
 use Rattle.states.specs.Feed.{madeAnswer, madeStored, fedIn}
 use Rattle.states.specs.Enlist.{growingAnswer, growingStored, enlistAnswer, enlistStored}
-use Rattle.exports.specs.Write.{sentBy}
+use Rattle.frame_writer.specs.Write.{sentBy}
 
 pub record Kept : Type 0 where
   pub next : (s : List ℕ) (at : ℕ) (opened : Bool) (buf : List ℕ) → nextAnswer s at opened (length buf) ≡ 32 → nextStored s at opened buf ≡ buf

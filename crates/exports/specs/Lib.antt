@@ -1,4 +1,2 @@
-pub mod Write
 pub mod Text
-pub mod Phased
 pub mod Kept

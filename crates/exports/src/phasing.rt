@@ -1,9 +1,8 @@
 // The carrier phase in 1/256 cycle, and back.
 ghost use mathlib.Core.Path.{_≡_};
 ghost use Rattle.phases.specs.Phase.{phaseOf};
-ghost use Rattle.exports.specs.Phased.{partsNumber, cyclesAfter, partsAfter};
+ghost use Rattle.phases.specs.Phased.{partsNumber, cyclesAfter, partsAfter};
 use phases::Phase;
-use phases::PhaseParts;
 
 #[no_mangle]
 pub extern "C" fn sbp_carrier_phase(l_i: i32, l_f: u8) -> i64
@@ -19,14 +18,5 @@ pub extern "C" fn sbp_phase_parts(phase: i64, l_i: &mut i32, l_f: &mut u8) -> u8
     ensures { λ _. ⌜ now («l_i» .exit) ≡ cyclesAfter phase (now («l_i» .entry)) ⌝ }
     ensures { λ _. ⌜ now («l_f» .exit) ≡ partsAfter phase (now («l_f» .entry)) ⌝ }
 {
-    let parts = phases::phase_parts(phase);
-    match parts {
-        PhaseParts::Parts(p) => {
-            let cycles = p.l_i;
-            *l_i = cycles;
-            *l_f = p.l_f;
-            0
-        }
-        PhaseParts::Refused(n) => n,
-    }
+    phases::hand_parts(phase, l_i, l_f)
 }

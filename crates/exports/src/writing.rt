@@ -7,19 +7,7 @@ ghost use Rattle.frame_writer.specs.Writer.{planned, withFrame, sizeLeft};
 ghost use Rattle.row_writer.specs.WriteObsRow.{writeObsRow, obsRowWritten};
 ghost use Rattle.row_writer.specs.WriteRow.{writeRow, rowWritten};
 ghost use Rattle.logs.specs.Log.{log, logged};
-ghost use Rattle.exports.specs.Write.{senderFrom, sentBy};
-use frame_writer::Sender;
-
-// None above 65535: what C calls SBP_NO_SENDER, and any number beyond.
-fn sender_from(n: u32) -> Sender
-    ensures { λ r. ⌜ r ≡ senderFrom n ⌝ }
-{
-    if n < 65536 {
-        return Sender::Named(n as u16);
-    }
-    Sender::Unnamed
-}
-
+ghost use Rattle.frame_writer.specs.Write.{sentBy};
 // Every message without a tail, from one number for each field: 21 for a type that it does not write, 22 for another number of fields, 23 for a
 // number that its field cannot hold or that is outside its range, 31, 32.
 #[no_mangle]
@@ -34,7 +22,7 @@ pub extern "C" fn sbp_write(
     ensures { λ _. ⌜ now (out .exit) ≡ rowWritten kind (sentBy sender) (now (row .entry)) (now (out .entry)) ⌝ }
     ensures { λ _. ⌜ now (size .exit) ≡ sizeLeft (writeRow kind (now (row .entry)) (length (now (out .entry)))) (now (size .entry)) ⌝ }
 {
-    row_writer::write_row(out, kind, sender_from(sender), row, size)
+    row_writer::write_row(out, kind, frame_writer::sender_from(sender), row, size)
 }
 
 // An OBS, from its header's three numbers and eight for each observation: 21, 22, 23, 31, 32.
@@ -51,7 +39,14 @@ pub extern "C" fn sbp_write_obs(
     ensures { λ _. ⌜ now (out .exit) ≡ obsRowWritten kind (sentBy sender) (now (head .entry)) (now (rows .entry)) (now (out .entry)) ⌝ }
     ensures { λ _. ⌜ now (size .exit) ≡ sizeLeft (writeObsRow kind (now (head .entry)) (now (rows .entry)) (length (now (out .entry)))) (now (size .entry)) ⌝ }
 {
-    row_writer::write_obs_row(out, kind, sender_from(sender), head, rows, size)
+    row_writer::write_obs_row(
+        out,
+        kind,
+        frame_writer::sender_from(sender),
+        head,
+        rows,
+        size,
+    )
 }
 
 // A LOG: 23 for a zero in the text, 31 for a text and zeros over 254 bytes, then 32.
@@ -68,7 +63,7 @@ pub extern "C" fn sbp_write_log(
     ensures { λ _. ⌜ now (out .exit) ≡ writtenAs log (sentBy sender) (logged level (now (text .entry)) padding) (now (out .entry)) ⌝ }
     ensures { λ _. ⌜ now (size .exit) ≡ sizeLeft (writeAnswer log (logged level (now (text .entry)) padding) (length (now (out .entry)))) (now (size .entry)) ⌝ }
 {
-    let written = logs::write_log(out, sender_from(sender), level, text, padding);
+    let written = logs::write_log(out, frame_writer::sender_from(sender), level, text, padding);
     frame_writer::hand_on(written, size)
 }
 
@@ -85,5 +80,5 @@ pub extern "C" fn sbp_write_frame(
     ensures { λ _. ⌜ now (out .exit) ≡ withFrame kind (sentBy sender) (now (payload .entry)) (now (out .entry)) ⌝ }
     ensures { λ _. ⌜ now (size .exit) ≡ sizeLeft (planned (length (now (payload .entry))) (length (now (out .entry)))) (now (size .entry)) ⌝ }
 {
-    row_writer::send_frame(out, kind, sender_from(sender), payload, size)
+    row_writer::send_frame(out, kind, frame_writer::sender_from(sender), payload, size)
 }

@@ -1,4 +1,2 @@
-pub mod GpsTime
-pub mod Dops
 pub mod PosEcef
 pub mod PosLlh

@@ -1,21 +1,9 @@
-// Times, dilutions of precision and positions, of 003, section 6.2: records, readers and writers.
+// The two positions of 003, section 6.2: records, readers and writers.
 // Read the description of each message in specs/, which reads like its line of document 01. What a description makes of bytes is in layouts'
 // specs/Description.antt, what a ranged field may hold in flags' specs/Range.antt.
-mod dops;
-mod gps_time;
 mod pos_ecef;
 mod pos_llh;
 
-pub use dops::Dops;
-pub use dops::DopsRead;
-pub use dops::read_dops;
-pub use dops::take_dops;
-pub use dops::write_dops;
-pub use gps_time::GpsTime;
-pub use gps_time::GpsTimeRead;
-pub use gps_time::read_gps_time;
-pub use gps_time::take_gps_time;
-pub use gps_time::write_gps_time;
 pub use pos_ecef::PosEcef;
 pub use pos_ecef::PosEcefRead;
 pub use pos_ecef::read_pos_ecef;

@@ -11,9 +11,9 @@ use Rattle.refusals.specs.Refusals.{refused, given, Answer, Tests, mapped, orde
 use Rattle.formats.specs.Digits.{shapeOf}
 use Rattle.formats.specs.declared.Shape.{Shape}
 use Rattle.frame_writer.specs.Faithful.{Faithful}
-use Rattle.navigation.specs.Dops.{dops}
+use Rattle.gps_times.specs.Dops.{dops}
 use Rattle.baselines.specs.Ecef.{baselineEcef, velEcef}
-use Rattle.navigation.specs.GpsTime.{gpsTime}
+use Rattle.gps_times.specs.GpsTime.{gpsTime}
 use Rattle.baselines.specs.Heading.{baselineHeading}
 use Rattle.baselines.specs.Ned.{baselineNed, velNed}
 use Rattle.navigation.specs.PosEcef.{posEcef}

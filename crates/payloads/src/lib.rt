@@ -13,8 +13,8 @@ pub use shape::shape_of;
 // Every message that has a reading. The observations of an Obs and the text of a Log stay in the payload: read_observation and
 // log_text give them.
 pub enum Message {
-    GpsTime(navigation::GpsTime),
-    Dops(navigation::Dops),
+    GpsTime(gps_times::GpsTime),
+    Dops(gps_times::Dops),
     PosEcef(navigation::PosEcef),
     PosLlh(navigation::PosLlh),
     BaselineEcef(baselines::EcefVector),

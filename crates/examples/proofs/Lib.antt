@@ -1,0 +1,4 @@
+pub mod AllHold
+pub mod ShutOut
+pub mod OnceHonest
+pub mod TwoPackets

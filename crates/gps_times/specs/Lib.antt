@@ -1,0 +1,2 @@
+pub mod GpsTime
+pub mod Dops
