@@ -16,8 +16,8 @@ use Rattle.flags.specs.Flags.{ecefFix, llhFix, baselineFix, raimAvailable, raim
 use Rattle.baselines.specs.Ecef.{baselineEcef}
 use Rattle.baselines.specs.Heading.{baselineHeading}
 use Rattle.baselines.specs.Ned.{baselineNed}
-use Rattle.navigation.specs.PosEcef.{posEcef}
-use Rattle.navigation.specs.PosLlh.{posLlh}
+use Rattle.positions.specs.PosEcef.{posEcef}
+use Rattle.positions.specs.PosLlh.{posLlh}
 use Rattle.flags.specs.declared.flags.Fix.{Fix}
 use Rattle.observation.specs.Edition.{first, startOf}
 use Rattle.payloads.specs.Payloads.{layoutFor}
@@ -35,7 +35,7 @@ use Rattle.frame_rows.specs.Shown.{FoundShown, CountsShown}
 use Rattle.exports.specs.Kept.{Kept}
 use Rattle.frame_rows.specs.Found.{foundSize, startAt, foundIn, finding, nextFrom, nextStored}
 use Rattle.frame_rows.specs.Totals.{totalsSize, totalling, totalsFor, totalsStored}
-use Rattle.frame_writer.specs.Write.{sentBy}
+use Rattle.frame_writer.specs.Given.{sentBy}
 use Rattle.flag_numbers.specs.Flagged.{tableFor, isTable, fixBy, fixNumber, bitNumber, flagging, fixAnswer, availableAnswer, repairedAnswer, aboveSeaAnswer}
 use Rattle.places.specs.State.{stateSize, stateIn}
 use Rattle.states.specs.Feed.{making, madeIn, madeStored, reportSize, feedingIn, forPlaceIn, fedIn, afterIn}

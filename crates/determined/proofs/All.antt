@@ -36,11 +36,11 @@ module _ {M : Type 1} (𝓤 : URA M) (H : Heap 𝓤) (A : Atoms 𝓤) (mem : Mem
   pub flags : public.Flags 𝓤 H A mem run
   flags = search determinations
 
-  pub navigation : public.Navigation 𝓤 H A mem run
-  navigation = search determinations
+  pub positions : public.Positions 𝓤 H A mem run
+  positions = search determinations
 
-  pub gps-times : public.GpsTimes 𝓤 H A mem run
-  gps-times = search determinations
+  pub time-and-dops : public.TimeAndDops 𝓤 H A mem run
+  time-and-dops = search determinations
 
   pub baselines : public.Baselines 𝓤 H A mem run
   baselines = search determinations

@@ -18,8 +18,8 @@ use Rattle.formats.proofs as formats
 use Rattle.frames.proofs as frames
 use Rattle.frame_writer.proofs as frame_writer
 use Rattle.flags.proofs as flags
-use Rattle.navigation.proofs as navigation
-use Rattle.gps_times.proofs as gps_times
+use Rattle.positions.proofs as positions
+use Rattle.time_and_dops.proofs as time_and_dops
 use Rattle.baselines.proofs as baselines
 use Rattle.phases.proofs as phases
 use Rattle.observation.proofs as observation
@@ -126,21 +126,21 @@ module _ {M : Type 1} (𝓤 : URA M) (H : Heap 𝓤) (A : Atoms 𝓤) (mem : Mem
     pub ns-allowed : Determined 𝓤 flags.ns_allowed.ended (flags.ns_allowed.clauses 𝓤 H A mem run)
     pub fix-allowed : Determined 𝓤 flags.fix_allowed.ended (flags.fix_allowed.clauses 𝓤 H A mem run)
 
-  pub record Navigation : Type 1 where
-    pub take-pos-ecef : Determined 𝓤 navigation.take_pos_ecef.ended (navigation.take_pos_ecef.clauses 𝓤 H A mem run)
-    pub read-pos-ecef : Determined 𝓤 navigation.read_pos_ecef.ended (navigation.read_pos_ecef.clauses 𝓤 H A mem run)
-    pub write-pos-ecef : Determined 𝓤 navigation.write_pos_ecef.ended (navigation.write_pos_ecef.clauses 𝓤 H A mem run)
-    pub take-pos-llh : Determined 𝓤 navigation.take_pos_llh.ended (navigation.take_pos_llh.clauses 𝓤 H A mem run)
-    pub read-pos-llh : Determined 𝓤 navigation.read_pos_llh.ended (navigation.read_pos_llh.clauses 𝓤 H A mem run)
-    pub write-pos-llh : Determined 𝓤 navigation.write_pos_llh.ended (navigation.write_pos_llh.clauses 𝓤 H A mem run)
+  pub record Positions : Type 1 where
+    pub take-pos-ecef : Determined 𝓤 positions.take_pos_ecef.ended (positions.take_pos_ecef.clauses 𝓤 H A mem run)
+    pub read-pos-ecef : Determined 𝓤 positions.read_pos_ecef.ended (positions.read_pos_ecef.clauses 𝓤 H A mem run)
+    pub write-pos-ecef : Determined 𝓤 positions.write_pos_ecef.ended (positions.write_pos_ecef.clauses 𝓤 H A mem run)
+    pub take-pos-llh : Determined 𝓤 positions.take_pos_llh.ended (positions.take_pos_llh.clauses 𝓤 H A mem run)
+    pub read-pos-llh : Determined 𝓤 positions.read_pos_llh.ended (positions.read_pos_llh.clauses 𝓤 H A mem run)
+    pub write-pos-llh : Determined 𝓤 positions.write_pos_llh.ended (positions.write_pos_llh.clauses 𝓤 H A mem run)
 
-  pub record GpsTimes : Type 1 where
-    pub take-dops : Determined 𝓤 gps_times.take_dops.ended (gps_times.take_dops.clauses 𝓤 H A mem run)
-    pub read-dops : Determined 𝓤 gps_times.read_dops.ended (gps_times.read_dops.clauses 𝓤 H A mem run)
-    pub write-dops : Determined 𝓤 gps_times.write_dops.ended (gps_times.write_dops.clauses 𝓤 H A mem run)
-    pub take-gps-time : Determined 𝓤 gps_times.take_gps_time.ended (gps_times.take_gps_time.clauses 𝓤 H A mem run)
-    pub read-gps-time : Determined 𝓤 gps_times.read_gps_time.ended (gps_times.read_gps_time.clauses 𝓤 H A mem run)
-    pub write-gps-time : Determined 𝓤 gps_times.write_gps_time.ended (gps_times.write_gps_time.clauses 𝓤 H A mem run)
+  pub record TimeAndDops : Type 1 where
+    pub take-dops : Determined 𝓤 time_and_dops.take_dops.ended (time_and_dops.take_dops.clauses 𝓤 H A mem run)
+    pub read-dops : Determined 𝓤 time_and_dops.read_dops.ended (time_and_dops.read_dops.clauses 𝓤 H A mem run)
+    pub write-dops : Determined 𝓤 time_and_dops.write_dops.ended (time_and_dops.write_dops.clauses 𝓤 H A mem run)
+    pub take-gps-time : Determined 𝓤 time_and_dops.take_gps_time.ended (time_and_dops.take_gps_time.clauses 𝓤 H A mem run)
+    pub read-gps-time : Determined 𝓤 time_and_dops.read_gps_time.ended (time_and_dops.read_gps_time.clauses 𝓤 H A mem run)
+    pub write-gps-time : Determined 𝓤 time_and_dops.write_gps_time.ended (time_and_dops.write_gps_time.clauses 𝓤 H A mem run)
 
   pub record Baselines : Type 1 where
     pub take-ecef : Determined 𝓤 baselines.take_ecef.ended (baselines.take_ecef.clauses 𝓤 H A mem run)

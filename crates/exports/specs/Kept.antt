@@ -21,7 +21,7 @@ use Rattle.phases.specs.Phased.{partsNumber, cyclesAfter, partsAfter}
 use Rattle.listing.specs.Listing.{withListing}
 use Rattle.states.specs.Feed.{madeAnswer, madeStored, fedIn}
 use Rattle.states.specs.Enlist.{growingAnswer, growingStored, enlistAnswer, enlistStored}
-use Rattle.frame_writer.specs.Write.{sentBy}
+use Rattle.frame_writer.specs.Given.{sentBy}
 
 pub record Kept : Type 0 where
   pub next : (s : List ℕ) (at : ℕ) (opened : Bool) (buf : List ℕ) → nextAnswer s at opened (length buf) ≡ 32 → nextStored s at opened buf ≡ buf

@@ -7,7 +7,8 @@ ghost use Rattle.frame_writer.specs.Writer.{planned, withFrame, sizeLeft};
 ghost use Rattle.row_writer.specs.WriteObsRow.{writeObsRow, obsRowWritten};
 ghost use Rattle.row_writer.specs.WriteRow.{writeRow, rowWritten};
 ghost use Rattle.logs.specs.Log.{log, logged};
-ghost use Rattle.frame_writer.specs.Write.{sentBy};
+ghost use Rattle.frame_writer.specs.Given.{sentBy};
+
 // Every message without a tail, from one number for each field: 21 for a type that it does not write, 22 for another number of fields, 23 for a
 // number that its field cannot hold or that is outside its range, 31, 32.
 #[no_mangle]

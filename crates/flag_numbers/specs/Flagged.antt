@@ -8,8 +8,8 @@ use Rattle.flags.specs.Flags.{ecefFix, llhFix, baselineFix, raimAvailable, raim
 use Rattle.baselines.specs.Ecef.{baselineEcef}
 use Rattle.baselines.specs.Heading.{baselineHeading}
 use Rattle.baselines.specs.Ned.{baselineNed}
-use Rattle.navigation.specs.PosEcef.{posEcef}
-use Rattle.navigation.specs.PosLlh.{posLlh}
+use Rattle.positions.specs.PosEcef.{posEcef}
+use Rattle.positions.specs.PosLlh.{posLlh}
 use Rattle.flags.specs.declared.flags.Fix.{Fix}
 use Rattle.flags.specs.declared.flags.Fix.the-variants.{SinglePoint, Float, Fixed, Reserved}
 use Rattle.flag_numbers.specs.declared.flagging.Table.{Table}

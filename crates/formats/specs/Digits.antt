@@ -3,7 +3,7 @@
 -- gets 8 too. And what such a run makes of bytes and of numbers, for any digits at all.
 use Prim.Native.Nat.{ℕ, zero, suc, _+_, _*_, _/_, _%_}
 use mathlib.Core.Bool.{Bool, true, cond, _&&_}
-use mathlib.Core.List.{List, [], _∷_, _++_}
+use mathlib.Core.List.{List, [], _∷_}
 use lib.Dec.{eqb}
 use lib.ListN.{getD, take, drop}
 use mir.Syntax.{w8, w16, w32, w64, w128}
@@ -87,7 +87,3 @@ frontOf (rows fs most) = []
 
 abbrev pub shapeOf : Layout → Shape
 shapeOf l = record { head = digitsOf (take 16 (frontOf l)); more = digitsOf (drop 16 (frontOf l)); each = repeated l }
-
--- the formats that its digits say
-abbrev pub formatsIn : Shape → List Format
-formatsIn s = formatsBy (s .head) ++ formatsBy (s .more)

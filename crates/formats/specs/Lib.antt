@@ -1,2 +1,3 @@
 pub mod Wide
 pub mod Digits
+pub mod Inner

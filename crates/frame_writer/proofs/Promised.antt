@@ -7,7 +7,8 @@ use Prim.Native.Nat.{ℕ, _+_, _≤_, _<_}
 use lib.ListN.{length}
 use borrow.Author.Tests.{leb-true}
 use Rattle.wire.specs.Number.{Bytes}
-use Rattle.layouts.specs.Layout.{Body, HeldBody, SettledBody, allowedBody, fewEnough, bodyBits, bodySize, encodeBody, bodyStored, Sound}
+use Rattle.layouts.specs.Layout.{Body, HeldBody, SettledBody, allowedBody, fewEnough, bodyBits, bodySize, encodeBody, Sound}
+use Rattle.layouts.specs.Inner.{bodyStored}
 use Rattle.layouts.specs.Description.{Description, readAs}
 use Rattle.refusals.specs.Refusals.{refused, given, Answer, leaves}
 use Rattle.layouts.proofs.Layouts.{length-encode-body}

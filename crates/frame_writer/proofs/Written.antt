@@ -7,7 +7,8 @@ use lib.ListN.{length, take, drop, length-append, length-drop, take-append-drop}
 use lib.Seq.{sets, drop-drop, take-append-seam, drop-append-add, take-at, drop-at, length-take-le, length-sets, sets-eq}
 use Rattle.wire.specs.Number.{bytesOf, storedAt}
 use Rattle.layouts.specs.Field.{encode}
-use Rattle.layouts.specs.Layout.{Layout, Body, bodySize, encodeBody, bodyStored}
+use Rattle.layouts.specs.Layout.{Layout, Body, bodySize, encodeBody}
+use Rattle.layouts.specs.Inner.{bodyStored}
 use Rattle.refusals.specs.Refusals.{refused, given}
 use Rattle.wire.proofs.Numbers.{length-bytesOf, stored-sets}
 use Rattle.layouts.proofs.Fields.{row-sets}

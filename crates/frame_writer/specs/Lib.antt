@@ -1,4 +1,4 @@
 pub mod Writer
 pub mod Faithful
 pub mod Inner
-pub mod Write
+pub mod Given

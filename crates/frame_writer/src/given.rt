@@ -1,6 +1,6 @@
 // Who sends, as a number of 32 bits.
 ghost use mathlib.Core.Path.{_≡_};
-ghost use Rattle.frame_writer.specs.Write.{senderFrom};
+ghost use Rattle.frame_writer.specs.Given.{senderFrom};
 use crate::write::Sender;
 
 // None above 65535: what C calls SBP_NO_SENDER, and any number beyond.

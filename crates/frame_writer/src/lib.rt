@@ -1,5 +1,6 @@
 // Frames written into a lent buffer, and what is promised of every message that is written as one.
-// Read specs/Writer.antt (what a writer answers and leaves) and specs/Write.antt (who sends), then specs/Faithful.antt (a record written is found and read back).
+// Read specs/Writer.antt (what a writer answers and leaves), specs/Given.antt (who sends), then specs/Faithful.antt (a record written is found and
+// read back).
 // write_frame and plan are entry points, refused by number; the others are inner parts: total, and seal is whole or nothing.
 mod given;
 mod write;

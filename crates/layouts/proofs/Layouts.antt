@@ -12,7 +12,8 @@ use Rattle.wire.specs.Number.{Bytes, bytesStored}
 use Rattle.padded.specs.Padded.{noZero, allZero}
 use Rattle.layouts.specs.Field.{Field, Row, allowedRow, size, encode, decode, rowStored}
 use Rattle.layouts.specs.Layout as lay
-use Rattle.layouts.specs.Layout.{Layout, HeldRows, SettledRows, allowedRows, rowsBits, encodeRows, decodeRows, rowsStored, countIn, Body, HeldBody, SettledBody, allowedBody, fewEnough, bodyBits, bodySize, lengths, LengthOf, encodeBody, decodeBody, bodyStored, Sound}
+use Rattle.layouts.specs.Layout.{Layout, HeldRows, SettledRows, allowedRows, rowsBits, encodeRows, decodeRows, countIn, Body, HeldBody, SettledBody, allowedBody, fewEnough, bodyBits, bodySize, lengths, LengthOf, encodeBody, decodeBody, Sound}
+use Rattle.layouts.specs.Inner.{rowsStored, bodyStored}
 use Rattle.wire.proofs.Numbers.{bytes-take, bytes-drop, sets-append}
 use Rattle.wire.proofs.Stored.{bytes-sets, length-bytes-stored}
 use Rattle.padded.proofs.Texts.{before-from, length-split, split-joined}

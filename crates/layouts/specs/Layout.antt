@@ -6,9 +6,9 @@ use mathlib.Core.Bool.{Bool, true, _&&_}
 use mathlib.Core.List.{List, [], _∷_, _++_}
 use lib.Dec.{leb, eqb}
 use lib.ListN.{length, drop}
-use Rattle.wire.specs.Number.{Bytes, bytesStored}
+use Rattle.wire.specs.Number.{Bytes}
 use Rattle.padded.specs.Padded.{beforeZero, fromZero, noZero, allZero}
-use Rattle.layouts.specs.Field.{Field, Row, HeldRow, SettledRow, allowedRow, rowBits, size, encode, decode, rowStored}
+use Rattle.layouts.specs.Field.{Field, Row, HeldRow, SettledRow, allowedRow, rowBits, size, encode, decode}
 
 pub data Layout : Type 0 where
   -- a run of fields, and nothing after it
@@ -48,10 +48,6 @@ encodeRows fs (v ∷ vs) = encode fs v ++ encodeRows fs vs
 abbrev pub decodeRows : (fs : List Field) → ℕ → List ℕ → List (Row fs)
 decodeRows fs zero s = []
 decodeRows fs (suc n) s = decode fs s 0 ∷ decodeRows fs n (drop (size fs) s)
-
-abbrev pub rowsStored : (fs : List Field) → List (Row fs) → List ℕ → ℕ → List ℕ
-rowsStored fs [] s at = s
-rowsStored fs (v ∷ vs) s at = rowsStored fs vs (rowStored fs v s at) (at + size fs)
 
 -- how many rows n bytes are
 abbrev pub countIn : List Field → ℕ → ℕ
@@ -145,14 +141,6 @@ decodeBody (then fs l) s = (decode fs s 0, decodeBody l (drop (size fs) s))
 decodeBody (bytes most) s = s
 decodeBody (text most) s = (beforeZero s, fromZero s)
 decodeBody (rows fs most) s = decodeRows fs (countIn fs (length s)) s
-
--- s with a value stored at an offset, part after part
-abbrev pub bodyStored : (l : Layout) → Body l → List ℕ → ℕ → List ℕ
-bodyStored (run fs) v s at = rowStored fs v s at
-bodyStored (then fs l) v s at = bodyStored l (v .1) (rowStored fs (v .0) s at) (at + size fs)
-bodyStored (bytes most) v s at = bytesStored v s at
-bodyStored (text most) v s at = bytesStored (v .1) (bytesStored (v .0) s at) (at + length (v .0))
-bodyStored (rows fs most) v s at = rowsStored fs v s at
 
 -- rows take some bytes each, so that bytes say how many rows they are
 abbrev pub Sound : Layout → Type 0

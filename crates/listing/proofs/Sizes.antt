@@ -17,7 +17,8 @@ use Rattle.frames.specs.declared.step.Step.the-variants.{Finished, Junk, Short,
 use Rattle.frames.proofs.Frames.{found-at, found-fits, found-numbers, payload-bytes}
 use Rattle.frames.proofs.Tiling.{closed-tiled, adds-up}
 use Rattle.payloads.specs.Payloads.{answerFor}
-use Rattle.payloads.specs.Checks.{checkFor, testsBy, numberBy}
+use Rattle.payloads.specs.Checks.{testsBy}
+use Rattle.payloads.specs.Inner.{checkFor, numberBy}
 use Rattle.payloads.specs.declared.check.Check.{Check}
 use Rattle.payloads.specs.declared.check.Check.the-variants.{Unknown, Length, Ns, Fix, Obs, Log}
 use Rattle.payloads.proofs.Agreed.{numbered}

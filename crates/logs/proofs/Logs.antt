@@ -11,7 +11,8 @@ use lib.Seq.{getD-drop}
 use borrow.Author.Tests.{leb-false, eqb-false}
 use Rattle.wire.specs.Number.{Bytes, numberAt}
 use Rattle.padded.specs.Padded.{beforeZero, fromZero, noZero, zeros}
-use Rattle.layouts.specs.Layout.{allowedBody, fewEnough, bodySize, decodeBody, bodyStored}
+use Rattle.layouts.specs.Layout.{allowedBody, fewEnough, bodySize, decodeBody}
+use Rattle.layouts.specs.Inner.{bodyStored}
 use Rattle.layouts.specs.Description.{inside, reading, readAs}
 use Rattle.refusals.specs.Refusals.{refused, given, Answer, ordered, FirstFails, AllPass}
 use Rattle.refusals.proofs.Ordered.{exactly-first, exactly-all}

@@ -1,7 +1,7 @@
 // LOG, 0x0401: a level, a text, and zeros.
 ghost use mathlib.Core.Path.{_≡_};
 ghost use lib.ListN.{length, drop};
-ghost use Rattle.layouts.specs.Layout.{bodyStored};
+ghost use Rattle.layouts.specs.Inner.{bodyStored};
 ghost use Rattle.layouts.specs.Description.{inside};
 ghost use Rattle.frame_writer.specs.Writer.{senderOf, writtenAnswer};
 ghost use Rattle.frame_writer.specs.Faithful.{writeAnswer, writtenAs};

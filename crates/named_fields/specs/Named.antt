@@ -14,19 +14,19 @@ use Rattle.base_positions.specs.BasePosLlh.{basePosLlh}
 use Rattle.baselines.specs.Ecef.{baselineEcef, velEcef}
 use Rattle.baselines.specs.Heading.{baselineHeading}
 use Rattle.baselines.specs.Ned.{baselineNed, velNed}
-use Rattle.gps_times.specs.Dops.{dops}
-use Rattle.gps_times.specs.GpsTime.{gpsTime}
-use Rattle.navigation.specs.PosEcef.{posEcef}
-use Rattle.navigation.specs.PosLlh.{posLlh}
+use Rattle.time_and_dops.specs.Dops.{dops}
+use Rattle.time_and_dops.specs.GpsTime.{gpsTime}
+use Rattle.positions.specs.PosEcef.{posEcef}
+use Rattle.positions.specs.PosLlh.{posLlh}
 use Rattle.orbits.specs.EphemerisGlo.{ephemerisGlo}
 use Rattle.gps_orbits.specs.EphemerisGps.{ephemerisGps}
 use Rattle.orbits.specs.EphemerisSbas.{ephemerisSbas}
 use Rattle.observation.specs.Edition.{obs, first, observation}
 use Rattle.observation.specs.Obs.{shown}
-use Rattle.gps_times.specs.declared.gps_time.GpsTime.{GpsTime}
-use Rattle.gps_times.specs.declared.dops.Dops.{Dops}
-use Rattle.navigation.specs.declared.pos_ecef.PosEcef.{PosEcef}
-use Rattle.navigation.specs.declared.pos_llh.PosLlh.{PosLlh}
+use Rattle.time_and_dops.specs.declared.gps_time.GpsTime.{GpsTime}
+use Rattle.time_and_dops.specs.declared.dops.Dops.{Dops}
+use Rattle.positions.specs.declared.pos_ecef.PosEcef.{PosEcef}
+use Rattle.positions.specs.declared.pos_llh.PosLlh.{PosLlh}
 use Rattle.baselines.specs.declared.ecef.EcefVector.{EcefVector}
 use Rattle.baselines.specs.declared.ned.NedVector.{NedVector}
 use Rattle.baselines.specs.declared.heading.BaselineHeading.{BaselineHeading}

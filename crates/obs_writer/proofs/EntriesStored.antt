@@ -8,7 +8,7 @@ use native.Mathlib.Omega.{arith}
 use lib.ListN.{length, getD, take, drop, drop-of-length-le}
 use lib.Seq.{sets, drop-cons, getD-take, length-take-le}
 use Rattle.layouts.specs.Field.{Row, size, encode, rowStored}
-use Rattle.layouts.specs.Layout.{rowsStored}
+use Rattle.layouts.specs.Inner.{rowsStored}
 use Rattle.layouts.specs.Description.{Part, rowsOf}
 use Rattle.wire.proofs.Numbers.{sets-lent}
 use Rattle.wire.proofs.Lent.{lentFrom, backFrom, lent-length}

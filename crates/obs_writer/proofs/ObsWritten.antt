@@ -6,7 +6,8 @@ use Prim.Native.Nat.{ℕ, _+_, _≤_, _<_}
 use lib.ListN.{length, take}
 use borrow.Author.Tests.{le-leb, lt-leb}
 use Rattle.layouts.specs.Field.{Row, allowedRow, size, rowStored}
-use Rattle.layouts.specs.Layout.{rowsStored, allowedBody, fewEnough, bodySize, encodeBody}
+use Rattle.layouts.specs.Layout.{allowedBody, fewEnough, bodySize, encodeBody}
+use Rattle.layouts.specs.Inner.{rowsStored}
 use Rattle.layouts.specs.Description.{rowsOf}
 use Rattle.refusals.specs.Refusals.{refused, given, Answer, leaves}
 use Rattle.layouts.proofs.Layouts.{allowed-rows}

@@ -3,7 +3,7 @@ ghost use Prim.Native.Nat.{_+_, _*_, _≤_};
 ghost use mathlib.Core.Path.{_≡_};
 ghost use lib.ListN.{length, take};
 ghost use Rattle.layouts.specs.Field.{rowStored};
-ghost use Rattle.layouts.specs.Layout.{rowsStored};
+ghost use Rattle.layouts.specs.Inner.{rowsStored};
 ghost use Rattle.layouts.specs.Description.{rowsOf};
 ghost use Rattle.frame_writer.specs.Writer.{senderOf, writtenAnswer};
 ghost use Rattle.observation.specs.Edition.{head, observation, first};

@@ -1,7 +1,7 @@
 // EPHEMERIS_GLO, 0x0083: the satellite's carrier and time, where it is and how it moves.
 ghost use mathlib.Core.Path.{_≡_};
 ghost use lib.ListN.{length};
-ghost use Rattle.layouts.specs.Layout.{bodyStored};
+ghost use Rattle.layouts.specs.Inner.{bodyStored};
 ghost use Rattle.layouts.specs.Description.{inside, readAs};
 ghost use Rattle.frame_writer.specs.Writer.{senderOf, writtenAnswer};
 ghost use Rattle.frame_writer.specs.Faithful.{writeAnswer, writtenAs};

@@ -12,7 +12,8 @@ use Rattle.observation.specs.Edition.{fitting, first}
 use Rattle.logs.specs.Log.{logLength}
 use Rattle.logs.proofs.Logs.{as-padded}
 use Rattle.payloads.specs.Payloads.{Entry, table, entryFor, knownFor, testsOf, readingAny, readFor, answerFor}
-use Rattle.payloads.specs.Checks.{document, checkIn, checkFor, tests, testsBy, numberBy, Agrees, AsInDocument}
+use Rattle.payloads.specs.Checks.{document, tests, testsBy, Agrees, AsInDocument}
+use Rattle.payloads.specs.Inner.{checkIn, checkFor, numberBy}
 use Rattle.payloads.specs.declared.Message.{Message}
 use Rattle.payloads.specs.declared.check.Check.{Check}
 use Rattle.payloads.specs.declared.check.Check.the-variants.{Unknown, Length, Ns, Fix, Obs, Log}

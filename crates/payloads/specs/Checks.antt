@@ -2,12 +2,12 @@
 -- the same is proved (proofs/Agreed.antt).
 use Prim.Native.Nat.{ℕ}
 use mathlib.Core.Path.{_≡_}
-use mathlib.Core.Bool.{Bool, true, false, cond}
+use mathlib.Core.Bool.{Bool, true, false}
 use mathlib.Core.List.{List, [], _∷_}
 use lib.Dec.{eqb}
 use lib.ListN.{length}
 use Rattle.wire.specs.Value.{valueAt, u8, s32}
-use Rattle.refusals.specs.Refusals.{Tests, ordered, zeroOr}
+use Rattle.refusals.specs.Refusals.{Tests}
 use Rattle.flags.specs.Range.{inNs, fixUpTo}
 use Rattle.observation.specs.Edition.{fitting, first}
 use Rattle.logs.specs.Log.{logLength, logPadded}
@@ -44,13 +44,6 @@ document =
     (0x0401, Log) ∷
     []
 
-unfoldable pub checkIn : List (ℕ × Check) → ℕ → Check
-checkIn [] kind = Unknown
-checkIn (d ∷ ds) kind = cond (eqb kind (d .0)) (d .1) (checkIn ds kind)
-
-abbrev pub checkFor : ℕ → Check
-checkFor kind = checkIn document kind
-
 -- the tests of a payload of a known type: its length, its range
 abbrev pub tests : Bool → Bool → Tests
 tests fits inside = (true, 21) ∷ (fits, 22) ∷ (inside, 23) ∷ []
@@ -62,10 +55,6 @@ testsBy (Ns n at) s = tests (eqb (length s) n) (inNs (valueAt s32 s at))
 testsBy (Fix n at last) s = tests (eqb (length s) n) (fixUpTo last (valueAt u8 s at))
 testsBy Obs s = tests (fitting first (length s)) true
 testsBy Log s = tests (logLength (length s)) (logPadded s)
-
--- the number of the first that fails, or 0
-abbrev pub numberBy : Tests → ℕ
-numberBy ts = zeroOr (ordered {A = Unit {0}} ts tt)
 
 -- entry by entry the types are these, and the tests of the descriptions are these
 abbrev pub Agrees : List Entry → List (ℕ × Check) → Type 0

@@ -1,2 +1,3 @@
 pub mod Payloads
 pub mod Checks
+pub mod Inner

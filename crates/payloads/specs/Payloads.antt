@@ -11,13 +11,13 @@ use Rattle.refusals.specs.Refusals.{refused, given, Answer, Tests, mapped, orde
 use Rattle.formats.specs.Digits.{shapeOf}
 use Rattle.formats.specs.declared.Shape.{Shape}
 use Rattle.frame_writer.specs.Faithful.{Faithful}
-use Rattle.gps_times.specs.Dops.{dops}
+use Rattle.time_and_dops.specs.Dops.{dops}
 use Rattle.baselines.specs.Ecef.{baselineEcef, velEcef}
-use Rattle.gps_times.specs.GpsTime.{gpsTime}
+use Rattle.time_and_dops.specs.GpsTime.{gpsTime}
 use Rattle.baselines.specs.Heading.{baselineHeading}
 use Rattle.baselines.specs.Ned.{baselineNed, velNed}
-use Rattle.navigation.specs.PosEcef.{posEcef}
-use Rattle.navigation.specs.PosLlh.{posLlh}
+use Rattle.positions.specs.PosEcef.{posEcef}
+use Rattle.positions.specs.PosLlh.{posLlh}
 use Rattle.base_positions.specs.BasePosEcef.{basePosEcef}
 use Rattle.base_positions.specs.BasePosLlh.{basePosLlh}
 use Rattle.observation.specs.Edition.{obs, first}

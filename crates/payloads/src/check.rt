@@ -1,6 +1,7 @@
 // What a payload is tested for before it is read, by its type: document 01's lengths and ranges.
 ghost use mathlib.Core.Path.{_≡_};
-ghost use Rattle.payloads.specs.Checks.{checkFor, tests, testsBy, numberBy};
+ghost use Rattle.payloads.specs.Checks.{tests, testsBy};
+ghost use Rattle.payloads.specs.Inner.{checkFor, numberBy};
 
 pub enum Check {
     Unknown,

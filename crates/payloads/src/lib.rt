@@ -13,10 +13,10 @@ pub use shape::shape_of;
 // Every message that has a reading. The observations of an Obs and the text of a Log stay in the payload: read_observation and
 // log_text give them.
 pub enum Message {
-    GpsTime(gps_times::GpsTime),
-    Dops(gps_times::Dops),
-    PosEcef(navigation::PosEcef),
-    PosLlh(navigation::PosLlh),
+    GpsTime(time_and_dops::GpsTime),
+    Dops(time_and_dops::Dops),
+    PosEcef(positions::PosEcef),
+    PosLlh(positions::PosLlh),
     BaselineEcef(baselines::EcefVector),
     VelEcef(baselines::EcefVector),
     BaselineNed(baselines::NedVector),

@@ -8,10 +8,10 @@ pub(crate) fn record_in(kind: u16, s: &[u8]) -> Message
     ensures { λ r. ⌜ r ≡ recordIn kind (now (s .entry)) ⌝ }
 {
     match kind {
-        0x0100 => Message::GpsTime(gps_times::take_gps_time(s)),
-        0x0206 => Message::Dops(gps_times::take_dops(s)),
-        0x0200 => Message::PosEcef(navigation::take_pos_ecef(s)),
-        0x0201 => Message::PosLlh(navigation::take_pos_llh(s)),
+        0x0100 => Message::GpsTime(time_and_dops::take_gps_time(s)),
+        0x0206 => Message::Dops(time_and_dops::take_dops(s)),
+        0x0200 => Message::PosEcef(positions::take_pos_ecef(s)),
+        0x0201 => Message::PosLlh(positions::take_pos_llh(s)),
         0x0202 => Message::BaselineEcef(baselines::take_ecef(s)),
         0x0204 => Message::VelEcef(baselines::take_ecef(s)),
         0x0203 => Message::BaselineNed(baselines::take_ned(s)),

@@ -14,7 +14,8 @@ use Rattle.layouts.specs.Layout.{Layout, run, then, bytes, text, rows, countIn,
 use Rattle.refusals.specs.Refusals.{AllPass}
 use Rattle.layouts.proofs.Layouts.{lengths-of, length-rows}
 use Rattle.formats.specs.Wide.{wideRow, wideBody, numberCount}
-use Rattle.formats.specs.Digits.{upTo, formatsBy, sizeOf, numbersAt, textDigit, frontOf, repeated, digitsOf, shapeOf, formatsIn}
+use Rattle.formats.specs.Digits.{upTo, formatsBy, sizeOf, numbersAt, textDigit, frontOf, repeated, digitsOf, shapeOf}
+use Rattle.formats.specs.Inner.{formatsIn}
 use Rattle.formats.specs.declared.Shape.{Shape}
 use Rattle.formats.proofs.Rows.{length-numbers}
 use Rattle.formats.proofs.Widened.{numbers-wide, numbers-joined, numbers-drop, size-formats, size-joined}

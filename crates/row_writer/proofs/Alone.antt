@@ -11,7 +11,8 @@ use Rattle.layouts.specs.Field.{formatOf, HeldRow, allowedRow, size, encode}
 use Rattle.layouts.specs.Layout.{Layout, run, then, bytes, text, rows, HeldBody, allowedBody, fewEnough, bodySize, lengths, encodeBody, decodeBody, Sound}
 use Rattle.layouts.proofs.Fields.{allowed-again-row, decode-encode}
 use Rattle.formats.specs.Wide.{narrowRow, fitsRow, numberCount}
-use Rattle.formats.specs.Digits.{formatsBy, sizeOf, runFits, repeated, frontOf, formatsIn}
+use Rattle.formats.specs.Digits.{formatsBy, sizeOf, runFits, repeated, frontOf}
+use Rattle.formats.specs.Inner.{formatsIn}
 use Rattle.formats.specs.declared.Shape.{Shape}
 use Rattle.formats.proofs.Widened.{size-formats, size-joined}
 use Rattle.formats.proofs.Narrow.{withinAll, fits-row}

@@ -9,7 +9,8 @@ use lib.ListN.{length, take, drop}
 use lib.Seq.{take-all}
 use Rattle.wire.specs.Value.{Format}
 use Rattle.layouts.specs.Field.{Field, formatOf, Row, rowStored}
-use Rattle.layouts.specs.Layout.{Layout, Body, rowsStored, encodeBody}
+use Rattle.layouts.specs.Layout.{Layout, Body, encodeBody}
+use Rattle.layouts.specs.Inner.{rowsStored}
 use Rattle.layouts.specs.Description.{rowsOf, madeOf, rows-made}
 use Rattle.layouts.proofs.Layouts.{length-encode-body, body-sets}
 use Rattle.formats.specs.Wide.{narrowRow, fitsRow, narrowRows, fitsRows}

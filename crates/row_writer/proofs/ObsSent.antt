@@ -10,7 +10,7 @@ use Rattle.refusals.specs.Refusals.{zeroOr}
 use Rattle.formats.specs.Wide.{fitsRow, fitsRows}
 use Rattle.frame_writer.specs.Writer.{writingFrame, planned, withFrame, sizeLeft}
 use Rattle.observation.specs.Edition.{startOf, head, observation, first, isObs}
-use Rattle.payloads.specs.Checks.{numberBy}
+use Rattle.payloads.specs.Inner.{numberBy}
 use Rattle.row_writer.specs.WriteObsRow.{rowsIn, writeObsRow, obsRowWritten}
 use Rattle.row_writer.specs.Inner.{testingObsRow}
 use Rattle.row_writer.proofs.Tested.{stands, goes-on, all-pass}

@@ -13,11 +13,12 @@ use Rattle.refusals.specs.Refusals.{refused, Answer, Tests, ordered, zeroOr}
 use Rattle.layouts.proofs.Fields.{row-sets, length-encode}
 use Rattle.layouts.proofs.Layouts.{lengths-true, size-fits, length-encode-body}
 use Rattle.formats.specs.Wide.{narrowRow, fitsRow, numberCount}
-use Rattle.formats.specs.Digits.{runStored, frontOf, formatsIn}
+use Rattle.formats.specs.Digits.{runStored, frontOf}
+use Rattle.formats.specs.Inner.{formatsIn}
 use Rattle.formats.specs.declared.Shape.{Shape}
 use Rattle.formats.proofs.Narrow.{Words, held-narrow, stored-narrow}
 use Rattle.frame_writer.specs.Writer.{writingFrame, sizeLeft}
-use Rattle.payloads.specs.Checks.{numberBy}
+use Rattle.payloads.specs.Inner.{numberBy}
 use Rattle.payloads.specs.Payloads.{table, entryFor, layoutFor, knownFor, shapeFor, answerFor}
 use Rattle.row_writer.specs.WriteRow.{alone, bodyOf, writeRow, rowWritten}
 use Rattle.row_writer.specs.Inner.{testingRow, sent}

@@ -6,7 +6,7 @@ use Prim.Native.Nat.{ℕ}
 use Rattle.refusals.specs.Refusals.{refused, given, Answer, Tests, ordered, AllPass}
 use Rattle.refusals.proofs.Ordered.{exactly-all}
 use Rattle.refusals.proofs.Joined.{andThen, ordered-joined}
-use Rattle.payloads.specs.Checks.{numberBy}
+use Rattle.payloads.specs.Inner.{numberBy}
 use Rattle.payloads.proofs.Agreed.{positive, passes, refuses-by}
 
 module _ (ts us : Tests) (y : ℕ) {n : ℕ} (p : n ≡ numberBy ts) where

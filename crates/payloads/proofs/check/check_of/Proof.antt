@@ -1,6 +1,7 @@
 -- `payloads::check::check_of` meets its contract: each type by its row, any other by having none.
 use mathlib.Core.Path.{sym, ap}
-use Rattle.payloads.specs.Checks.{document, checkIn, checkFor}
+use Rattle.payloads.specs.Checks.{document}
+use Rattle.payloads.specs.Inner.{checkIn, checkFor}
 use Rattle.payloads.proofs.Agreed.{no-check}
 use Rattle.payloads.proofs.check.check_of.Statement.{statement}
 use Rattle.payloads.proofs.check.check_of.Tie as tie

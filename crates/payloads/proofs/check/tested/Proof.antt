@@ -9,7 +9,8 @@ use lib.ListN.{length}
 use Rattle.wire.proofs.Signed.{came-back}
 use Rattle.flags.specs.Range.{inNs, fixUpTo}
 use Rattle.logs.specs.Log.{logLength}
-use Rattle.payloads.specs.Checks.{tests, testsBy, numberBy}
+use Rattle.payloads.specs.Checks.{tests, testsBy}
+use Rattle.payloads.specs.Inner.{numberBy}
 use Rattle.payloads.specs.declared.check.Check.{Check}
 use borrow.Author.Needs.{needs}
 use Rattle.payloads.proofs.check.tested.Statement.{statement}
