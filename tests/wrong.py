@@ -3,8 +3,8 @@
 
 An edit is a file tests/wrong/NAME.edit as in crates/*/must-fail (lines 'file: PATH' from the root, 'old: TEXT', which is there once, 'new:
 TEXT'), with a line 'test: COMMAND'. Without the edit the command passes. With it the command fails, and at a comparison: it prints a line that
-begins with 'differs: ', which nothing prints that is not compiled. All happens in two copies of the repository, side by side. The last line is 'N passed, M
-failed'.
+begins with 'differs: ', which nothing prints that is not compiled. All happens in two copies of the repository, side by side. The last line is
+'N passed, M failed'.
 usage: wrong.py [NAME..] (after link/library and rt check sbplist)
 """
 import concurrent.futures
