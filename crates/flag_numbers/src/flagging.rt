@@ -1,4 +1,5 @@
-// One flag of a message by its type, as a number: the fix mode and the RAIM flags of positions, baselines and the heading, and what a POS_LLH's height is above.
+// One flag of a message by its type, as a number: the fix mode and the RAIM flags of positions, baselines and the heading, and what a POS_LLH's
+// height is above.
 ghost use mathlib.Core.Path.{_≡_};
 ghost use Rattle.refusals.specs.Refusals.{asNumber};
 ghost use Rattle.flag_numbers.specs.Flagged.{tableFor, fixNumber, bitNumber, raimIn, fixAnswer, availableAnswer, repairedAnswer, aboveSeaAnswer};

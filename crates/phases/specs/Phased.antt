@@ -1,4 +1,4 @@
--- What a call hands back that is lent two numbers for the parts of a phase, and what it leaves in the two numbers that it is lent: 33, or the one pair.
+-- What a call hands back, and what it leaves in the two numbers that it is lent for the parts of a phase: 33, or the one pair.
 use Prim.Native.Nat.{ℕ}
 use lib.IntN.{ℤ}
 use Rattle.refusals.specs.Refusals.{leaves, zeroOr}
