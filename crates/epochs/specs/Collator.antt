@@ -5,7 +5,7 @@ use mathlib.Core.Bool.{_&&_, not}
 use mathlib.Core.List.{List, [], _∷_, _++_}
 use lib.Dec.{leb}
 use lib.ListN.{length, getD, set, take, replicate}
-use Rattle.refusals.specs.Refusals.{refused, given, Answer, Tests, ordered}
+use Rattle.refusals.specs.Refusals.{refused, given, Answer, Call, reply}
 use Rattle.frames.specs.Frame.{Content}
 use Rattle.packets.specs.Packet.{packetIn, shape, numbering}
 use Rattle.packets.specs.declared.packet.Packet.{Packet}
@@ -28,20 +28,21 @@ use Rattle.epochs.specs.declared.collating.Made.{Made}
 
 -- ---- a frame, by the roster and the frame alone
 
--- "Feeding: 46, 22, 43, 44, 45."
-abbrev pub feeding : List ℕ → Content → Tests
-feeding roster x = shape (x .kind) (x .payload) ++ (names roster (x .sender), 43) ∷ numbering (packetIn (x .payload))
-
 abbrev pub seatNumber : Seat → ℕ
 seatNumber Nowhere = 0
 seatNumber (At i) = i
 
--- what passes them is a packet for its sender's place
+-- what passes its tests is a packet for its sender's place
 abbrev pub ownPlace : List ℕ → Content → ℕ × Packet
 ownPlace roster x = (seatNumber (seatOf roster (x .sender) 0), packetIn (x .payload))
 
+-- "Feeding: 46, 22, 43, 44, 45."
+abbrev pub feeding : List ℕ → Content → Call (ℕ × Packet)
+feeding roster x =
+    record { tests = shape (x .kind) (x .payload) ++ (names roster (x .sender), 43) ∷ numbering (packetIn (x .payload)); value = ownPlace roster x }
+
 unfoldable pub forPlace : List ℕ → Content → Answer (ℕ × Packet)
-forPlace roster x = ordered (feeding roster x) (ownPlace roster x)
+forPlace roster x = reply (feeding roster x)
 
 abbrev pub recognisedAnswer : Recognised → Answer (ℕ × Packet)
 recognisedAnswer (R.For i p) = given (i, p)
@@ -88,8 +89,8 @@ abbrev pub fresh : List ℕ → Collator
 fresh roster = record { places = replicate 8 idle; roster = take 8 (roster ++ replicate 8 0); count = length roster }
 
 -- "Roster: 41, 42.": not empty and not longer than 8, no sender twice
-abbrev pub rostering : List ℕ → Tests
-rostering roster = (leb 1 (length roster) && leb (length roster) 8, 41) ∷ (not (repeats roster), 42) ∷ []
+abbrev pub rostering : List ℕ → Call Collator
+rostering roster = record { tests = (leb 1 (length roster) && leb (length roster) 8, 41) ∷ (not (repeats roster), 42) ∷ []; value = fresh roster }
 
 -- a refusal's collator lists nobody
 abbrev pub asMade : Answer Collator → Made
@@ -97,4 +98,4 @@ asMade (given c) = record { collator = c; number = 0 }
 asMade (refused n) = record { collator = fresh []; number = n }
 
 unfoldable pub made : List ℕ → Made
-made roster = asMade (ordered (rostering roster) (fresh roster))
+made roster = asMade (reply (rostering roster))

@@ -3,7 +3,7 @@ use Prim.Native.Nat.{ℕ}
 use mathlib.Core.Bool.{Bool, true, false, cond, _||_}
 use mathlib.Core.List.{[], _∷_}
 use lib.Dec.{eqb}
-use Rattle.refusals.specs.Refusals.{Answer, Tests, ordered, asNumber}
+use Rattle.refusals.specs.Refusals.{Answer, asNumber, Call, reply}
 use Rattle.flags.specs.Flags.{ecefFix, llhFix, baselineFix, raimAvailable, raimRepaired, llhAboveSea, llhRaimAvailable, llhRaimRepaired}
 use Rattle.baselines.specs.Ecef.{baselineEcef}
 use Rattle.baselines.specs.Heading.{baselineHeading}
@@ -60,15 +60,15 @@ bitNumber true = 1
 -- ---- the answers
 
 -- 21
-abbrev pub flagging : Bool → Tests
-flagging has = (has, 21) ∷ []
+abbrev pub flagging : {A : Type 0} → Bool → A → Call A
+flagging has x = record { tests = (has, 21) ∷ []; value = x }
 
 -- of a table
 abbrev pub fixIn : Table → ℕ → Answer Fix
-fixIn t flags = ordered (flagging (isTable t)) (fixBy t flags)
+fixIn t flags = reply (flagging (isTable t) (fixBy t flags))
 
 abbrev pub raimIn : Table → Bool → Bool → Answer Bool
-raimIn t llh other = ordered (flagging (isTable t)) (raimBy t llh other)
+raimIn t llh other = reply (flagging (isTable t) (raimBy t llh other))
 
 -- of a type
 abbrev pub fixAnswer : ℕ → ℕ → ℕ
@@ -82,4 +82,4 @@ repairedAnswer kind flags = asNumber bitNumber (raimIn (tableFor kind) (llhRaimR
 
 -- only a POS_LLH says what its height is above
 abbrev pub aboveSeaAnswer : ℕ → ℕ → ℕ
-aboveSeaAnswer kind flags = asNumber bitNumber (ordered (flagging (eqb kind (posLlh .kind))) (llhAboveSea flags))
+aboveSeaAnswer kind flags = asNumber bitNumber (reply (flagging (eqb kind (posLlh .kind)) (llhAboveSea flags)))

@@ -3,7 +3,7 @@ use Prim.Native.Nat.{ℕ}
 use mathlib.Core.Bool.{Bool}
 use mathlib.Core.List.{List, [], _∷_}
 use lib.ListN.{length}
-use Rattle.refusals.specs.Refusals.{Answer, Tests, ordered, leaves, asNumber, roomFor}
+use Rattle.refusals.specs.Refusals.{Answer, leaves, asNumber, roomFor, Call, reply}
 use Rattle.wire.specs.Value.{u8, u16, u64}
 use Rattle.layouts.specs.Field.{Field, any, Row, size}
 use Rattle.frames.specs.Cursors.{nextOf}
@@ -45,11 +45,11 @@ numberIn (Next.the-variants.End c) = 1
 numberIn (Next.the-variants.Needs n c) = 2
 
 -- 32
-abbrev pub finding : ℕ → Tests
-finding room = roomFor foundSize room
+abbrev pub finding : List ℕ → ℕ → Bool → ℕ → Call Next.Next
+finding s at opened room = record { tests = roomFor foundSize room; value = nextOf s (startAt at opened) }
 
 unfoldable pub nextFrom : List ℕ → ℕ → Bool → ℕ → Answer Next.Next
-nextFrom s at opened room = ordered (finding room) (nextOf s (startAt at opened))
+nextFrom s at opened room = reply (finding s at opened room)
 
 abbrev pub nextAnswer : List ℕ → ℕ → Bool → ℕ → ℕ
 nextAnswer s at opened room = asNumber numberIn (nextFrom s at opened room)

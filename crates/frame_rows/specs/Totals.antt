@@ -2,7 +2,7 @@
 use Prim.Native.Nat.{ℕ}
 use mathlib.Core.List.{List, [], _∷_}
 use lib.ListN.{length}
-use Rattle.refusals.specs.Refusals.{Answer, Tests, ordered, leaves, zeroOr, roomFor}
+use Rattle.refusals.specs.Refusals.{Answer, leaves, zeroOr, roomFor, Call, reply}
 use Rattle.wire.specs.Value.{u64}
 use Rattle.layouts.specs.Field.{Field, any, Row, size}
 use Rattle.frames.specs.Reading.{closedSteps, countsOf}
@@ -21,11 +21,11 @@ abbrev pub totalsRow : Counts → Row totalsFields
 totalsRow c = (c .framed, (c .junk, (c .bad, (c .short, tt))))
 
 -- 32
-abbrev pub totalling : ℕ → Tests
-totalling room = roomFor totalsSize room
+abbrev pub totalling : List ℕ → ℕ → Call Counts
+totalling s room = record { tests = roomFor totalsSize room; value = countsOf (closedSteps s) }
 
 unfoldable pub totalsFor : List ℕ → ℕ → Answer Counts
-totalsFor s room = ordered (totalling room) (countsOf (closedSteps s))
+totalsFor s room = reply (totalling s room)
 
 abbrev pub totalsAnswer : List ℕ → ℕ → ℕ
 totalsAnswer s room = zeroOr (totalsFor s room)

@@ -76,7 +76,7 @@ module _ {R : Type 0} (d : Description R) (sender : ℕ) (r : R) (buf : List ℕ
     passes : (allowedBody (d .layout) v ≡ true) × (fewEnough (d .layout) v ≡ true) × (bodySize (d .layout) v ≤ 255) × (bodySize (d .layout) v + 8 ≤ length buf)
     unfolding writeAnswer
     passes =
-        let pass = exactly-all (bodySize (d .layout) v + 8) (writing d r (length buf)) n .0 g .0 in
+        let pass = exactly-all (bodySize (d .layout) v + 8) (writing d r (length buf) .tests) n .0 g .0 in
         (pass .0, pass .1 .0, leb-true (bodySize (d .layout) v) 255 (pass .1 .1 .0), leb-true (bodySize (d .layout) v + 8) (length buf) (pass .1 .1 .1 .0))
 
     abbrev bytes : List ℕ

@@ -8,7 +8,7 @@ use lib.ListN.{length}
 use Rattle.wire.specs.Number.{Bytes}
 use Rattle.layouts.specs.Layout.{HeldBody, SettledBody, allowedBody, fewEnough, bodyBits, bodySize, LengthOf, encodeBody, decodeBody}
 use Rattle.layouts.specs.Description.{Description, readAs}
-use Rattle.refusals.specs.Refusals.{refused, given, Answer, Tests, ordered, leaves}
+use Rattle.refusals.specs.Refusals.{refused, given, Answer, leaves, Call, reply}
 use Rattle.frames.specs.Frame.{frameBytes}
 use Rattle.frames.specs.Step.{stepAt, payloadIn}
 use Rattle.frame_writer.specs.Writer.{writingFrame, startingWith, withFrame}
@@ -16,12 +16,15 @@ use Rattle.frames.specs.declared.step.Frame.{Frame}
 use Rattle.frames.specs.declared.step.Step.the-variants.{Found}
 
 -- a record into a buffer of some length: 23 for a field outside its range, 31 for more bytes or rows than the most, then 31 and 32 as every frame
-abbrev pub writing : {R : Type 0} → Description R → R → ℕ → Tests
+abbrev pub writing : {R : Type 0} → Description R → R → ℕ → Call ℕ
 writing d r room =
-    (allowedBody (d .layout) (d .row r), 23) ∷ (fewEnough (d .layout) (d .row r), 31) ∷ writingFrame (bodySize (d .layout) (d .row r)) room
+    record {
+      tests = (allowedBody (d .layout) (d .row r), 23) ∷ (fewEnough (d .layout) (d .row r), 31) ∷ writingFrame (bodySize (d .layout) (d .row r)) room;
+      value = bodySize (d .layout) (d .row r) + 8;
+    }
 
 unfoldable pub writeAnswer : {R : Type 0} → Description R → R → ℕ → Answer ℕ
-writeAnswer d r room = ordered (writing d r room) (bodySize (d .layout) (d .row r) + 8)
+writeAnswer d r room = reply (writing d r room)
 
 -- the buffer after it: the frame and the bytes after it as they were, or all as it was
 unfoldable pub writtenAs : {R : Type 0} → Description R → ℕ → R → List ℕ → List ℕ

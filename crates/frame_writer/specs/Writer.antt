@@ -3,7 +3,7 @@ use Prim.Native.Nat.{ℕ, _+_}
 use mathlib.Core.List.{List, [], _∷_, _++_}
 use lib.Dec.{leb}
 use lib.ListN.{length, take, drop}
-use Rattle.refusals.specs.Refusals.{refused, given, Answer, Tests, ordered, leaves}
+use Rattle.refusals.specs.Refusals.{refused, given, Answer, Tests, leaves, Call, reply}
 use Rattle.frames.specs.Frame.{frameBytes, Content}
 use Rattle.frames.specs.Reading.{Positioned}
 use Rattle.frames.specs.declared.step.Frame.{Frame}
@@ -27,8 +27,11 @@ senderOf Unnamed = 0x42
 abbrev pub writingFrame : ℕ → ℕ → Tests
 writingFrame n room = (leb n 255, 31) ∷ (leb (n + 8) room, 32) ∷ []
 
+abbrev pub planning : ℕ → ℕ → Call ℕ
+planning n room = record { tests = writingFrame n room; value = n + 8 }
+
 unfoldable pub planned : ℕ → ℕ → Answer ℕ
-planned n room = ordered (writingFrame n room) (n + 8)
+planned n room = reply (planning n room)
 
 -- the number that a caller lends for the size: how many bytes were written, or what stood there
 abbrev pub sizeLeft : Answer ℕ → ℕ → ℕ

@@ -32,18 +32,18 @@ module _ {R : Type 0} (d : Description R) where
     -- a payload is refused exactly when one of its cases holds, by the first
     pub exactly-22 : (readAs d s ≡ refused 22) ↔ (LengthOf (d .layout) (length s) → ⊥)
     unfolding readAs
-    exactly-22 = (λ r. only (exactly-first (inside d s) (reading d s) 22 .0 r), read-22)
+    exactly-22 = (λ r. only (exactly-first (inside d s) (reading d s .tests) 22 .0 r), read-22)
       where
-        only : FirstFails (reading d s) 22 → LengthOf (d .layout) (length s) → ⊥
+        only : FirstFails (reading d s .tests) 22 → LengthOf (d .layout) (length s) → ⊥
         only (inl f) = no-length (d .layout) (length s) (f .0)
         only (inr (t, inl f)) = absurd (eqb-false 22 23 refl (f .1))
         only (inr (t, inr f)) = absurd (f .1)
 
     pub exactly-23 : (readAs d s ≡ refused 23) ↔ (LengthOf (d .layout) (length s) × (allowedBody (d .layout) (decodeBody (d .layout) s) ≡ false))
     unfolding readAs
-    exactly-23 = (λ r. only (exactly-first (inside d s) (reading d s) 23 .0 r), λ c. read-23 (c .0) (c .1))
+    exactly-23 = (λ r. only (exactly-first (inside d s) (reading d s .tests) 23 .0 r), λ c. read-23 (c .0) (c .1))
       where
-        only : FirstFails (reading d s) 23 → LengthOf (d .layout) (length s) × (allowedBody (d .layout) (decodeBody (d .layout) s) ≡ false)
+        only : FirstFails (reading d s .tests) 23 → LengthOf (d .layout) (length s) × (allowedBody (d .layout) (decodeBody (d .layout) s) ≡ false)
         only (inl f) = absurd (eqb-false 23 22 refl (f .1))
         only (inr (t, inl f)) = (lengths-of (d .layout) (length s) t, f .0)
         only (inr (t, inr f)) = absurd (f .1)
@@ -56,7 +56,7 @@ module _ {R : Type 0} (d : Description R) where
         → LengthOf (d .layout) (length s) × (allowedBody (d .layout) (decodeBody (d .layout) s) ≡ true) × (d .row r ≡ decodeBody (d .layout) s)
     unfolding readAs
     accepted r g =
-        let a = exactly-all (inside d s) (reading d s) r .0 g in
+        let a = exactly-all (inside d s) (reading d s .tests) r .0 g in
         (lengths-of (d .layout) (length s) (a .0 .0), a .0 .1 .0, body-inside r (sym (a .1)))
 
   -- ---- both ways

@@ -5,7 +5,7 @@ use mathlib.Core.List.{List, [], _∷_}
 use lib.ListN.{length}
 use Rattle.layouts.specs.Field.{Field, Row}
 use Rattle.layouts.specs.Layout.{Layout, Body, lengths, allowedBody, decodeBody}
-use Rattle.refusals.specs.Refusals.{Answer, Tests, ordered}
+use Rattle.refusals.specs.Refusals.{Answer, Call, reply}
 
 -- the type of the frames that carry it, and its layout; a record and a value of the layout are the same thing
 pub record Description (R : Type 0) : Type 0 where
@@ -21,11 +21,11 @@ abbrev pub inside : {R : Type 0} → Description R → List ℕ → R
 inside d s = d .make (decodeBody (d .layout) s)
 
 -- its reader, which knows its type: 22 for a wrong length, then 23 for a field outside its range
-abbrev pub reading : {R : Type 0} → Description R → List ℕ → Tests
-reading d s = (lengths (d .layout) (length s), 22) ∷ (allowedBody (d .layout) (decodeBody (d .layout) s), 23) ∷ []
+abbrev pub reading : {R : Type 0} → Description R → List ℕ → Call R
+reading d s = record { tests = (lengths (d .layout) (length s), 22) ∷ (allowedBody (d .layout) (decodeBody (d .layout) s), 23) ∷ []; value = inside d s }
 
 unfoldable pub readAs : {R : Type 0} → Description R → List ℕ → Answer R
-readAs d s = ordered (reading d s) (inside d s)
+readAs d s = reply (reading d s)
 
 -- ---- a part of a message: a record that is a run of fields, with no type number of its own
 

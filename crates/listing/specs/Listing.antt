@@ -4,7 +4,7 @@ use mathlib.Core.Bool.{cond}
 use mathlib.Core.List.{List, [], _∷_, _++_}
 use lib.Dec.{leb}
 use lib.ListN.{length}
-use Rattle.refusals.specs.Refusals.{Answer, Tests, ordered, leaves}
+use Rattle.refusals.specs.Refusals.{Answer, leaves, Call, reply}
 use Rattle.frame_writer.specs.Writer.{startingWith}
 use Rattle.frames.specs.Step.{payloadIn}
 use Rattle.frames.specs.Reading.{closedSteps, framesOf, countsOf}
@@ -51,11 +51,11 @@ abbrev pub longestText : ℕ
 longestText = 8 * mostListed + 32
 
 -- 11 for a longer capture, then 32 where the text has no room
-abbrev pub listing : List ℕ → ℕ → Tests
-listing s room = (leb (length s) mostListed, overLong) ∷ (leb (length (textOf s)) room, 32) ∷ []
+abbrev pub listing : List ℕ → ℕ → Call ℕ
+listing s room = record { tests = (leb (length s) mostListed, overLong) ∷ (leb (length (textOf s)) room, 32) ∷ []; value = length (textOf s) }
 
 unfoldable pub listAnswer : List ℕ → ℕ → Answer ℕ
-listAnswer s room = ordered (listing s room) (length (textOf s))
+listAnswer s room = reply (listing s room)
 
 -- the buffer after it: the text and the bytes after it as they were, or all as it was
 abbrev pub withListing : List ℕ → List ℕ → List ℕ

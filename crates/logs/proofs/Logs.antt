@@ -148,9 +148,9 @@ module _ (s : List ℕ) where
       (1 + found .0, 1 + found .1, omega arith, omega (arith, found .2), sym (getD-drop 1 s (found .0) 0) ∙ found .3, λ z. found .4 (getD-drop 1 s (found .1) 0 ∙ z))
 
   module _ (l : Log) (g : readLog s ≡ given l) where
-    accepted : AllPass (reading log s) × (shown (inside log s) ≡ l)
+    accepted : AllPass (reading log s .tests) × (shown (inside log s) ≡ l)
     unfolding readLog
-    accepted = exactly-all (shown (inside log s)) (reading log s) l .0 g
+    accepted = exactly-all (shown (inside log s)) (reading log s .tests) l .0 g
 
     -- the padding are as many zeros as the code shows
     padding-zeros : fromZero (drop 1 s) ≡ zeros (l .padding)
@@ -179,7 +179,7 @@ module _ (s : List ℕ) where
     unfolding readAs
     again-through sender buf h =
         ap (λ (r : Logged). writtenAs log sender r buf) whole
-        ∙ message .again sender (inside log s) buf s h (exactly-all (inside log s) (reading log s) (inside log s) .1 (accepted .0, refl))
+        ∙ message .again sender (inside log s) buf s h (exactly-all (inside log s) (reading log s .tests) (inside log s) .1 (accepted .0, refl))
 
 nonzero : (s : List ℕ) (i j : ℕ) → 0 < i → i < j → getD s i 0 ≡ 0 → (getD s j 0 ≡ 0 → ⊥) → logPadded s ≡ false
 nonzero [] i j p h z n = absurd (n refl)
@@ -197,9 +197,9 @@ module _ (sender level : ℕ) (text : List ℕ) (padding : ℕ) (buf : List ℕ)
   back-through : (readLog payload ≡ given (record { level = level; length = length text; padding = padding })) × (textIn payload ≡ text)
   unfolding readAs readLog
   back-through =
-      let read = exactly-all (inside log payload) (reading log payload) (logged level text padding) .0 read-whole in
+      let read = exactly-all (inside log payload) (reading log payload .tests) (logged level text padding) .0 read-whole in
       let shows = ap shown (read .1) ∙ ap (λ (n : ℕ). record { level = level; length = length text; padding = n }) (length-replicate padding 0) in
-      (exactly-all (shown (inside log payload)) (reading log payload) _ .1 (read .0, shows), ap (λ (r : Logged). r .text) (read .1))
+      (exactly-all (shown (inside log payload)) (reading log payload .tests) _ .1 (read .0, shows), ap (λ (r : Logged). r .text) (read .1))
 
 pub log-faithful : LogFaithful
 log-faithful = record {

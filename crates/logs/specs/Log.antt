@@ -10,7 +10,7 @@ use Rattle.wire.specs.Value.{u8}
 use Rattle.layouts.specs.Field.{any}
 use Rattle.layouts.specs.Layout.{then, text, lengths}
 use Rattle.layouts.specs.Description.{Description, inside, reading}
-use Rattle.refusals.specs.Refusals.{refused, given, Answer, ordered}
+use Rattle.refusals.specs.Refusals.{refused, given, Answer, Call, reply}
 use Rattle.logs.specs.declared.log.Log.{Log}
 use Rattle.logs.specs.declared.log.LogRead.{LogRead}
 use Rattle.logs.specs.declared.log.LogRead.the-variants.{Record, Refused}
@@ -41,8 +41,11 @@ textIn s = beforeZero (drop 1 s)
 abbrev pub shown : Logged → Log
 shown r = record { level = r .level; length = length (r .text); padding = length (r .padding) }
 
+abbrev pub readingLog : List ℕ → Call Log
+readingLog s = record { tests = reading log s .tests; value = shown (inside log s) }
+
 unfoldable pub readLog : List ℕ → Answer Log
-readLog s = ordered (reading log s) (shown (inside log s))
+readLog s = reply (readingLog s)
 
 abbrev pub logAnswer : LogRead → Answer Log
 logAnswer (Record r) = given r

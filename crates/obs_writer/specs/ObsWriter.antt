@@ -4,7 +4,7 @@ use mathlib.Core.List.{List, _∷_}
 use lib.Dec.{leb}
 use lib.ListN.{length, take}
 use Rattle.layouts.specs.Layout.{encodeBody}
-use Rattle.refusals.specs.Refusals.{Answer, Tests, ordered, leaves}
+use Rattle.refusals.specs.Refusals.{Answer, leaves, Call, reply}
 use Rattle.frames.specs.Frame.{frameBytes}
 use Rattle.frame_writer.specs.Writer.{writingFrame, startingWith}
 use Rattle.observation.specs.Edition.{Edition, Observed, obs, startOf, Head}
@@ -12,11 +12,11 @@ use Rattle.observation.specs.declared.obs.Obs.{Obs}
 
 module _ {H O : Type 0} (e : Edition H O) where
   -- 31 for more observations than the edition has, then 31 and 32 as every frame
-  abbrev pub writingObs : ℕ → ℕ → Tests
-  writingObs k room = (leb k (e .most), 31) ∷ writingFrame (startOf e k) room
+  abbrev pub writingObs : ℕ → ℕ → Call ℕ
+  writingObs k room = record { tests = (leb k (e .most), 31) ∷ writingFrame (startOf e k) room; value = startOf e k + 8 }
 
   unfoldable pub obsWriteAnswer : ℕ → ℕ → Answer ℕ
-  obsWriteAnswer k room = ordered (writingObs k room) (startOf e k + 8)
+  obsWriteAnswer k room = reply (writingObs k room)
 
   -- what is written: the header, and the first k of the observations
   abbrev pub observed : H → ℕ → List O → Observed H O

@@ -101,7 +101,7 @@ module _ {H O : Type 0} (e : Edition H O) where
     module _ (r : Observed H O) (g : readAs (obs e) s ≡ given r) where
       pub read-whole : (fitting e (length s) ≡ true) × (inside (obs e) s ≡ r)
       unfolding readAs
-      read-whole = let read = exactly-all (inside (obs e) s) (reading (obs e) s) r .0 g in (read .0 .0, read .1)
+      read-whole = let read = exactly-all (inside (obs e) s) (reading (obs e) s .tests) r .0 g in (read .0 .0, read .1)
 
       pub each-read : (i : ℕ) (d : O) → i < length (r .observations) → readEntry e s i ≡ given (getD (r .observations) i d)
       each-read i d h =
@@ -126,4 +126,4 @@ module _ (s : List ℕ) where
   unfolding readObs readAs
   only-shown o g =
       let read = exactly-all (obsIn s) ((fitting first (length s), 22) ∷ []) o .0 g in
-      (exactly-all (inside (obs first) s) (reading (obs first) s) (inside (obs first) s) .1 ((read .0 .0, (allowed first s (λ v. refl) (λ v. refl), tt)), refl), sym (read .1) ∙ obs-shown)
+      (exactly-all (inside (obs first) s) (reading (obs first) s .tests) (inside (obs first) s) .1 ((read .0 .0, (allowed first s (λ v. refl) (λ v. refl), tt)), refl), sym (read .1) ∙ obs-shown)

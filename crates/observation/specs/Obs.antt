@@ -5,7 +5,7 @@ use mathlib.Core.List.{List, [], _∷_}
 use lib.Dec.{ltb}
 use lib.ListN.{length}
 use Rattle.layouts.specs.Field.{decode}
-use Rattle.refusals.specs.Refusals.{refused, given, Answer, Tests, ordered}
+use Rattle.refusals.specs.Refusals.{refused, given, Answer, Call, reply}
 use Rattle.observation.specs.Edition.{Edition, Observed, fitting, countIn, startOf, Head, first, isObs}
 use Rattle.observation.specs.declared.entry.Observation.{Observation}
 use Rattle.observation.specs.declared.entry.ObservationRead.{ObservationRead}
@@ -22,25 +22,20 @@ module _ {H O : Type 0} (e : Edition H O) where
   entryAt s i = e .row .make (decode (e .row .fields) s (startOf e i))
 
   -- 22 for the payload's length, then 25 for an index at or past k
-  abbrev pub oneObservation : List ℕ → ℕ → Tests
-  oneObservation s i = (fitting e (length s), 22) ∷ (ltb i (countIn e (length s)), 25) ∷ []
+  abbrev pub oneObservation : List ℕ → ℕ → Call O
+  oneObservation s i = record { tests = (fitting e (length s), 22) ∷ (ltb i (countIn e (length s)), 25) ∷ []; value = entryAt s i }
 
   unfoldable pub readEntry : List ℕ → ℕ → Answer O
-  readEntry s i = ordered (oneObservation s i) (entryAt s i)
-
-  -- ---- the whole payload: 22 for its length
-
-  abbrev pub readingObs : List ℕ → Tests
-  readingObs s = (fitting e (length s), 22) ∷ []
+  readEntry s i = reply (oneObservation s i)
 
 -- ---- the first edition, which the code reads
 
 -- an observation of a frame's payload, whose type is looked at first: 21, 22, 25
-abbrev pub oneOfFrame : ℕ → List ℕ → ℕ → Tests
-oneOfFrame kind s i = (isObs kind, 21) ∷ oneObservation first s i
+abbrev pub oneOfFrame : ℕ → List ℕ → ℕ → Call Observation
+oneOfFrame kind s i = record { tests = (isObs kind, 21) ∷ oneObservation first s i .tests; value = entryAt first s i }
 
 unfoldable pub readEntryOf : ℕ → List ℕ → ℕ → Answer Observation
-readEntryOf kind s i = ordered (oneOfFrame kind s i) (entryAt first s i)
+readEntryOf kind s i = reply (oneOfFrame kind s i)
 
 abbrev pub entryAnswer : ObservationRead → Answer Observation
 entryAnswer (entry.Record r) = given r
@@ -55,8 +50,12 @@ obsIn s =
     let h = first .header .make (decode (first .header .fields) s 0) in
     record { tow = h .tow; wn = h .wn; «n_obs» = h .nObs; count = countIn first (length s) }
 
+-- 22 for its length
+abbrev pub readingObs : List ℕ → Call Obs
+readingObs s = record { tests = (fitting first (length s), 22) ∷ []; value = obsIn s }
+
 unfoldable pub readObs : List ℕ → Answer Obs
-readObs s = ordered (readingObs first s) (obsIn s)
+readObs s = reply (readingObs s)
 
 abbrev pub obsAnswer : ObsRead → Answer Obs
 obsAnswer (obs.Record r) = given r

@@ -27,7 +27,7 @@ module _ (kind : ℕ) (s : List ℕ) where
   -- of an observation type it is as OBS is read
   pub read-obs : isObs kind ≡ true → mapped packetOf (readObs s) ≡ readPacket kind s
   unfolding shape packetIn readObs
-  read-obs e = rw e (sym (ordered-mapped packetOf (obsIn s) (readingObs first s)))
+  read-obs e = rw e (sym (ordered-mapped packetOf (obsIn s) (readingObs s .tests)))
 
 module _ (p : Packet) where
   pub numbered-44 : p .key .n ≡ 0 → refused 44 ≡ numbered p

@@ -26,7 +26,7 @@ packetIn s = packetOf (obsIn s)
 
 -- 46, 22: the type is an observation's, and the length one of the type's
 unfoldable pub shape : ℕ → List ℕ → Tests
-shape kind s = (isObs kind, 46) ∷ readingObs first s
+shape kind s = (isObs kind, 46) ∷ readingObs s .tests
 
 -- 44, 45: n is not 0, and the counter is below n
 unfoldable pub numbering : Packet → Tests

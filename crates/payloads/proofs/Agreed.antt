@@ -34,7 +34,7 @@ abbrev firstOf : Tests → Bool
 firstOf [] = true
 firstOf (t ∷ ts) = t .0
 
-tests-agree : (es : List Entry) (ds : List (ℕ × Check)) → Agrees es ds → (kind : ℕ) (s : List ℕ) → testsOf (entryFor es kind) s ≡ testsBy (checkIn ds kind) s
+pub tests-agree : (es : List Entry) (ds : List (ℕ × Check)) → Agrees es ds → (kind : ℕ) (s : List ℕ) → testsOf (entryFor es kind) s ≡ testsBy (checkIn ds kind) s
 unfolding entryFor checkIn
 tests-agree [] [] h kind s = refl
 tests-agree (e ∷ es) (d ∷ ds) h kind s =
@@ -97,7 +97,7 @@ refuses-by (refused m) p h = ap refused p
 module _ (kind : ℕ) (s : List ℕ) where
   pub numbered : {n : ℕ} {k : Check} → n ≡ numberBy (testsBy k s) → k ≡ checkFor kind → n ≡ answerFor kind s
   numbered p q =
-      p ∙ ap (λ (k : Check). numberBy (testsBy k s)) q ∙ sym (ap numberBy (tests-agree table document agreed kind s)) ∙ number-alone (readingAny kind s) tt (entryFor table kind .holds s)
+      p ∙ ap (λ (k : Check). numberBy (testsBy k s)) q ∙ sym (ap numberBy (tests-agree table document agreed kind s)) ∙ number-alone (readingAny kind s .tests) tt (entryFor table kind .holds s)
 
   module _ {n : ℕ} (p : n ≡ answerFor kind s) where
     pub refuses : (n ≡ 0 → ⊥) → refused n ≡ readFor kind s
@@ -107,7 +107,7 @@ module _ (kind : ℕ) (s : List ℕ) where
     pub gives : n ≡ 0 → {k : ℕ} {x : Message} → kind ≡ k → x ≡ entryFor table k .holds s → given x ≡ readFor kind s
     gives z q e =
         let positive-tests = ap positive (tests-agree table document agreed kind s) ∙ positive-by (checkFor kind) s in
-        ap given (e ∙ sym (ap (λ (k : ℕ). entryFor table k .holds s) q)) ∙ passes (readingAny kind s) (entryFor table kind .holds s) positive-tests (sym p ∙ z)
+        ap given (e ∙ sym (ap (λ (k : ℕ). entryFor table k .holds s) q)) ∙ passes (readingAny kind s .tests) (entryFor table kind .holds s) positive-tests (sym p ∙ z)
 
   -- what a type's payloads are read as, at a type that was met as equal to it
   pub at-kind : {k : ℕ} {a b : Answer Message} → readFor k s ≡ b → a ≡ b → kind ≡ k → a ≡ readFor kind s

@@ -90,7 +90,7 @@ distinct before (m ∷ ms) =
 module _ (m : Described) (es : List Entry) (found : entryFor es (m .description .kind) ≡ entryOf m) where
   read-own : TypedIn es (m .description .kind) (m .name) (readAs (m .description))
   unfolding readAs
-  read-own s = ap (λ (e : Entry). ordered (testsOf e s) (e .holds s)) found ∙ ordered-mapped (m .name) (inside (m .description) s) (reading (m .description) s)
+  read-own s = ap (λ (e : Entry). ordered (testsOf e s) (e .holds s)) found ∙ ordered-mapped (m .name) (inside (m .description) s) (reading (m .description) s .tests)
 
 -- what the test of the whole list tells of a message: its entry is found, its type is a u16, its rows take some bytes
 abbrev FoundIn : List Entry → Described → Type 0
@@ -133,8 +133,8 @@ pub obs-read : Typed (first .kind) (λ r. M.Obs r) readObs
 unfolding entryFor readObs
 obs-read s =
     ap₂ (λ (t : Bool) (o : Obs). ordered ((fitting first (length s), 22) ∷ (t, 23) ∷ []) (M.Obs o)) (obs-allowed s) (sym (obs-shown s))
-    ∙ ordered-mapped (λ r. M.Obs r) (obsIn s) (readingObs first s)
+    ∙ ordered-mapped (λ r. M.Obs r) (obsIn s) (readingObs s .tests)
 
 pub log-read : Typed (system.log .kind) (λ r. M.Log r) readLog
 unfolding entryFor readLog
-log-read s = ordered-mapped (λ r. M.Log r) (system.shown (inside system.log s)) (reading system.log s)
+log-read s = ordered-mapped (λ r. M.Log r) (system.shown (inside system.log s)) (reading system.log s .tests)

@@ -103,5 +103,5 @@ all-measured : (s : List ℕ) (ms : List Described) → OfEach (Measured s) (map
 all-measured s [] = tt
 all-measured s (m ∷ ms) = (λ h. h .1 .0, all-measured s ms)
 
-pub measured : (kind : ℕ) (s : List ℕ) → AllPass (readingAny kind s) → lengths (layoutFor kind) (length s) ≡ true
+pub measured : (kind : ℕ) (s : List ℕ) → AllPass (readingAny kind s .tests) → lengths (layoutFor kind) (length s) ≡ true
 measured kind s = of-any (Measured s) table (all-measured s messages) kind (λ h. absurd (false≢true (h .0)))

@@ -7,7 +7,7 @@ use mathlib.Core.List.{List, [], _∷_, map}
 use lib.Dec.{eqb}
 use Rattle.layouts.specs.Layout.{Layout, run}
 use Rattle.layouts.specs.Description.{Description, inside, reading, readAs}
-use Rattle.refusals.specs.Refusals.{refused, given, Answer, Tests, mapped, ordered, zeroOr}
+use Rattle.refusals.specs.Refusals.{refused, given, Answer, Tests, mapped, zeroOr, Call, reply}
 use Rattle.formats.specs.Digits.{shapeOf}
 use Rattle.formats.specs.declared.Shape.{Shape}
 use Rattle.frame_writer.specs.Faithful.{Faithful}
@@ -98,7 +98,7 @@ pub record Entry : Type 0 where
 
 -- all of it as the description says
 abbrev pub entryOf : Described → Entry
-entryOf m = let d = m .description in record { kind = d .kind; known = true; layout = d .layout; tests = reading d; holds = λ s. m .name (inside d s) }
+entryOf m = let d = m .description in record { kind = d .kind; known = true; layout = d .layout; tests = λ s. reading d s .tests; holds = λ s. m .name (inside d s) }
 
 -- of a type without a reading: 21, so what it holds is never given
 abbrev pub noEntry : ℕ → Entry
@@ -128,14 +128,17 @@ knownFor kind = entryFor table kind .known
 abbrev pub testsOf : Entry → List ℕ → Tests
 testsOf e s = (e .known, 21) ∷ e .tests s
 
-abbrev pub readingAny : ℕ → List ℕ → Tests
-readingAny kind s = testsOf (entryFor table kind) s
+abbrev pub readingIn : List Entry → ℕ → List ℕ → Call Message
+readingIn es kind s = record { tests = testsOf (entryFor es kind) s; value = entryFor es kind .holds s }
 
 abbrev pub readIn : List Entry → ℕ → List ℕ → Answer Message
-readIn es kind s = ordered (testsOf (entryFor es kind) s) (entryFor es kind .holds s)
+readIn es kind s = reply (readingIn es kind s)
+
+abbrev pub readingAny : ℕ → List ℕ → Call Message
+readingAny = readingIn table
 
 abbrev pub readFor : ℕ → List ℕ → Answer Message
-readFor kind s = ordered (readingAny kind s) (entryFor table kind .holds s)
+readFor kind s = reply (readingAny kind s)
 
 -- 0 for a record, and a refusal's number
 abbrev pub answerFor : ℕ → List ℕ → ℕ

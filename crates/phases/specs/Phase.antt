@@ -4,7 +4,7 @@ use mathlib.Core.Bool.{Bool, _&&_}
 use mathlib.Core.List.{[], _∷_}
 use lib.IntN.{ℤ, pos, negsuc, negℤ, _+ℤ_, _*ℤ_}
 use lib.Signed.{leZ}
-use Rattle.refusals.specs.Refusals.{refused, given, Answer, Tests, ordered}
+use Rattle.refusals.specs.Refusals.{refused, given, Answer, Call, reply}
 use Rattle.phases.specs.declared.phase.Phase.{Phase}
 use Rattle.phases.specs.declared.phase.PhaseParts.{PhaseParts}
 use Rattle.phases.specs.declared.phase.PhaseParts.the-variants.{Parts, Refused}
@@ -22,11 +22,11 @@ partsOf (pos n) = record { «l_i» = pos (n / 256); «l_f» = n % 256 }
 partsOf (negsuc n) = record { «l_i» = negsuc (n / 256); «l_f» = 255 - n % 256 }
 
 -- 33 outside the range
-abbrev pub phaseRange : ℤ → Tests
-phaseRange z = (inPhase z, 33) ∷ []
+abbrev pub readingPhase : ℤ → Call Phase
+readingPhase z = record { tests = (inPhase z, 33) ∷ []; value = partsOf z }
 
 unfoldable pub readPhase : ℤ → Answer Phase
-readPhase z = ordered (phaseRange z) (partsOf z)
+readPhase z = reply (readingPhase z)
 
 abbrev pub partsAnswer : PhaseParts → Answer Phase
 partsAnswer (Parts p) = given p

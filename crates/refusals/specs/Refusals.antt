@@ -26,6 +26,14 @@ abbrev pub ordered : {A : Type 0} → Tests → A → Answer A
 ordered [] x = given x
 ordered (t ∷ ts) x = cond (t .0) (ordered ts x) (refused (t .1))
 
+-- a call: its tests in order, and what it gives where they all pass. Its answer is read off it, and of that its number and what it leaves
+pub record Call (A : Type 0) : Type 0 where
+  pub tests : Tests
+  pub value : A
+
+abbrev pub reply : {A : Type 0} → Call A → Answer A
+reply c = ordered (c .tests) (c .value)
+
 -- what a call leaves of what it is lent: a refusal leaves it as it was
 abbrev pub leaves : {A B : Type 0} → (A → B → B) → Answer A → B → B
 leaves put (given x) lent = put x lent

@@ -28,17 +28,17 @@ unfolding readRow readAs
 reads-typed m own s room enough =
     let d = m .description in
     ap (λ (e : Entry). ordered (testsOf e s ++ roomFor (numberCount (e .layout)) room) (wideBody (e .layout) (decodeBody (e .layout) s))) (own .0)
-    ∙ ap (λ (t : Bool). ordered (reading d s ++ (t, 32) ∷ []) (wideBody (d .layout) (decodeBody (d .layout) s))) (le-leb (numberCount (d .layout)) room enough)
-    ∙ ap (λ v. ordered (reading d s ++ (true, 32) ∷ []) (wideBody (d .layout) v)) (sym (d .row-make (decodeBody (d .layout) s)))
-    ∙ last-passes (reading d s) 32 (inside d s) (λ r. wideBody (d .layout) (d .row r))
+    ∙ ap (λ (t : Bool). ordered (reading d s .tests ++ (t, 32) ∷ []) (wideBody (d .layout) (decodeBody (d .layout) s))) (le-leb (numberCount (d .layout)) room enough)
+    ∙ ap (λ v. ordered (reading d s .tests ++ (true, 32) ∷ []) (wideBody (d .layout) v)) (sym (d .row-make (decodeBody (d .layout) s)))
+    ∙ last-passes (reading d s .tests) 32 (inside d s) (λ r. wideBody (d .layout) (d .row r))
 
 -- and so is an observation
 one : (kind : ℕ) (s : List ℕ) (i room : ℕ) → length (first .row .fields) ≤ room
     → readOne kind s i room ≡ mapped (λ o. wideRow (first .row .fields) (first .row .row o)) (readEntryOf kind s i)
 unfolding readOne readEntryOf
 one kind s i room enough =
-    ap (λ (t : Bool). ordered (oneOfFrame kind s i ++ (t, 32) ∷ []) (observationNumbers s i)) (le-leb (length (first .row .fields)) room enough)
-    ∙ last-passes (oneOfFrame kind s i) 32 (entryAt first s i) (λ o. wideRow (first .row .fields) (first .row .row o))
+    ap (λ (t : Bool). ordered (oneOfFrame kind s i .tests ++ (t, 32) ∷ []) (observationNumbers s i)) (le-leb (length (first .row .fields)) room enough)
+    ∙ last-passes (oneOfFrame kind s i .tests) 32 (entryAt first s i) (λ o. wideRow (first .row .fields) (first .row .row o))
 
 pub all-read : AllRead
 all-read = record { each = all-of {P = Found} {Q = ReadsTyped} reads-typed messages found; one = one }

@@ -46,12 +46,12 @@ module _ (kind : ℕ) (s : List ℕ) (i : ℕ) (row : List ℕ) where
 
   pub one-refused : {n : ℕ} → refused n ≡ readEntryOf kind s i → Done n row
   unfolding readOne readEntryOf
-  one-refused p = stands (oneOfFrame kind s i) (entryAt first s i) (observationNumbers s i) (length (first .row .fields)) row p
+  one-refused p = stands (oneOfFrame kind s i .tests) (entryAt first s i) (observationNumbers s i) (length (first .row .fields)) row p
 
   module _ {o : Observation} (p : given o ≡ readEntryOf kind s i) {shape : Shape} (shown : shape ≡ shapeFor kind) where
-    passed : AllPass (oneOfFrame kind s i)
+    passed : AllPass (oneOfFrame kind s i .tests)
     unfolding readEntryOf
-    passed = exactly-all (entryAt first s i) (oneOfFrame kind s i) o .0 (sym p) .0
+    passed = exactly-all (entryAt first s i) (oneOfFrame kind s i .tests) o .0 (sym p) .0
 
     of-obs : shape ≡ shapeFor (first .kind)
     of-obs = shown ∙ ap shapeFor (obs-kind kind (passed .0))
@@ -71,7 +71,7 @@ module _ (kind : ℕ) (s : List ℕ) (i : ℕ) (row : List ℕ) where
     module _ {m : ℕ} (counted : m ≡ length (formatsBy (shape .each))) where
       pub one-too-short : length row < m → Done 32 row
       unfolding readOne readEntryOf
-      one-too-short h = too-short (oneOfFrame kind s i) (entryAt first s i) (observationNumbers s i) (length (first .row .fields)) row p (omega (arith, counted, many))
+      one-too-short h = too-short (oneOfFrame kind s i .tests) (entryAt first s i) (observationNumbers s i) (length (first .row .fields)) row p (omega (arith, counted, many))
 
       module _ (h : m ≤ length row) where
         pub one-room : length (formatsBy (shape .each)) ≤ length row
@@ -80,5 +80,5 @@ module _ (kind : ℕ) (s : List ℕ) (i : ℕ) (row : List ℕ) where
         pub one-filled : {t : List ℕ} → t ≡ beginning (numbersAt (formatsBy (shape .each)) s (sizeOf (formatsBy (shape .head)) + i * sizeOf (formatsBy (shape .each)))) row → Done 0 t
         unfolding readOne readEntryOf
         one-filled e =
-            roomy (oneOfFrame kind s i) (entryAt first s i) (observationNumbers s i) (length (first .row .fields)) row p (omega (arith, counted, many))
+            roomy (oneOfFrame kind s i .tests) (entryAt first s i) (observationNumbers s i) (length (first .row .fields)) row p (omega (arith, counted, many))
             (e ∙ ap (λ (ns : List ℕ). beginning ns row) (ap₂ (λ (ks : List Format) (at : ℕ). numbersAt ks s at) each start ∙ numbers-wide (first .row .fields) s (startOf first i)))

@@ -23,14 +23,14 @@ module _ (kind : ℕ) (s row : List ℕ) where
   module _ {n : ℕ} (answered : n ≡ answerFor kind s) where
     pub row-refused : (n ≡ 0 → ⊥) → Done n row
     unfolding readRow
-    row-refused some = stands (readingAny kind s) (entryFor table kind .holds s) (numbersFor kind s) (numberCount (layoutFor kind)) row (refuses kind s answered some)
+    row-refused some = stands (readingAny kind s .tests) (entryFor table kind .holds s) (numbersFor kind s) (numberCount (layoutFor kind)) row (refuses kind s answered some)
 
     module _ (none : n ≡ 0) {shape : Shape} (shown : shape ≡ shapeFor kind) where
       passed : given (entryFor table kind .holds s) ≡ readFor kind s
       passed = gives kind s answered none refl refl
 
       pub row-whole : sizeOf (formatsBy (shape .head)) + sizeOf (formatsBy (shape .more)) ≤ length s
-      row-whole = rw shown (whole kind s (exactly-all (entryFor table kind .holds s) (readingAny kind s) (entryFor table kind .holds s) .0 (sym passed) .0))
+      row-whole = rw shown (whole kind s (exactly-all (entryFor table kind .holds s) (readingAny kind s .tests) (entryFor table kind .holds s) .0 (sym passed) .0))
 
       module _ {m : ℕ} (counted : m ≡ length (rowIn shape [])) where
         many : (t : List ℕ) → length (rowIn shape t) ≡ numberCount (layoutFor kind)
@@ -38,7 +38,7 @@ module _ (kind : ℕ) (s row : List ℕ) where
 
         pub row-too-short : length row < m → Done 32 row
         unfolding readRow
-        row-too-short h = too-short (readingAny kind s) (entryFor table kind .holds s) (numbersFor kind s) (numberCount (layoutFor kind)) row passed (omega (arith, counted, many []))
+        row-too-short h = too-short (readingAny kind s .tests) (entryFor table kind .holds s) (numbersFor kind s) (numberCount (layoutFor kind)) row passed (omega (arith, counted, many []))
 
         module _ (h : m ≤ length row) where
           pub row-room : length (rowIn shape s) ≤ length row
@@ -47,5 +47,5 @@ module _ (kind : ℕ) (s row : List ℕ) where
           pub row-filled : {t : List ℕ} → t ≡ beginning (rowIn shape s) row → Done 0 t
           unfolding readRow
           row-filled e =
-              roomy (readingAny kind s) (entryFor table kind .holds s) (numbersFor kind s) (numberCount (layoutFor kind)) row passed (omega (arith, counted, many []))
+              roomy (readingAny kind s .tests) (entryFor table kind .holds s) (numbersFor kind s) (numberCount (layoutFor kind)) row passed (omega (arith, counted, many []))
               (e ∙ ap (λ (ns : List ℕ). beginning ns row) (ap (λ (shape : Shape). rowIn shape s) shown ∙ as-laid kind s))

@@ -97,7 +97,7 @@ module _ (kind : ℕ) (s : List ℕ) where
   pub as-many : length (rowIn (shapeFor kind) s) ≡ numberCount (layoutFor kind)
   as-many = ap length as-laid ∙ wide-body (layoutFor kind) (decodeBody (layoutFor kind) s)
 
-  pub whole : AllPass (readingAny kind s) → sizeOf (formatsBy (shapeFor kind .head)) + sizeOf (formatsBy (shapeFor kind .more)) ≤ length s
+  pub whole : AllPass (readingAny kind s .tests) → sizeOf (formatsBy (shapeFor kind .head)) + sizeOf (formatsBy (shapeFor kind .more)) ≤ length s
   whole h =
       let l = layoutFor kind in
       let sum = size-joined (formatsBy (shapeFor kind .more)) (formatsBy (shapeFor kind .head)) in

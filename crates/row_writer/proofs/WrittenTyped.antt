@@ -9,7 +9,7 @@ use lib.Seq.{take-all}
 use borrow.Author.Tests.{eq-eqb}
 use Rattle.layouts.specs.Layout.{Layout, Body, allowedBody, fewEnough, bodySize, encodeBody}
 use Rattle.layouts.specs.Description.{Description}
-use Rattle.refusals.specs.Refusals.{given, Answer, Tests, ordered, leaves}
+use Rattle.refusals.specs.Refusals.{given, Answer, Tests, ordered, leaves, reply}
 use Rattle.refusals.proofs.Ordered.{exactly-all}
 use Rattle.formats.specs.Wide.{narrowRows, numberCount}
 use Rattle.frames.specs.Frame.{frameBytes}
@@ -31,7 +31,7 @@ use Rattle.row_writer.proofs.ObsRows.{length-made, length-narrow}
 
 -- what is answered, and left, by an entry of the table
 abbrev answerBy : Entry → List ℕ → ℕ → Answer ℕ
-answerBy e ns room = ordered (writingBy e ns room) (bodySize (e .layout) (bodyOf (e .layout) ns) + 8)
+answerBy e ns room = reply (writingBy e ns room)
 
 module _ {R : Type 0} (d : Description R) (ns : List ℕ) (only : alone (d .layout) ≡ true) (room : ℕ) where
   abbrev l : Layout
@@ -85,8 +85,8 @@ module _ (sender : ℕ) (hs ns buf : List ℕ) {n : ℕ} (g : writeObsRow (first
   unfolding writeObsRow obsWriteAnswer
   as-obs =
       let size = startOf first k + 8 in
-      let pass = exactly-all size (writingObsRow (first .kind) hs ns (length buf)) n .0 g in
-      exactly-all size (writingObs first k (length buf)) n .1 (pass .0 .1 .1 .1, pass .1)
+      let pass = exactly-all size (writingObsRow (first .kind) hs ns (length buf) .tests) n .0 g in
+      exactly-all size (writingObs first k (length buf) .tests) n .1 (pass .0 .1 .1 .1, pass .1)
 
   obs-answer : writeAnswer (obs first) (observedOf hs ns) (length buf) ≡ given n
   obs-answer =

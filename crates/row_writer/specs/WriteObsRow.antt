@@ -4,7 +4,7 @@ use mathlib.Core.Bool.{_&&_}
 use mathlib.Core.List.{List, _∷_}
 use lib.Dec.{eqb}
 use lib.ListN.{length}
-use Rattle.refusals.specs.Refusals.{Answer, Tests, ordered, leaves}
+use Rattle.refusals.specs.Refusals.{Answer, leaves, Call, reply}
 use Rattle.layouts.specs.Description.{madeOf}
 use Rattle.layouts.specs.Layout.{encodeBody}
 use Rattle.formats.specs.Wide.{narrowRow, fitsRow, narrowRows, fitsRows}
@@ -27,15 +27,19 @@ observedOf hs ns =
     }
 
 -- 21 for another type, 22 for another number of fields or a part of an observation, 23 for a number that its field cannot hold, then as every OBS
-abbrev pub writingObsRow : ℕ → List ℕ → List ℕ → ℕ → Tests
+abbrev pub writingObsRow : ℕ → List ℕ → List ℕ → ℕ → Call ℕ
 writingObsRow kind hs ns room =
-    (isObs kind, 21) ∷
-    (eqb (length hs) (length (head .fields)) && eqb (length ns % length (observation .fields)) 0, 22) ∷
-    (fitsRow (head .fields) hs 0 && fitsRows (observation .fields) (rowsIn (length ns)) ns 0, 23) ∷
-    writingObs first (rowsIn (length ns)) room
+    record {
+      tests =
+          (isObs kind, 21) ∷
+          (eqb (length hs) (length (head .fields)) && eqb (length ns % length (observation .fields)) 0, 22) ∷
+          (fitsRow (head .fields) hs 0 && fitsRows (observation .fields) (rowsIn (length ns)) ns 0, 23) ∷
+          writingObs first (rowsIn (length ns)) room .tests;
+      value = startOf first (rowsIn (length ns)) + 8;
+    }
 
 unfoldable pub writeObsRow : ℕ → List ℕ → List ℕ → ℕ → Answer ℕ
-writeObsRow kind hs ns room = ordered (writingObsRow kind hs ns room) (startOf first (rowsIn (length ns)) + 8)
+writeObsRow kind hs ns room = reply (writingObsRow kind hs ns room)
 
 -- the buffer after it
 unfoldable pub obsRowWritten : ℕ → ℕ → List ℕ → List ℕ → List ℕ → List ℕ

@@ -4,7 +4,7 @@ use mathlib.Core.Bool.{Bool, true, false, _&&_}
 use mathlib.Core.List.{List, [], _∷_}
 use lib.Dec.{eqb}
 use lib.ListN.{length}
-use Rattle.refusals.specs.Refusals.{Answer, Tests, ordered, leaves}
+use Rattle.refusals.specs.Refusals.{Answer, leaves, Call, reply}
 use Rattle.layouts.specs.Layout.{Layout, run, then, bytes, text, rows, Body, allowedBody, bodySize, encodeBody}
 use Rattle.formats.specs.Wide.{narrowRow, fitsRow, numberCount}
 use Rattle.formats.specs.Digits.{frontOf}
@@ -30,19 +30,23 @@ bodyOf (rows fs most) ns = []
 
 -- 21 for a type that has no reading or has a tail, 22 for another number of fields, 23 for a number that its field cannot hold or that is outside
 -- its range, then 31 and 32 as every frame
-abbrev pub writingBy : Entry → List ℕ → ℕ → Tests
+abbrev pub writingBy : Entry → List ℕ → ℕ → Call ℕ
 writingBy e ns room =
     let l = e .layout in
-    (e .known && alone l, 21) ∷
-    (eqb (length ns) (numberCount l), 22) ∷
-    (fitsRow (frontOf l) ns 0 && allowedBody l (bodyOf l ns), 23) ∷
-    writingFrame (bodySize l (bodyOf l ns)) room
+    record {
+      tests =
+          (e .known && alone l, 21) ∷
+          (eqb (length ns) (numberCount l), 22) ∷
+          (fitsRow (frontOf l) ns 0 && allowedBody l (bodyOf l ns), 23) ∷
+          writingFrame (bodySize l (bodyOf l ns)) room;
+      value = bodySize l (bodyOf l ns) + 8;
+    }
 
-abbrev pub writingRow : ℕ → List ℕ → ℕ → Tests
+abbrev pub writingRow : ℕ → List ℕ → ℕ → Call ℕ
 writingRow kind = writingBy (entryFor table kind)
 
 unfoldable pub writeRow : ℕ → List ℕ → ℕ → Answer ℕ
-writeRow kind ns room = ordered (writingRow kind ns room) (bodySize (layoutFor kind) (bodyOf (layoutFor kind) ns) + 8)
+writeRow kind ns room = reply (writingRow kind ns room)
 
 -- the buffer after it: the frame and the bytes after it as they were, or all as it was
 unfoldable pub rowWritten : ℕ → ℕ → List ℕ → List ℕ → List ℕ

@@ -30,7 +30,7 @@ module _ (s : List ℕ) where
   -- a listing was given
   given-when : (room n : ℕ) → listAnswer s room ≡ given n → (length s ≤ mostListed) × (n ≡ length (textOf s))
   unfolding listAnswer
-  given-when room n g = let all = exactly-all (length (textOf s)) (listing s room) n .0 g in (leb-true (length s) mostListed (all .0 .0), sym (all .1))
+  given-when room n g = let all = exactly-all (length (textOf s)) (listing s room .tests) n .0 g in (leb-true (length s) mostListed (all .0 .0), sym (all .1))
 
   pub puts-listing : (buf : List ℕ) {n : ℕ} {after : List ℕ} → listAnswer s (length buf) ≡ given n → after ≡ withListing s buf → Put s n after
   puts-listing buf {n} {after} g e =
@@ -44,12 +44,12 @@ module _ (s : List ℕ) where
   -- a refusal is that of a longer capture, since the text has room
   refused-when : Bytes s → {room n : ℕ} → longestText ≤ room → listAnswer s room ≡ refused n → mostListed < length s
   unfolding listAnswer
-  refused-when bytes {room} {n} h r = by (exactly-first (length (textOf s)) (listing s room) n .0 r)
+  refused-when bytes {room} {n} h r = by (exactly-first (length (textOf s)) (listing s room .tests) n .0 r)
     where
       fits : leb (length s) mostListed ≡ true → leb (length (textOf s)) room ≡ true
       fits e = let short = leb-true (length s) mostListed e in le-leb (length (textOf s)) room (omega (arith, text-size s bytes short, short, h))
 
-      by : FirstFails (listing s room) n → mostListed < length s
+      by : FirstFails (listing s room .tests) n → mostListed < length s
       by (inl f) = leb-false (length s) mostListed (f .0)
       by (inr (e, inl f)) = absurd (true≢false (sym (fits e) ∙ f .0))
       by (inr (e, inr f)) = absurd (f .1)

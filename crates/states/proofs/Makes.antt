@@ -21,7 +21,7 @@ use Rattle.states.specs.Feed.{madeIn, madeAnswer, madeStored}
 use Rattle.places.proofs.States.{Held, Small, state-stored, length-collator}
 
 -- an accepted roster passes its tests
-passes : (roster : List ℕ) → made roster .number ≡ 0 → ordered (rostering roster) (fresh roster) ≡ given (fresh roster)
+passes : (roster : List ℕ) → made roster .number ≡ 0 → ordered (rostering roster .tests) (fresh roster) ≡ given (fresh roster)
 unfolding made
 passes roster = by (leb 1 (length roster) && leb (length roster) 8) (not (repeats roster))
   where
@@ -40,18 +40,18 @@ module _ (roster s : List ℕ) where
   came e = (ap zeroOr e, ap (λ (a : Answer Collator). leaves collatorStored a s) e)
 
   -- the roster decides, and then the room
-  steps : {a : Answer Collator} → ordered (rostering roster) (fresh roster) ≡ a → andThen a (ordered (roomFor stateSize (length s)) (fresh roster)) ≡ madeIn roster (length s)
+  steps : {a : Answer Collator} → ordered (rostering roster .tests) (fresh roster) ≡ a → andThen a (ordered (roomFor stateSize (length s)) (fresh roster)) ≡ madeIn roster (length s)
   unfolding madeIn
   steps e =
       ap (λ (a : Answer Collator). andThen a (ordered (roomFor stateSize (length s)) (fresh roster))) (sym e)
-      ∙ sym (ordered-joined (fresh roster) (fresh roster) (roomFor stateSize (length s)) (rostering roster))
+      ∙ sym (ordered-joined (fresh roster) (fresh roster) (roomFor stateSize (length s)) (rostering roster .tests))
 
   module _ {m : Made} (e : m ≡ made roster) where
     pub made-refused : (m .number ≡ 0 → ⊥) → Out (m .number) s
     unfolding made
-    made-refused h = by (ordered (rostering roster) (fresh roster)) refl
+    made-refused h = by (ordered (rostering roster .tests) (fresh roster)) refl
       where
-        by : (a : Answer Collator) → ordered (rostering roster) (fresh roster) ≡ a → Out (m .number) s
+        by : (a : Answer Collator) → ordered (rostering roster .tests) (fresh roster) ≡ a → Out (m .number) s
         by (given c) q = absurd (h (ap (λ (m : Made). m .number) (e ∙ ap asMade q)))
         by (refused n) q = let out = came (steps q) in (ap (λ (m : Made). m .number) (e ∙ ap asMade q) ∙ out .0, out .1)
 

@@ -4,7 +4,7 @@ use mathlib.Core.Bool.{cond}
 use mathlib.Core.List.{List, []}
 use lib.Dec.{leb}
 use lib.ListN.{length}
-use Rattle.refusals.specs.Refusals.{Answer, ordered, leaves, zeroOr, roomFor}
+use Rattle.refusals.specs.Refusals.{Answer, leaves, zeroOr, roomFor, Call, reply}
 use Rattle.layouts.specs.Field.{rowStored}
 use Rattle.observation.specs.Edition.{isObs}
 use Rattle.epochs.specs.Search.{seatOf}
@@ -16,8 +16,11 @@ use Rattle.places.specs.State.{stateSize, seatFields, seatAt, sendersIn, stateI
 
 -- ---- a collator that lists nobody: 32
 
+abbrev pub growing : ℕ → Call Collator
+growing room = record { tests = roomFor stateSize room; value = made [] .collator }
+
 unfoldable pub growingIn : ℕ → Answer Collator
-growingIn room = ordered (roomFor stateSize room) (made [] .collator)
+growingIn room = reply (growing room)
 
 abbrev pub growingAnswer : ℕ → ℕ
 growingAnswer room = zeroOr (growingIn room)
@@ -45,8 +48,11 @@ unfolding isObs
 enlistedIn s kind sender = cond (isObs kind) (joinedIn s sender) s
 
 -- 32
+abbrev pub enlisting : List ℕ → ℕ → ℕ → Call (List ℕ)
+enlisting s kind sender = record { tests = roomFor stateSize (length s); value = enlistedIn s kind sender }
+
 unfoldable pub enlistIn : List ℕ → ℕ → ℕ → Answer (List ℕ)
-enlistIn s kind sender = ordered (roomFor stateSize (length s)) (enlistedIn s kind sender)
+enlistIn s kind sender = reply (enlisting s kind sender)
 
 abbrev pub enlistAnswer : List ℕ → ℕ → ℕ → ℕ
 enlistAnswer s kind sender = zeroOr (enlistIn s kind sender)

@@ -2,7 +2,7 @@
 use Prim.Native.Nat.{ℕ}
 use mathlib.Core.List.{List, [], _∷_, _++_}
 use lib.ListN.{length}
-use Rattle.refusals.specs.Refusals.{Answer, Tests, ordered, leaves, asNumber, zeroOr, roomFor}
+use Rattle.refusals.specs.Refusals.{Answer, leaves, asNumber, zeroOr, roomFor, Call, reply}
 use Rattle.wire.specs.Value.{u8, u16, u32}
 use Rattle.layouts.specs.Field.{Field, any, Row, size}
 use Rattle.frames.specs.Frame.{Content}
@@ -20,11 +20,11 @@ use Rattle.places.specs.State.{stateSize, placeIn, placeStored, stateIn, collat
 -- ---- made
 
 -- 41, 42, then 32
-abbrev pub making : List ℕ → ℕ → Tests
-making roster room = rostering roster ++ roomFor stateSize room
+abbrev pub making : List ℕ → ℕ → Call Collator
+making roster room = record { tests = rostering roster .tests ++ roomFor stateSize room; value = fresh roster }
 
 unfoldable pub madeIn : List ℕ → ℕ → Answer Collator
-madeIn roster room = ordered (making roster room) (fresh roster)
+madeIn roster room = reply (making roster room)
 
 abbrev pub madeAnswer : List ℕ → ℕ → ℕ
 madeAnswer roster room = zeroOr (madeIn roster room)
@@ -57,13 +57,14 @@ endedStored sender p (Whole total) buf = atFront reportFields (reportRow (report
 
 -- ---- fed
 
--- 32 where the state or the report has no room, then 46, 22, 43, 44, 45
-abbrev pub feedingIn : List ℕ → ℕ → Content → Tests
-feedingIn state room x = roomFor stateSize (length state) ++ roomFor reportSize room ++ feeding (rosterOf (stateIn state)) x
+-- 32 where the state or the report has no room, then 46, 22, 43, 44, 45; what passes them is a packet for its sender's place
+abbrev pub feedingIn : List ℕ → ℕ → Content → Call (ℕ × Packet)
+feedingIn state room x =
+    let roster = rosterOf (stateIn state) in
+    record { tests = roomFor stateSize (length state) ++ roomFor reportSize room ++ feeding roster x .tests; value = ownPlace roster x }
 
--- what passes them is a packet for its sender's place
 unfoldable pub forPlaceIn : List ℕ → ℕ → Content → Answer (ℕ × Packet)
-forPlaceIn state room x = ordered (feedingIn state room x) (ownPlace (rosterOf (stateIn state)) x)
+forPlaceIn state room x = reply (feedingIn state room x)
 
 -- the step of that place
 abbrev pub stepIn : List ℕ → ℕ → Packet → Stepped

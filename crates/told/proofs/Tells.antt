@@ -41,7 +41,7 @@ first-from k (t ∷ ts) h (inr f) = first-from k ts (h .1) (f .1)
 pub refusal-from : (roster : List ℕ) (x : Content) {n : ℕ} → forPlace roster x ≡ refused n → 22 ≤ n
 unfolding forPlace shape numbering
 refusal-from roster x {n} e =
-    first-from 22 (feeding roster x) (omega arith, (omega arith, (omega arith, (omega arith, (omega arith, tt))))) (exactly-first (ownPlace roster x) (feeding roster x) n .0 e)
+    first-from 22 (feeding roster x .tests) (omega arith, (omega arith, (omega arith, (omega arith, (omega arith, tt))))) (exactly-first (ownPlace roster x) (feeding roster x .tests) n .0 e)
 
 refused-from : (c : Collator) (x : Content) {n : ℕ} → fedFrame c x .happened ≡ H.Refused n → 2 ≤ n
 unfolding fedFrame
