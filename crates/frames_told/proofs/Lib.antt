@@ -1,0 +1,9 @@
+pub mod Tallies
+pub mod Befores
+pub mod Comes
+pub mod OnTheWay
+pub mod RowCounts
+pub mod Rooms
+pub mod NextTells
+pub mod CallsTell
+pub mod RowAfterRow

@@ -1,0 +1,11 @@
+pub mod StoredRows
+pub mod BackAgain
+pub mod ObsRead
+pub mod OneRead
+pub mod ObsTaken
+pub mod ObsBack
+pub mod ObsProof
+pub mod Texts
+pub mod LogRead
+pub mod LogBack
+pub mod LogProof

@@ -1,0 +1,4 @@
+pub mod RowsStored
+pub mod RowsBack
+pub mod ObsRows
+pub mod LogRows
