@@ -13,4 +13,7 @@ pub mod AllHanded
 pub mod Room
 pub mod Shuffled
 pub mod Between
-pub mod BackAgain
+pub mod FlagTables
+pub mod Packets
+pub mod LinesShown
+pub mod Ordering

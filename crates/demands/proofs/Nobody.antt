@@ -20,7 +20,7 @@ use Rattle.epochs.proofs.Feeding.{fed-refused}
 
 lists-nobody : (roster : List ℕ) → (made roster .number ≡ 0 → ⊥) → made roster .collator ≡ fresh []
 unfolding made
-lists-nobody roster refuses = by (ordered (rostering roster) (fresh roster)) refl
+lists-nobody roster refuses = by (ordered (rostering roster .tests) (fresh roster)) refl
   where
     by : (a : Answer Collator) → made roster ≡ asMade a → made roster .collator ≡ fresh []
     by (given c) e = absurd (refuses (ap (λ (m : Made). m .number) e))

@@ -1,61 +1,47 @@
--- Demand 1 holds: each call is defined by its list, and the rest is citations.
-use mathlib.Core.Path.{refl, ap}
-use Prim.Native.Nat.{ℕ}
+-- Demand 1 holds: once for every call, since what it hands back and what it leaves are read off its answer.
+use mathlib.Core.Path.{_≡_, refl, ap}
+use mathlib.Core.Logic.{_↔_}
+use Prim.Native.Nat.{ℕ, _≤_, _<_}
+use native.Mathlib.Omega.{arith}
 use denote.Ref.{now}
-use Rattle.layouts.specs.Description.{readAs}
 use Rattle.wire.proofs.Stored.{bytes-nowhere}
+use Rattle.refusals.specs.Refusals.{refused, given, Answer, Call, reply, leaves, asNumber, FirstFails}
 use Rattle.refusals.proofs.Ordered.{exactly-first, exactly-all}
-use Rattle.frame_writer.specs.Writer.{planned, withFrame}
-use Rattle.frame_writer.specs.Faithful.{writeAnswer, writtenAs}
-use Rattle.observation.specs.Obs.{readEntry, readEntryOf, readObs}
-use Rattle.obs_writer.specs.ObsWriter.{obsWriteAnswer, obsWritten}
-use Rattle.phases.specs.Phase.{readPhase}
-use Rattle.logs.specs.Log.{readLog}
 use Rattle.obs_reader.specs.declared.ObsReader.{ObsReader}
 use Rattle.obs_reader.proofs.OneQuestion.{stays}
-use Rattle.epochs.specs.Collator.{forPlace, fedFrame, made}
 use Rattle.epochs.proofs.Feeding.{refused-keeps}
 use Rattle.captures.proofs.Captures.{collated-refused}
-use Rattle.listing.specs.Listing.{listAnswer}
-use Rattle.demands.specs.Demand1.{RefusedByNumber, WritesNothing, MovesNoState, Demand1}
+use Rattle.demands.specs.Demand1.{Demand1}
+use Rattle.demands.proofs.Ordering.{order, linked-order}
 use Rattle.demands.proofs.Nobody.{nobody-listed}
 
-refused-by-number : RefusedByNumber
-unfolding readAs planned writeAnswer readEntry readEntryOf readObs obsWriteAnswer readPhase readLog forPlace fedFrame made listAnswer
-refused-by-number = record {
-  in-order = λ A x ts. (exactly-first x ts, exactly-all x ts);
-  payload = λ kind s. refl;
-  record-payload = λ R d s. refl;
-  obs-payload = λ s. refl;
-  log-payload = λ s. refl;
-  index = λ s i. refl;
-  reader-index = λ kind s i. refl;
-  record-buffer = λ R d r room. refl;
-  obs-buffer = λ k room. refl;
-  bytes-buffer = λ n room. refl;
-  capture = λ s room. refl;
-  phase = λ z. refl;
-  roster = λ roster. refl;
-  frame = λ c x. refl;
-}
+module _ {A : Type 0} (c : Call A) where
+  apart : (number : A → ℕ) → ((x : A) → number x < 11) → (n : ℕ) → 11 ≤ n → (asNumber number (reply c) ≡ n) ↔ FirstFails (c .tests) n
+  apart number small n h = (
+    λ e. exactly-first (c .value) (c .tests) n .0 (by (reply c) e),
+    λ f. ap (asNumber number) (exactly-first (c .value) (c .tests) n .1 f),
+  )
+    where
+      by : (a : Answer A) → asNumber number a ≡ n → a ≡ refused n
+      by (given x) e = absurd (omega (arith, small x, e, h))
+      by (refused m) e = ap refused e
 
-writes-nothing : WritesNothing
-unfolding withFrame writtenAs obsWritten
-writes-nothing = record {
-  refused-record = λ R d sender r buf n e. rw e;
-  refused-obs = λ sender h k entries buf n e. rw e;
-  refused-bytes = λ kind sender payload buf n e. rw e;
-  refused-listing = λ s buf n e. rw e;
-  unfit-bytes = bytes-nowhere;
-}
-
-moves-no-state : MovesNoState
-moves-no-state = record {
-  refused-frame = λ c x n e. refused-keeps c x e;
-  refused-reader = λ r n e. ap {B = ObsReader} (λ (i : ℕ). record { kind = r .kind; payload = r .payload; at = i }) (stays (r .kind) (now (r .payload)) (r .at) e);
-  refused-roster = nobody-listed;
-  refused-capture = λ s roster refuses. collated-refused s roster refl refuses;
-}
+  alone : {B : Type 0} (put : A → B → B) (lent : B) (n : ℕ) → FirstFails (c .tests) n → leaves put (reply c) lent ≡ lent
+  alone put lent n f = ap (λ (a : Answer A). leaves put a lent) (exactly-first (c .value) (c .tests) n .1 f)
 
 pub demand-1 : Demand1
-demand-1 = record { refused-by-number = refused-by-number; writes-nothing = writes-nothing; moves-no-state = moves-no-state }
+demand-1 = record {
+  refused-by-number = record {
+    in-order = λ A c. (exactly-first (c .value) (c .tests), exactly-all (c .value) (c .tests));
+    told-apart = λ A number c. apart c number;
+    order = order;
+    linked-order = linked-order;
+  };
+  writes-nothing = record { left-alone = λ A B put c. alone c put; unfit-bytes = bytes-nowhere };
+  moves-no-state = record {
+    refused-frame = λ c x n e. refused-keeps c x e;
+    refused-reader = λ r n e. ap {B = ObsReader} (λ (i : ℕ). record { kind = r .kind; payload = r .payload; at = i }) (stays (r .kind) (now (r .payload)) (r .at) e);
+    refused-roster = nobody-listed;
+    refused-capture = λ s roster refuses. collated-refused s roster refl refuses;
+  };
+}

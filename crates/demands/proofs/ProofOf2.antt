@@ -1,8 +1,10 @@
 -- Demand 2 holds, all of it by citations.
-use mathlib.Core.Path.{refl, sym, ap, _∙_, subst}
-use mathlib.Core.List.{List, []}
+use mathlib.Core.Path.{refl, sym, ap, ap₂, _∙_, subst}
+use mathlib.Core.List.{List, [], _∷_}
+use Prim.Native.Nat.{ℕ}
+use native.Mathlib.Omega.{arith}
 use lib.ListN.{length, getD}
-use Rattle.frames.specs.Reading.{Tiled}
+use Rattle.frames.specs.Reading.{closedSteps, Tiled, countsOf}
 use Rattle.frames.specs.Decides.{Decides}
 use Rattle.frames.proofs.Steps.{only, decided}
 use Rattle.frames.proofs.Frames.{found-bytes}
@@ -24,9 +26,13 @@ use Rattle.captures.proofs.Captures.{collated-counts}
 use Rattle.text.proofs.Decimals.{decimal-value}
 use Rattle.enlisting.proofs.EightSenders.{first-sent, first-all, first-accepted}
 use Rattle.listing.proofs.EpochLines.{text-lines, text-alone}
-use Rattle.demands.specs.Demand2.{FramesFound, EveryByteCounted, ReadAndWritten, EpochsReported, Listed, Demand2}
+use Rattle.frames_told.specs.Counting.{frameBytesIn, junksIn}
+use Rattle.frames_told.proofs.Tallies.{counts-are-steps}
+use Rattle.demands.specs.Demand2.{shows, FramesFound, EveryByteCounted, ReadAndWritten, EpochsReported, Listed, Demand2}
 use Rattle.demands.proofs.AllHanded.{handed-out}
 use Rattle.demands.proofs.Room.{room-enough}
+use Rattle.demands.proofs.Packets.{well-formed, report-numbers}
+use Rattle.demands.proofs.LinesShown.{shown-line}
 
 frames-found : FramesFound
 frames-found = record {
@@ -40,7 +46,11 @@ frames-found = record {
 }
 
 every-byte-counted : EveryByteCounted
-every-byte-counted = record { every-byte-once = each-once; counts-add-up = adds-up }
+every-byte-counted = record {
+  every-byte-once = each-once;
+  counts-are-steps = counts-are-steps;
+  counts-add-up = λ s. let xs = closedSteps s in omega (arith, adds-up s, counts-are-steps .framed xs, counts-are-steps .junk xs, counts-are-steps .bad xs, counts-are-steps .short xs);
+}
 
 read-and-written : ReadAndWritten
 read-and-written = record {
@@ -51,6 +61,7 @@ read-and-written = record {
   log-read = log-read;
   obs-asked = asked-times;
   obs-walk = whole-walk;
+  phase-of = λ p. refl;
   phase = (phase-parts, parts-phase);
 }
 
@@ -58,6 +69,8 @@ epochs-reported : EpochsReported
 unfolding after
 epochs-reported = record {
   reported-exactly = λ roster ok. epoch-outcome roster (seated roster ok);
+  well-formed = well-formed;
+  report-numbers = report-numbers;
   in-words = in-words;
   one-at-most = λ roster ok xs x d e v w. one-epoch roster (seated roster ok) v w;
   at-most-225 = λ roster ok. epoch-small roster (seated roster ok);
@@ -76,6 +89,13 @@ listing = record {
   roster-taken = λ s. first-accepted (contentsOf s);
   lines = text-lines;
   lines-alone = text-alone;
+  frame-line = λ s f. shown-line 0x46 _;
+  epoch-line = λ e. shown-line 0x45 _;
+  totals-line = λ s.
+      let xs = closedSteps s in
+      shown-line 0x54 _
+      ∙ ap₂ (λ (a b : ℕ). 0x54 ∷ shows (length s ∷ a ∷ b ∷ countsOf xs .bad ∷ countsOf xs .short ∷ [])) (counts-are-steps .framed xs) (counts-are-steps .junk xs)
+      ∙ ap₂ (λ (a b : ℕ). 0x54 ∷ shows (length s ∷ frameBytesIn xs ∷ junksIn xs ∷ a ∷ b ∷ [])) (counts-are-steps .bad xs) (counts-are-steps .short xs);
   decimals = decimal-value;
   room = room-enough;
 }

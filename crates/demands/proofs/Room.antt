@@ -16,7 +16,7 @@ module _ (s buf : List ℕ) (bytes : Bytes s) (short : length s ≤ 65536) (room
   unfolding listAnswer
   answered =
       let fits : length (textOf s) ≤ length buf = omega (arith, text-size s bytes short, room) in
-      exactly-all (length (textOf s)) (listing s (length buf)) (length (textOf s)) .1 ((le-leb (length s) 65536 short, (le-leb (length (textOf s)) (length buf) fits, tt)), refl)
+      exactly-all (length (textOf s)) (listing s (length buf) .tests) (length (textOf s)) .1 ((le-leb (length s) 65536 short, (le-leb (length (textOf s)) (length buf) fits, tt)), refl)
 
   pub room-enough : (listAnswer s (length buf) ≡ given (length (textOf s))) × (withListing s buf ≡ textOf s ++ drop (length (textOf s)) buf)
   room-enough = (answered, rw answered)

@@ -7,7 +7,7 @@ use native.Mathlib.Nat.{add-zero, mod-eq-of-lt}
 use native.Mathlib.Omega.{arith}
 use lib.Dec.{leb}
 use lib.ListN.{length, take, drop, length-append}
-use Rattle.refusals.specs.Refusals.{refused, Answer, ordered, leaves, asNumber}
+use Rattle.refusals.specs.Refusals.{refused, Answer, ordered, leaves, asNumber, roomFor}
 use Rattle.frames.specs.Step.{payloadIn}
 use Rattle.frames.specs.Reading.{sumOf}
 use Rattle.frames.specs.Cursors.{countsIn, plus, nextOf, after}
@@ -17,7 +17,7 @@ use Rattle.frames.specs.declared.cursor.Cursor.{Cursor}
 use Rattle.frames.specs.declared.cursor.Next as Next
 use Rattle.stays.proofs.Staying.{SamePayload, Lasting, lasting}
 use Rattle.lent_rows.specs.Lent.{atFront}
-use Rattle.frame_rows.specs.Found.{foundSize, foundFields, foundValues, startAt, foundIn, numberIn, finding, nextFrom, nextAnswer, nextStored}
+use Rattle.frame_rows.specs.Found.{foundSize, foundFields, foundValues, startAt, foundIn, numberIn, nextFrom, nextAnswer, nextStored}
 use Rattle.frame_rows.specs.declared.reading.FoundRow.{FoundRow}
 use Rattle.demands.specs.RowsStay.{openNext, openRow, Together, RowsStay}
 use Rattle.demands.proofs.CountsAhead.{ahead, aheadIn, next-ahead, Bounded, bounded}
@@ -117,7 +117,7 @@ module _ (s t : List ℕ) (leads : Leads s t) (small : length t < 2 ^ 64) where
 
     same-from : (room : ℕ) → openNext t at ≡ openNext s at → nextFrom t at true room ≡ nextFrom s at true room
     unfolding nextFrom
-    same-from room q = ap (ordered (finding room)) q
+    same-from room q = ap (ordered (roomFor foundSize room)) q
 
     same-row : (buf : List ℕ) → nextAnswer s at true (length buf) ≡ 0 → (nextAnswer t at true (length buf) ≡ 0) × (nextStored t at true buf ≡ nextStored s at true buf)
     same-row buf e =

@@ -4,17 +4,17 @@
 -- once each." Sentence by sentence, and then document 01's section on `sbplist`.
 use mathlib.Core.Path.{_≡_}
 use mathlib.Core.Bool.{Bool, true}
-use mathlib.Core.List.{List, [], _++_, map, flatMap}
+use mathlib.Core.List.{List, [], _∷_, _++_, map, flatMap}
 use mathlib.Core.Logic.{_↔_, _⊎_}
-use Prim.Native.Nat.{ℕ, _+_, _*_, _^_, _≤_, _<_}
-use lib.IntN.{ℤ}
+use Prim.Native.Nat.{ℕ, _+_, _*_, _/_, _%_, _^_, _≤_, _<_}
+use lib.IntN.{ℤ, pos, _+ℤ_, _*ℤ_}
 use lib.ListN.{length, getD, take, drop, replicate}
 use denote.Ref.{now}
-use Rattle.wire.specs.Number.{Bytes}
+use Rattle.wire.specs.Number.{Bytes, numberAt}
 use Rattle.refusals.specs.Refusals.{given}
 use Rattle.frames.specs.Frame.{frameBytes, Content, Sendable, AllSendable, frameOf, stream}
 use Rattle.frames.specs.Step.{stepAt, payloadIn}
-use Rattle.frames.specs.Reading.{Positioned, closedSteps, openSteps, Tiled, holding, beforeShort, framesOf, countsOf, sumOf}
+use Rattle.frames.specs.Reading.{Positioned, closedSteps, openSteps, Tiled, holding, beforeShort, framesOf}
 use Rattle.frame_writer.specs.Writer.{asRead, foundFrom}
 use Rattle.frames.specs.Decides.{Decides}
 use Rattle.frames.specs.declared.step.Frame.{Frame}
@@ -30,13 +30,13 @@ use Rattle.logs.specs.Log.{readLog}
 use Rattle.logs.specs.LogFaithful.{LogFaithful}
 use Rattle.obs_reader.specs.Walk.{Walk, standing, askedTimes, observationsIn, pastThem}
 use Rattle.obs_reader.specs.declared.ObsReader.{ObsReader}
-use Rattle.payloads.specs.Payloads.{messages, Typed, Promised, AllOf}
+use Rattle.payloads.specs.Payloads.{answerFor, messages, Typed, Promised, AllOf}
 use Rattle.payloads.specs.declared.Message.the-variants as M
 use Rattle.packets.specs.declared.packet.Packet.{Packet}
 use Rattle.runs.specs.InWords.{EpochEnds, InWords}
 use Rattle.epochs.specs.Search.{names}
 use Rattle.epochs.specs.Collator.{fedFrame, made}
-use Rattle.epochs.specs.Epoch.{after, reports, reportsOf, EndsEpoch, Epochs, contentsOf}
+use Rattle.epochs.specs.Epoch.{ownPacket, after, reports, reportsOf, EndsEpoch, Epochs, contentsOf}
 use Rattle.captures.specs.Capture.{collated}
 use Rattle.epochs.specs.declared.collating.Report.{Report}
 use Rattle.epochs.specs.declared.collating.Happened.the-variants as H
@@ -44,6 +44,8 @@ use Rattle.text.specs.Decimal.{decimal, valueFrom}
 use Rattle.enlisting.specs.FirstEight.{different, obsSendersIn, rosterIn}
 use Rattle.listing.specs.Listing.{frameLine, totalsLine, textOf, listAnswer, withListing}
 use Rattle.listing.specs.Words.{Lines}
+use Rattle.lines.specs.Lines.{epochLine}
+use Rattle.frames_told.specs.Counting.{frameBytesIn, junksIn, badsIn, shortsIn, CountsAreSteps}
 use Rattle.demands.specs.Handed.{Handed}
 
 -- "The frames found are exactly those that specification 1.1 and our written resume rule give"
@@ -68,7 +70,9 @@ pub record FramesFound : Type 0 where
 -- "every byte of a complete capture is in one frame or counted as passed over under one reason"
 pub record EveryByteCounted : Type 0 where
   pub every-byte-once : (s : List ℕ) (i : ℕ) → i < length s → holding i (closedSteps s) ≡ 1
-  pub counts-add-up : (s : List ℕ) → sumOf (countsOf (closedSteps s)) ≡ length s
+  -- "each count being that of the steps of its kind", of any steps; "frame bytes + junk + bad + short = capture length"
+  pub counts-are-steps : CountsAreSteps
+  pub counts-add-up : (s : List ℕ) → let xs = closedSteps s in frameBytesIn xs + junksIn xs + badsIn xs + shortsIn xs ≡ length s
 
 -- "a record written reads back bit for bit; an accepted payload written again gives the same bytes"
 pub record ReadAndWritten : Type 0 where
@@ -84,15 +88,38 @@ pub record ReadAndWritten : Type 0 where
   -- from the start they are answered by the payload's observations in order, each once, and by a refusal from then on
   pub obs-walk : (kind : ℕ) (s : List ℕ) (more : ℕ)
       → Walk (length (observationsIn kind s) + more) kind s 0 (map given (observationsIn kind s) ++ replicate more (pastThem kind s)) (length (observationsIn kind s))
-  -- the carrier phase has one pair, which gives it back
+  -- "256 × L.i + L.f", and it has one pair, which gives it back
+  pub phase-of : (p : Phase) → phaseOf p ≡ pos 256 *ℤ p .«l_i» +ℤ pos (p .«l_f»)
   pub phase : ((z : ℤ) → phaseOf (partsOf z) ≡ z) × ((p : Phase) → p .«l_f» < 256 → partsOf (phaseOf p) ≡ p)
+
+-- an observation frame's own numbers: tow u32, wn u16, n_obs u8, whose upper four bits are n and the lower four the counter; k observations
+pub record WellFormed (x : Content) (p : Packet) : Type 0 where
+  pub kind : x .kind ≡ 0x0049
+  pub size : length (x .payload) ≡ 16 * p .observations + 7
+  pub few : p .observations ≤ 15
+  pub tow : p .key .tow ≡ numberAt 4 (x .payload) 0
+  pub wn : p .key .wn ≡ numberAt 2 (x .payload) 4
+  pub n : p .key .n ≡ numberAt 1 (x .payload) 6 / 16
+  pub counter : p .counter ≡ numberAt 1 (x .payload) 6 % 16
+  pub some : 1 ≤ p .key .n
+  pub below : p .counter < p .key .n
+
+pub record Reported (x : Content) (e : Report) : Type 0 where
+  pub sender : e .sender ≡ x .sender
+  pub wn : e .wn ≡ numberAt 2 (x .payload) 4
+  pub tow : e .tow ≡ numberAt 4 (x .payload) 0
+  pub n : e .n ≡ numberAt 1 (x .payload) 6 / 16
 
 -- "an epoch is reported exactly when its packets stand as document 01 says, once each"
 pub record EpochsReported : Type 0 where
   -- after any frames, feeding one more reports an epoch exactly when that frame ends it
   pub reported-exactly : (roster : List ℕ) → made roster .number ≡ 0 → (xs : List Content) (x : Content) (e : Report)
       → (fedFrame (after (made roster .collator) xs) x .happened ≡ H.Epoch e) ↔ EndsEpoch roster xs x e
-  -- which is, packet by packet, what document 01 says
+  -- "A well-formed observation frame has type 0x0049, length 16k + 7, n from 1 to 15 and i below n": its packet, number by number
+  pub well-formed : (x : Content) (p : Packet) → (ownPacket x ≡ given p) ↔ WellFormed x p
+  -- what is reported of an epoch: its sender, and wn, tow and n of its last frame
+  pub report-numbers : (roster : List ℕ) (xs : List Content) (x : Content) (e : Report) → EndsEpoch roster xs x e → Reported x e
+  -- when it ends is, packet by packet, what document 01 says
   pub in-words : (p : Packet) (past : List Packet) (total : ℕ) → 1 ≤ p .key .n → EpochEnds p past total ↔ InWords p past total
   -- once each: a frame ends one epoch at most
   pub one-at-most : (roster : List ℕ) → made roster .number ≡ 0 → (xs : List Content) (x : Content) (d e : Report)
@@ -106,6 +133,11 @@ pub record EpochsReported : Type 0 where
   -- `collate` counts them by place
   pub capture-counted : (roster : List ℕ) → made roster .number ≡ 0 → (s : List ℕ) (es : List Report) → length s < 2 ^ 64 → Epochs roster [] (contentsOf s) es
       → (i : ℕ) → i < length roster → getD (collated s roster .reports) i 0 ≡ length (reportsOf (getD roster i 0) es)
+
+-- numbers in decimal, each behind a space, to the line's end
+abbrev pub shows : List ℕ → List ℕ
+shows [] = 0x0a ∷ []
+shows (n ∷ ns) = 0x20 ∷ decimal n ++ shows ns
 
 -- document 01, "`sbplist`"
 pub record Listed : Type 0 where
@@ -121,6 +153,11 @@ pub record Listed : Type 0 where
   pub lines : (s text : List ℕ) → Lines s (rosterIn s) [] (framesOf (closedSteps s)) text ↔ (textOf s ≡ text ++ totalsLine s)
   -- "with none, no collator is made": no `E` line
   pub lines-alone : (s : List ℕ) → obsSendersIn s ≡ [] → textOf s ≡ flatMap (frameLine s) (framesOf (closedSteps s)) ++ totalsLine s
+  -- what each line shows: `F` offset type sender length payload-answer; `E` sender wn tow n observations; `T` length, frame bytes, junk, bad, short
+  pub frame-line : (s : List ℕ) (f : Frame) → frameLine s f ≡ 0x46 ∷ shows (f .at ∷ f .kind ∷ f .sender ∷ f .length ∷ answerFor (f .kind) (payloadIn s f) ∷ [])
+  pub epoch-line : (e : Report) → epochLine e ≡ 0x45 ∷ shows (e .sender ∷ e .wn ∷ e .tow ∷ e .n ∷ e .observations ∷ [])
+  pub totals-line : (s : List ℕ) → let xs = closedSteps s in
+      totalsLine s ≡ 0x54 ∷ shows (length s ∷ frameBytesIn xs ∷ junksIn xs ∷ badsIn xs ∷ shortsIn xs ∷ [])
   -- "numbers in decimal": the digits stand for the number
   pub decimals : (n : ℕ) → valueFrom 0 (decimal n) ≡ n
   -- a buffer of 8 bytes for each of a capture's, and 32, gets the whole text, and keeps the bytes after it

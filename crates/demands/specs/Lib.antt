@@ -1,7 +1,7 @@
+pub mod Order
 pub mod Demand1
 pub mod Demand2
 pub mod Demand3
-pub mod RowsBack
 pub mod Exported
 pub mod InParts
 pub mod Swallowed
