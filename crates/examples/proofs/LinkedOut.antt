@@ -9,6 +9,7 @@ use lib.Dec.{ltb}
 use lib.ListN.{length, getD, replicate}
 use borrow.Author.Tests.{ltb-true}
 use Rattle.wire.specs.Number.{Bytes, numberAt}
+use Rattle.layouts.specs.Field.{Row}
 use Rattle.crc.specs.Crc.{bitStep, bitSteps, byteStep, crcFrom}
 use Rattle.frames.specs.Frame.{Content}
 use Rattle.frames.specs.Reading.{readFrom, closedSteps, countsOf}
@@ -20,15 +21,16 @@ use Rattle.epochs.proofs.Searches.{names-at}
 use Rattle.epochs.proofs.Making.{accepted}
 use Rattle.payloads.proofs.Entries.{both}
 use Rattle.frame_rows.specs.Found.{nextFrom, nextAnswer}
-use Rattle.frame_rows.specs.Totals.{totalsStored}
-use Rattle.frame_rows.proofs.ReadBack.{counts-shown}
+use Rattle.frame_rows.specs.Totals.{totalsFields, totalsRow, totalsStored}
+use Rattle.frame_rows.proofs.ReadBack.{read-back, counts-shown}
 use Rattle.states.specs.Feed.{madeStored, fedIn, afterIn}
 use Rattle.told.specs.Told.{Sent, told, Filled}
 use Rattle.told.proofs.Lives.{tells-epoch}
 use Rattle.examples.specs.Examples.{blank, packetFrom}
+use Rattle.examples.specs.Idle.{invented}
 use Rattle.examples.specs.IdleLinked.{Lent, LinkedReader, NextRule, FindsNone, refusingAll, AnswersAlike, pastFirst, HonestOnce, junkAfterFirst}
-use Rattle.examples.specs.IdleLinked.{LinkedTotals, TotalsRule, Invents, LinkedCollator, bytesAfter, TellsEpochs, KeepsItsBytes, linked}
-use Rattle.examples.specs.IdleLinked.{LinkedShutOut}
+use Rattle.examples.specs.IdleLinked.{LinkedTotals, TotalsRule, Invents, allFrames}
+use Rattle.examples.specs.IdleLinked.{LinkedCollator, bytesAfter, TellsEpochs, KeepsItsBytes, linked, LinkedShutOut}
 use Rattle.examples.proofs.TwoPackets.{bothOf, second-ends, second-alone}
 
 -- ---- what is lent
@@ -103,6 +105,18 @@ honest-first = record { first = λ s at opened buf e. rw e; rest = λ s at opene
 
 -- ---- totals
 
+invented-shown : Invents allFrames
+invented-shown s buf small long =
+    let row = read-back totalsFields totalsRow (invented s) buf (omega arith)
+    (record { fits = small }, (record { fits = omega arith }, (record { fits = omega arith }, (record { fits = omega arith }, tt))))
+    (refl, (refl, (refl, (refl, tt)))) in
+    record {
+      framed = ap (λ (v : Row totalsFields). v .0) row;
+      junk = ap (λ (v : Row totalsFields). v .1 .0) row;
+      bad = ap (λ (v : Row totalsFields). v .1 .1 .0) row;
+      short = ap (λ (v : Row totalsFields). v .1 .1 .1 .0) row;
+    }
+
 -- a byte of noise is no frame
 abbrev noise : List ℕ
 noise = 0 ∷ []
@@ -174,5 +188,6 @@ linked-shut-out = record {
   moving = moving;
   honest-first = honest-first;
   once-honest = once-honest;
+  invented-shown = invented-shown;
   inventing = inventing;
 }

@@ -8,7 +8,7 @@ use mathlib.Core.Logic.{_↔_}
 use lib.Dec.{leb}
 use lib.ListN.{length, getD}
 use Rattle.wire.specs.Number.{Bytes}
-use Rattle.refusals.specs.Refusals.{Answer, ordered, leaves, asNumber}
+use Rattle.refusals.specs.Refusals.{Answer, ordered, leaves, asNumber, zeroOr}
 use Rattle.frames.specs.Frame.{Content}
 use Rattle.frames.specs.Cursors.{begun, nextOf}
 use Rattle.frames.specs.declared.cursor.Next as Next
@@ -18,7 +18,7 @@ use Rattle.epochs.specs.declared.collating.Report.{Report}
 use Rattle.epochs.specs.declared.collating.Happened.the-variants as H
 use Rattle.lent_rows.specs.Lent.{atFront}
 use Rattle.frame_rows.specs.Found.{foundFields, foundValues, foundIn, numberIn, finding, nextAnswer, nextStored}
-use Rattle.frame_rows.specs.Totals.{totalsAnswer, totalsStored}
+use Rattle.frame_rows.specs.Totals.{totalsFields, totalsRow, totalling, totalsAnswer, totalsStored}
 use Rattle.frame_rows.specs.Shown.{CountsShown}
 use Rattle.states.specs.Feed.{madeAnswer, madeStored, reportSize, FedIn, fedIn}
 use Rattle.told.specs.Told.{AsSent, told, Filled}
@@ -90,6 +90,12 @@ TotalsRule totals = (s buf : List ℕ) → Lent s → Lent buf → totals s buf 
 abbrev pub Invents : LinkedTotals → Type 0
 Invents totals = (s buf : List ℕ) → length s < 2 ^ 64 → length buf ≡ 32 → CountsShown (totals s buf .1) (invented s)
 
+-- one such
+abbrev pub allFrames : LinkedTotals
+allFrames s buf =
+    let a = ordered (totalling (length buf)) (invented s) in
+    (zeroOr a, leaves (λ c. atFront totalsFields (totalsRow c)) a buf)
+
 -- ---- collators in lent bytes: made of a roster, fed with a frame
 
 pub record LinkedCollator : Type 0 where
@@ -131,4 +137,5 @@ pub record LinkedShutOut : Type 0 where
   pub honest-first : HonestOnce junkAfterFirst
   pub once-honest : (read : LinkedReader) → HonestOnce read → NextRule read → ⊥
   -- "Invented totals: by counts tied to steps."
+  pub invented-shown : Invents allFrames
   pub inventing : (totals : LinkedTotals) → Invents totals → TotalsRule totals → ⊥
