@@ -1,11 +1,14 @@
--- 003's tables of fields, message by message: each field by the name that its record has, at its offset, in its format. It stands once more on
--- purpose: with two names exchanged in a description and its code together, every row and every round trip is still the same.
+-- 003's tables, message by message: the type number, the total payload length, and each field by the name that its record has, at its offset, in
+-- its format. They stand once more on purpose: with two names exchanged in a description and its code together, every row and every round trip is
+-- still the same.
 use mathlib.Core.Path.{_≡_}
 use mathlib.Core.List.{List}
-use Prim.Native.Nat.{ℕ}
+use Prim.Native.Nat.{ℕ, _+_, _*_}
+use lib.ListN.{length, drop}
 use Rattle.wire.specs.Value.{valueAt, u8, u16, u32, s16, s32, double}
-use Rattle.layouts.specs.Description.{inside}
-use Rattle.layouts.specs.Together.{takenAt}
+use Rattle.padded.specs.Padded.{beforeZero, fromZero}
+use Rattle.layouts.specs.Layout.{bodySize}
+use Rattle.layouts.specs.Description.{Description, inside}
 use Rattle.atmosphere.specs.GroupDelay.{groupDelay}
 use Rattle.atmosphere.specs.Iono.{iono}
 use Rattle.atmosphere.specs.SvConfigurationGps.{svConfigurationGps}
@@ -21,8 +24,14 @@ use Rattle.positions.specs.PosLlh.{posLlh}
 use Rattle.orbits.specs.EphemerisGlo.{ephemerisGlo}
 use Rattle.gps_orbits.specs.EphemerisGps.{ephemerisGps}
 use Rattle.orbits.specs.EphemerisSbas.{ephemerisSbas}
-use Rattle.observation.specs.Edition.{obs, first, observation}
-use Rattle.observation.specs.Obs.{shown}
+use Rattle.observation.specs.Edition.{obs, first}
+use Rattle.observation.specs.Obs.{entryAt, shown}
+use Rattle.logs.specs.Log as logs
+use Rattle.logs.specs.Log.{Logged, log}
+use Rattle.system.specs.Empty.{settingsSave, readByIndexDone}
+use Rattle.system.specs.Heartbeat.{heartbeat}
+use Rattle.system.specs.ReadByIndexReq.{readByIndexReq}
+use Rattle.system.specs.Startup.{startup}
 use Rattle.time_and_dops.specs.declared.gps_time.GpsTime.{GpsTime}
 use Rattle.time_and_dops.specs.declared.dops.Dops.{Dops}
 use Rattle.positions.specs.declared.pos_ecef.PosEcef.{PosEcef}
@@ -40,6 +49,9 @@ use Rattle.atmosphere.specs.declared.sv_configuration_gps.SvConfigurationGps.{S
 use Rattle.atmosphere.specs.declared.group_delay.GroupDelay.{GroupDelay}
 use Rattle.observation.specs.declared.obs.Obs.{Obs}
 use Rattle.observation.specs.declared.entry.Observation.{Observation}
+use Rattle.system.specs.declared.heartbeat.Heartbeat.{Heartbeat}
+use Rattle.system.specs.declared.settings.ReadByIndexReq.{ReadByIndexReq}
+use Rattle.system.specs.declared.startup.Startup.{Startup}
 
 -- GPS_TIME, 0x0100
 pub record GpsTimeAt (s : List ℕ) (r : GpsTime) : Type 0 where
@@ -234,34 +246,70 @@ pub record ObsAt (s : List ℕ) (r : Obs) : Type 0 where
   pub wn : r .wn ≡ valueAt u16 s 4
   pub n-obs : r .«n_obs» ≡ valueAt u8 s 6
 
--- one observation of an OBS
-pub record ObservationAt (s : List ℕ) (r : Observation) : Type 0 where
-  pub p : r .p ≡ valueAt u32 s 0
-  pub l-i : r .«l_i» ≡ valueAt s32 s 4
-  pub l-f : r .«l_f» ≡ valueAt u8 s 8
-  pub cn0 : r .cn0 ≡ valueAt u8 s 9
-  pub lock : r .lock ≡ valueAt u16 s 10
-  pub sat : r .sat ≡ valueAt u16 s 12
-  pub code : r .code ≡ valueAt u8 s 14
-  pub reserved : r .reserved ≡ valueAt u8 s 15
+-- observation N of an OBS
+pub record ObservationAt (s : List ℕ) (N : ℕ) (r : Observation) : Type 0 where
+  pub p : r .p ≡ valueAt u32 s (16 * N + 7)
+  pub l-i : r .«l_i» ≡ valueAt s32 s (16 * N + 11)
+  pub l-f : r .«l_f» ≡ valueAt u8 s (16 * N + 15)
+  pub cn0 : r .cn0 ≡ valueAt u8 s (16 * N + 16)
+  pub lock : r .lock ≡ valueAt u16 s (16 * N + 17)
+  pub sat : r .sat ≡ valueAt u16 s (16 * N + 19)
+  pub code : r .code ≡ valueAt u8 s (16 * N + 21)
+  pub reserved : r .reserved ≡ valueAt u8 s (16 * N + 22)
 
+-- LOG, 0x0401: a level, then a string, "NULL padded/terminated". The code shows how long the text and the padding are
+pub record LogAt (s : List ℕ) (r : Logged) : Type 0 where
+  pub level : logs.shown r .level ≡ valueAt u8 s 0
+  pub text : r .text ≡ beforeZero (drop 1 s)
+  pub padding : logs.shown r .padding ≡ length (fromZero (drop 1 s))
+  pub length : logs.shown r .length ≡ length (beforeZero (drop 1 s))
+
+-- SETTINGS_SAVE, 0x00A1, and READ_BY_INDEX_DONE, 0x00A6: no field
+abbrev pub NothingAt : List ℕ → Unit {0} → Type 0
+NothingAt s r = Unit {0}
+
+-- READ_BY_INDEX_REQ, 0x00A2
+pub record ReadByIndexReqAt (s : List ℕ) (r : ReadByIndexReq) : Type 0 where
+  pub index : r .index ≡ valueAt u16 s 0
+
+-- STARTUP, 0xFF00
+pub record StartupAt (s : List ℕ) (r : Startup) : Type 0 where
+  pub reserved : r .reserved ≡ valueAt u32 s 0
+
+-- HEARTBEAT, 0xFFFF
+pub record HeartbeatAt (s : List ℕ) (r : Heartbeat) : Type 0 where
+  pub flags : r .flags ≡ valueAt u32 s 0
+
+-- a table of 003: the type number, the total payload length of a record, and the fields of any payload
+pub record Table {R : Type 0} (d : Description R) (number : ℕ) (bytes : R → ℕ) (At : List ℕ → R → Type 0) : Type 0 where
+  pub kind : d .kind ≡ number
+  pub total : (r : R) → bodySize (d .layout) (d .row r) ≡ bytes r
+  pub fields : (s : List ℕ) → At s (inside d s)
+
+-- all 24 messages
 pub record Named : Type 0 where
-  pub gps-time : (s : List ℕ) → GpsTimeAt s (inside gpsTime s)
-  pub dops : (s : List ℕ) → DopsAt s (inside dops s)
-  pub pos-ecef : (s : List ℕ) → PosEcefAt s (inside posEcef s)
-  pub pos-llh : (s : List ℕ) → PosLlhAt s (inside posLlh s)
-  pub baseline-ecef : (s : List ℕ) → EcefVectorAt s (inside baselineEcef s)
-  pub vel-ecef : (s : List ℕ) → EcefVectorAt s (inside velEcef s)
-  pub baseline-ned : (s : List ℕ) → NedVectorAt s (inside baselineNed s)
-  pub vel-ned : (s : List ℕ) → NedVectorAt s (inside velNed s)
-  pub baseline-heading : (s : List ℕ) → BaselineHeadingAt s (inside baselineHeading s)
-  pub base-pos-llh : (s : List ℕ) → BasePosLlhAt s (inside basePosLlh s)
-  pub base-pos-ecef : (s : List ℕ) → BasePosEcefAt s (inside basePosEcef s)
-  pub ephemeris-gps : (s : List ℕ) → EphemerisGpsAt s (inside ephemerisGps s)
-  pub ephemeris-sbas : (s : List ℕ) → EphemerisSbasAt s (inside ephemerisSbas s)
-  pub ephemeris-glo : (s : List ℕ) → EphemerisGloAt s (inside ephemerisGlo s)
-  pub iono : (s : List ℕ) → IonoAt s (inside iono s)
-  pub sv-configuration-gps : (s : List ℕ) → SvConfigurationGpsAt s (inside svConfigurationGps s)
-  pub group-delay : (s : List ℕ) → GroupDelayAt s (inside groupDelay s)
-  pub obs-head : (s : List ℕ) → ObsAt s (shown (inside (obs first) s))
-  pub one-observation : (s : List ℕ) → ObservationAt s (takenAt observation s 0)
+  pub gps-time : Table gpsTime 0x0100 (λ r. 11) GpsTimeAt
+  pub dops : Table dops 0x0206 (λ r. 14) DopsAt
+  pub pos-ecef : Table posEcef 0x0200 (λ r. 32) PosEcefAt
+  pub pos-llh : Table posLlh 0x0201 (λ r. 34) PosLlhAt
+  pub baseline-ecef : Table baselineEcef 0x0202 (λ r. 20) EcefVectorAt
+  pub vel-ecef : Table velEcef 0x0204 (λ r. 20) EcefVectorAt
+  pub baseline-ned : Table baselineNed 0x0203 (λ r. 22) NedVectorAt
+  pub vel-ned : Table velNed 0x0205 (λ r. 22) NedVectorAt
+  pub baseline-heading : Table baselineHeading 0x0207 (λ r. 10) BaselineHeadingAt
+  pub base-pos-llh : Table basePosLlh 0x0044 (λ r. 24) BasePosLlhAt
+  pub base-pos-ecef : Table basePosEcef 0x0048 (λ r. 24) BasePosEcefAt
+  pub ephemeris-gps : Table ephemerisGps 0x0081 (λ r. 185) EphemerisGpsAt
+  pub ephemeris-sbas : Table ephemerisSbas 0x0082 (λ r. 112) EphemerisSbasAt
+  pub ephemeris-glo : Table ephemerisGlo 0x0083 (λ r. 112) EphemerisGloAt
+  pub iono : Table iono 0x0090 (λ r. 70) IonoAt
+  pub sv-configuration-gps : Table svConfigurationGps 0x0091 (λ r. 10) SvConfigurationGpsAt
+  pub group-delay : Table groupDelay 0x0092 (λ r. 14) GroupDelayAt
+  pub obs-head : Table (obs first) 0x0049 (λ r. 16 * length (r .observations) + 7) (λ s r. ObsAt s (shown r))
+  pub one-observation : (s : List ℕ) (N : ℕ) → ObservationAt s N (entryAt first s N)
+  pub log : Table log 0x0401 (λ r. length (r .text) + length (r .padding) + 1) LogAt
+  pub settings-save : Table settingsSave 0x00a1 (λ r. 0) NothingAt
+  pub read-by-index-done : Table readByIndexDone 0x00a6 (λ r. 0) NothingAt
+  pub read-by-index-req : Table readByIndexReq 0x00a2 (λ r. 2) ReadByIndexReqAt
+  pub startup : Table startup 0xff00 (λ r. 4) StartupAt
+  pub heartbeat : Table heartbeat 0xffff (λ r. 4) HeartbeatAt

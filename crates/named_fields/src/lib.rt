@@ -1,1 +1,1 @@
-// 003's tables of fields: each field of each message by its record's name, offset and format. Nothing runs here. Read specs/Named.antt.
+// 003's tables of fields: all 24 messages, each field by its record's name, offset and format. Nothing runs here. Read specs/Named.antt.

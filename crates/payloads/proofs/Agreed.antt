@@ -1,5 +1,5 @@
 -- The descriptions say document 01's types, lengths and ranges; what follows for the answer to a payload.
-use mathlib.Core.Path.{_≡_, refl, sym, ap, _∙_}
+use mathlib.Core.Path.{_≡_, refl, sym, ap, ap₂, _∙_}
 use mathlib.Core.Bool.{Bool, true, false, _&&_, cond, and-true}
 use mathlib.Core.List.{List, [], _∷_, map}
 use Prim.Native.Nat.{ℕ, _<_}
@@ -8,8 +8,7 @@ use lib.Dec.{eqb, ltb}
 use lib.ListN.{length}
 use borrow.Author.Tests.{ne-eqb, ltb-true}
 use Rattle.refusals.specs.Refusals.{refused, given, Answer, Tests, ordered, zeroOr}
-use Rattle.observation.specs.Edition.{fitting, first}
-use Rattle.logs.specs.Log.{logLength}
+use Rattle.flags.specs.Range.{inNs, fixUpTo}
 use Rattle.logs.proofs.Logs.{as-padded}
 use Rattle.payloads.specs.Payloads.{Entry, table, entryFor, knownFor, testsOf, readingAny, readFor, answerFor}
 use Rattle.payloads.specs.Checks.{document, tests, testsBy, Agrees, AsInDocument}
@@ -18,14 +17,16 @@ use Rattle.payloads.specs.declared.Message.{Message}
 use Rattle.payloads.specs.declared.check.Check.{Check}
 use Rattle.payloads.specs.declared.check.Check.the-variants.{Unknown, Length, Ns, Fix, Obs, Log}
 use Rattle.payloads.proofs.Entries.{obs-allowed, both, Absent}
+use Rattle.payloads.proofs.Lengths.{obs-length, log-length}
 
 -- a range that stands last in its row
 last : (fits inside : Bool) → tests fits (inside && true) ≡ tests fits inside
 last fits inside = rw (and-true inside)
 
 pub agreed : AsInDocument
+unfolding inNs fixUpTo
 agreed =
-    (refl, λ s. ap (tests (fitting first (length s))) (obs-allowed s), (refl, λ s. last _ _, (refl, λ s. refl, (refl, λ s. last _ _, (refl, λ s. last _ _, (refl, λ s. last _ _, (refl, λ s. refl, (refl, λ s. last _ _, (refl, λ s. refl, (refl, λ s. last _ _, (refl, λ s. refl, (refl, λ s. refl, (refl, λ s. refl, (refl, λ s. refl, (refl, λ s. refl, (refl, λ s. refl, (refl, λ s. refl, (refl, λ s. refl, (refl, λ s. refl, (refl, λ s. refl, (refl, λ s. refl, (refl, λ s. refl, (refl, λ s. refl, (refl, λ s. ap (tests (logLength (length s))) (as-padded s), tt))))))))))))))))))))))))
+    (refl, λ s. ap₂ tests (obs-length (length s)) (obs-allowed s), (refl, λ s. last _ _, (refl, λ s. refl, (refl, λ s. last _ _, (refl, λ s. last _ _, (refl, λ s. last _ _, (refl, λ s. refl, (refl, λ s. last _ _, (refl, λ s. refl, (refl, λ s. last _ _, (refl, λ s. refl, (refl, λ s. refl, (refl, λ s. refl, (refl, λ s. refl, (refl, λ s. refl, (refl, λ s. refl, (refl, λ s. refl, (refl, λ s. refl, (refl, λ s. refl, (refl, λ s. refl, (refl, λ s. refl, (refl, λ s. refl, (refl, λ s. refl, (refl, λ s. ap₂ tests (log-length (length s)) (as-padded s), tt))))))))))))))))))))))))
 
 -- ---- of any type
 

@@ -1,3 +1,4 @@
 pub mod Entries
+pub mod Lengths
 pub mod Agreed
 pub mod Shapes

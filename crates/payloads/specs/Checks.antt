@@ -1,16 +1,16 @@
 -- Document 01's columns Type and Length, and its ranges, as numbers: what a payload is tested for before it is read. That the descriptions say
 -- the same is proved (proofs/Agreed.antt).
-use Prim.Native.Nat.{ℕ}
+use Prim.Native.Nat.{ℕ, _%_}
 use mathlib.Core.Path.{_≡_}
-use mathlib.Core.Bool.{Bool, true, false}
+use mathlib.Core.Bool.{Bool, true, false, _&&_}
 use mathlib.Core.List.{List, [], _∷_}
-use lib.Dec.{eqb}
-use lib.ListN.{length}
+use lib.Dec.{eqb, leb}
+use lib.IntN.{ℤ, pos, negℤ}
+use lib.ListN.{length, drop}
+use lib.Signed.{leZ}
 use Rattle.wire.specs.Value.{valueAt, u8, s32}
+use Rattle.padded.specs.Padded.{fromZero, allZero}
 use Rattle.refusals.specs.Refusals.{Tests}
-use Rattle.flags.specs.Range.{inNs, fixUpTo}
-use Rattle.observation.specs.Edition.{fitting, first}
-use Rattle.logs.specs.Log.{logLength, logPadded}
 use Rattle.payloads.specs.Payloads.{Entry, table, testsOf}
 use Rattle.payloads.specs.declared.check.Check.{Check}
 use Rattle.payloads.specs.declared.check.Check.the-variants.{Unknown, Length, Ns, Fix, Obs, Log}
@@ -48,13 +48,33 @@ document =
 abbrev pub tests : Bool → Bool → Tests
 tests fits inside = (true, 21) ∷ (fits, 22) ∷ (inside, 23) ∷ []
 
+-- "16k + 7, k 0..15"
+abbrev pub obsLong : ℕ → Bool
+obsLong n = eqb (n % 16) 7 && leb n 247
+
+-- "1..255"
+abbrev pub logLong : ℕ → Bool
+logLong n = leb 1 n && leb n 255
+
+-- "ns from -500000 to 500000"
+abbrev pub nsInside : ℤ → Bool
+nsInside ns = leZ (negℤ (pos 500000)) ns && leZ ns (pos 500000)
+
+-- "Fix mode is the low three bits of flags"
+abbrev pub modeInside : ℕ → ℕ → Bool
+modeInside last flags = leb (flags % 8) last
+
+-- after the level, zeros alone from the first zero on
+abbrev pub zerosLast : List ℕ → Bool
+zerosLast s = allZero (fromZero (drop 1 s))
+
 abbrev pub testsBy : Check → List ℕ → Tests
 testsBy Unknown s = (false, 21) ∷ []
 testsBy (Length n) s = tests (eqb (length s) n) true
-testsBy (Ns n at) s = tests (eqb (length s) n) (inNs (valueAt s32 s at))
-testsBy (Fix n at last) s = tests (eqb (length s) n) (fixUpTo last (valueAt u8 s at))
-testsBy Obs s = tests (fitting first (length s)) true
-testsBy Log s = tests (logLength (length s)) (logPadded s)
+testsBy (Ns n at) s = tests (eqb (length s) n) (nsInside (valueAt s32 s at))
+testsBy (Fix n at last) s = tests (eqb (length s) n) (modeInside last (valueAt u8 s at))
+testsBy Obs s = tests (obsLong (length s)) true
+testsBy Log s = tests (logLong (length s)) (zerosLast s)
 
 -- entry by entry the types are these, and the tests of the descriptions are these
 abbrev pub Agrees : List Entry → List (ℕ × Check) → Type 0

@@ -8,11 +8,11 @@ use lib.Dec.{eqb}
 use lib.ListN.{length}
 use Rattle.wire.proofs.Signed.{came-back}
 use Rattle.flags.specs.Range.{inNs, fixUpTo}
-use Rattle.logs.specs.Log.{logLength}
-use Rattle.payloads.specs.Checks.{tests, testsBy}
+use Rattle.payloads.specs.Checks.{logLong, nsInside, modeInside, tests, testsBy}
 use Rattle.payloads.specs.Inner.{numberBy}
 use Rattle.payloads.specs.declared.check.Check.{Check}
 use borrow.Author.Needs.{needs}
+use Rattle.payloads.proofs.Lengths.{obs-length, log-length}
 use Rattle.payloads.proofs.check.tested.Statement.{statement}
 use Rattle.payloads.proofs.check.tested.Tie as tie
 
@@ -30,28 +30,34 @@ returns-2 : tie.Need-returns-2
 returns-2 c = let w = c .before .before in as-met (w .before .before .before .args .s .now) (c .refusal .ensures) (w .check .given .1)
 
 returns-3 : tie.Need-returns-3
+unfolding inNs
 returns-3 c =
     let r = c .before .before in
     let w = r .before .before in
     let s = w .before .before .before .args .s .now in
-    as-met s (inside-as (eqb (length s) (w .check2 .given .0 .0)) (c .refusal2 .ensures) (c .before .ns-allowed .ensures ∙ ap inNs (came-back w32 (r .read-s32 .ok) (r .read-s32 .ensures)))) (w .check2 .given .1)
+    as-met s (inside-as (eqb (length s) (w .check2 .given .0 .0)) (c .refusal2 .ensures) (c .before .ns-allowed .ensures ∙ ap nsInside (came-back w32 (r .read-s32 .ok) (r .read-s32 .ensures)))) (w .check2 .given .1)
 
 returns-4 : tie.Need-returns-4
+unfolding fixUpTo
 returns-4 c =
     let r = c .before .before in
     let w = r .before .before in
     let s = w .before .before .before .args .s .now in
-    as-met s (inside-as (eqb (length s) (w .check3 .given .0 .0)) (c .refusal3 .ensures) (c .before .fix-allowed .ensures ∙ ap (fixUpTo _) (r .read-u8 .ensures))) (w .check3 .given .1)
+    as-met s (inside-as (eqb (length s) (w .check3 .given .0 .0)) (c .refusal3 .ensures) (c .before .fix-allowed .ensures ∙ ap (modeInside _) (r .read-u8 .ensures))) (w .check3 .given .1)
 
 returns-5 : tie.Need-returns-5
-returns-5 c = let w = c .before .before in as-met (w .before .before .before .args .s .now) (fits-as true (c .refusal4 .ensures) (c .before .is-obs-length .ensures)) (w .enum-told2 .given .1)
+returns-5 c =
+    let w = c .before .before in
+    let s = w .before .before .before .args .s .now in
+    as-met s (fits-as true (c .refusal4 .ensures) (c .before .is-obs-length .ensures ∙ obs-length (length s))) (w .enum-told2 .given .1)
 
 returns-6 : tie.Need-returns-6
 returns-6 c =
     let l = c .before .before in
     let w = l .before in
     let s = w .before .before .before .args .s .now in
-    as-met s (inside-as (logLength (length s)) (fits-as (c .before .log-padded .result) (c .refusal5 .ensures) (l .is-log-length .ensures)) (c .before .log-padded .ensures)) (w .enum-told3 .given .1)
+    let long = fits-as (c .before .log-padded .result) (c .refusal5 .ensures) (l .is-log-length .ensures ∙ log-length (length s)) in
+    as-met s (inside-as (logLong (length s)) long (c .before .log-padded .ensures)) (w .enum-told3 .given .1)
 
 pub tested-spec : {M : Type 1} → statement M
 tested-spec = tie.close (tie.spec (λ c. search needs) (λ c. search needs) (λ c κs. tt) (λ c. search needs) (λ c κs. tt) (λ c κs. tt) (λ c κs. tt) (λ c. search needs) (λ c κs. tt) (λ c κs. tt) (λ c κs. tt) (λ c. search needs) (λ c κs. tt) (λ c κs. tt) (λ c. search needs) (λ c κs. tt) (λ c κs. tt) (λ c κs. tt) (λ c. search needs) returns-2 returns-3 returns-4 returns-5 returns-6)
