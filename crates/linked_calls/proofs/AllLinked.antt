@@ -24,12 +24,8 @@ ruleset givings = (by.plain, by.plain-stored, by.plain-stored-stored)
 
 module _ {M : Type 1} (𝓤 : URA M) (H : Heap 𝓤) (A : Atoms 𝓤) (mem : Memory → SProp 𝓤) (run : Routine → Fun 𝓤) where
   pub reads : linked.Reads 𝓤 H A mem run
-  unfolding nextFrom totalsFor listAnswer
+  unfolding nextFrom totalsFor listAnswer readRow readOne
   reads = search givings
-
-  pub rows : linked.Rows 𝓤 H A mem run
-  unfolding readRow readOne
-  rows = search givings
 
   pub writes : linked.Writes 𝓤 H A mem run
   unfolding planned withFrame writeAnswer writtenAs writeRow rowWritten writeObsRow obsRowWritten
@@ -42,3 +38,7 @@ module _ {M : Type 1} (𝓤 : URA M) (H : Heap 𝓤) (A : Atoms 𝓤) (mem : Mem
   pub tells : linked.Tells 𝓤 H A mem run
   unfolding readPhase
   tells = search givings
+
+  pub behind : linked.Behind 𝓤 H A mem run
+  unfolding nextFrom totalsFor readRow readOne planned withFrame writeRow rowWritten writeObsRow obsRowWritten madeIn forPlaceIn fedIn growingIn enlistIn readPhase
+  behind = search givings
