@@ -5,6 +5,7 @@ use Prim.Native.Nat.{ℕ}
 use native.Mathlib.Omega.{arith}
 use lib.ListN.{length, getD}
 use Rattle.frames.specs.Reading.{closedSteps, Tiled, countsOf}
+use borrow.Author.Tests.{le-leb, lt-leb}
 use Rattle.frames.specs.Decides.{Decides}
 use Rattle.frames.proofs.Steps.{only, decided}
 use Rattle.frames.proofs.Frames.{found-bytes}
@@ -24,6 +25,7 @@ use Rattle.epochs.proofs.Making.{seated}
 use Rattle.epochs.proofs.Collations.{epochs-in, only-epochs, epoch-outcome, epoch-small, one-epoch, came-to}
 use Rattle.captures.proofs.Captures.{collated-counts}
 use Rattle.text.proofs.Decimals.{decimal-value}
+use Rattle.enlisting.proofs.Growing.{as-of-the-first}
 use Rattle.enlisting.proofs.EightSenders.{first-sent, first-all, first-accepted}
 use Rattle.listing.proofs.EpochLines.{text-lines, text-alone}
 use Rattle.frames_told.specs.Counting.{frameBytesIn, junksIn}
@@ -86,6 +88,7 @@ listing : Listed
 listing = record {
   roster = λ s. refl;
   roster-names = λ s sender. (first-sent (contentsOf s) sender, first-all (contentsOf s) sender);
+  roster-grows = as-of-the-first;
   roster-taken = λ s. first-accepted (contentsOf s);
   lines = text-lines;
   lines-alone = text-alone;
@@ -98,6 +101,8 @@ listing = record {
       ∙ ap₂ (λ (a b : ℕ). 0x54 ∷ shows (length s ∷ frameBytesIn xs ∷ junksIn xs ∷ a ∷ b ∷ [])) (counts-are-steps .bad xs) (counts-are-steps .short xs);
   decimals = decimal-value;
   room = room-enough;
+  printed = λ s h. rw (le-leb (length s) 65536 h);
+  over-long = λ s h. (rw (lt-leb (length s) 65536 h)) ∙ shown-line 0x52 (11 ∷ []);
 }
 
 pub demand-2 : Demand2

@@ -42,7 +42,8 @@ use Rattle.epochs.specs.declared.collating.Report.{Report}
 use Rattle.epochs.specs.declared.collating.Happened.the-variants as H
 use Rattle.text.specs.Decimal.{decimal, valueFrom}
 use Rattle.enlisting.specs.FirstEight.{different, obsSendersIn, rosterIn}
-use Rattle.listing.specs.Listing.{frameLine, totalsLine, textOf, listAnswer, withListing}
+use Rattle.enlisting.specs.Enlisting.{AsOfTheFirst}
+use Rattle.listing.specs.Listing.{frameLine, totalsLine, textOf, listAnswer, withListing, output}
 use Rattle.listing.specs.Words.{Lines}
 use Rattle.lines.specs.Lines.{epochLine}
 use Rattle.frames_told.specs.Counting.{frameBytesIn, junksIn, badsIn, shortsIn, CountsAreSteps}
@@ -147,6 +148,8 @@ pub record Listed : Type 0 where
   pub roster-names : (s : List ℕ) (sender : ℕ)
       → (names (rosterIn s) sender ≡ true → names (obsSendersIn s) sender ≡ true)
       × (length (rosterIn s) < 8 → names (obsSendersIn s) sender ≡ true → names (rosterIn s) sender ≡ true)
+  -- a collator that takes senders on as they come (`enlist`) comes to the same as one that is made of it
+  pub roster-grows : (xs : List Content) → AsOfTheFirst xs
   -- a collator takes it, unless it is empty
   pub roster-taken : (s : List ℕ) → (rosterIn s ≡ []) ⊎ (made (rosterIn s) .number ≡ 0)
   -- "for each frame `F` ..; after the frame that ends an epoch, `E` ..; at the end `T` ..": the text is these lines, and no other
@@ -163,6 +166,9 @@ pub record Listed : Type 0 where
   -- a buffer of 8 bytes for each of a capture's, and 32, gets the whole text, and keeps the bytes after it
   pub room : (s buf : List ℕ) → Bytes s → length s ≤ 65536 → 8 * length s + 32 ≤ length buf
       → (listAnswer s (length buf) ≡ given (length (textOf s))) × (withListing s buf ≡ textOf s ++ drop (length (textOf s)) buf)
+  -- what `sbplist` prints: that text, and of more than 65536 bytes `R 11` only
+  pub printed : (s : List ℕ) → length s ≤ 65536 → output s ≡ textOf s
+  pub over-long : (s : List ℕ) → 65536 < length s → output s ≡ 0x52 ∷ shows (11 ∷ [])
 
 pub record Demand2 : Type 0 where
   pub frames-found : FramesFound
