@@ -60,6 +60,12 @@ def cases():
     yield "a megabyte, 997 bytes at a time", (sample + bytes(100)) * 200, 997
 
 
+def as_stored(program, lines):
+    """Whether these lines are what a program has to print."""
+    with open(os.path.join(ROOT, "crates", program, "stdout")) as stored:
+        return stored.read() == "".join(line + "\n" for line in lines)
+
+
 def main():
     passed, failed = 0, []
     for name, data, piece in cases():
@@ -70,12 +76,12 @@ def main():
             print("not the listing:", name, data[:60].hex())
     with open(os.path.join(ROOT, "tests", "sample", "base-and-rover.sbp"), "rb") as stored:
         sample = stored.read() == make.capture()
-    with open(os.path.join(ROOT, "crates", "vectors", "stdout")) as stored:
-        lines = stored.read() == "".join(line + "\n" for line in answers.lines())
+    vectors, rewritten = as_stored("vectors", answers.lines()), as_stored("rewritten", answers.rewritten())
     with subprocess.Popen(RUN, stdin=os.open(ROOT, os.O_RDONLY), stdout=subprocess.PIPE, stderr=subprocess.PIPE) as program:
         out, said = program.communicate()
     for name, held in (
-            ("the stored sample is what make.py makes", sample), ("vectors' stored answers are what the Python twin works out", lines),
+            ("the stored sample is what make.py makes", sample), ("vectors' stored answers are what the Python twin works out", vectors),
+            ("rewritten's stored answers are what the Python twin works out", rewritten),
             ("the Python twin answers LOGs as logs.py has them", logs.as_answered()),
             ("a read that fails prints nothing and says why", out == b"" and said.startswith(b"read: "))):
         passed += held

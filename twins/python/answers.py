@@ -1,15 +1,16 @@
 #!/usr/bin/env python3
-"""Works out published values and edge cases, by the twin beside it and Python's own codecs: what vectors must print, and what the linked functions
-have to say when tests/values asks them.
+"""Works out published values and edge cases, by the twin beside it and Python's own codecs: what vectors and rewritten must print, and what the
+linked functions have to say when tests/values asks them.
 
 usage: answers.py > crates/vectors/stdout
+       answers.py --rewritten > crates/rewritten/stdout
        answers.py --asked
 """
 import binascii
 import struct
 import sys
 
-from twin import FIX_MODES, FLAGS, HEARTBEAT_FLAGS, MESSAGES, OBS, Sorter, answer, frame, is_obs, log_answer, made, obs, reading, row
+from twin import FIX_MODES, FLAGS, HEARTBEAT_FLAGS, MESSAGES, NAMES, OBS, Sorter, answer, frame, is_obs, log_answer, made, obs, reading, row
 
 # type through payload of the example frame of 003, section 4, and the fields that table 4.0.2 reads in it
 EXAMPLE = bytes.fromhex("0202cc0414703dd018cfefffffefe8fffff018000000000500")
@@ -341,6 +342,33 @@ def collated():
         yield name + "".join(epochs)
 
 
+# the messages by their types in the order in which rewritten has them, and where mixed bytes begin, such that flags are in their range
+MIXED = {
+    0x0206: 5, 0x0200: 5, 0x0201: 5, 0x0202: 2, 0x0204: 5, 0x0203: 7, 0x0205: 5, 0x0207: 4, 0x0044: 5, 0x0048: 5, 0x0081: 5, 0x0082: 5, 0x0083: 5,
+    0x0090: 5, 0x0091: 5, 0x0092: 5, OBS: 3, 0x0401: None, 0x00A1: 5, 0x00A6: 5, 0x00A2: 5, 0xFF00: 5, 0xFFFF: 5}
+
+
+def payloads():
+    """Each type with a payload and the byte after it: GPS_TIME with its least ns, two observations, a LOG of the greatest length with two zeros."""
+    plain = mixed(5, 37, 12)
+    yield 0x0100, plain[:6] + struct.pack("<i", -500000) + plain[10:]
+    for kind, seed in MIXED.items():
+        if kind == 0x0401:
+            text = mixed(1, 2, 256)
+            yield kind, text[:253] + bytes(2) + text[255:]
+        else:
+            yield kind, mixed(seed, 37, (39 if kind == OBS else struct.calcsize("<" + MESSAGES[NAMES[kind]][1])) + 1)
+
+
+def rewritten():
+    """What rewritten prints: the type, the answer to its payload, the frame, that the raw one is the same, and the answers of the message's own
+    reader to the payload and to one byte more."""
+    for kind, longer in payloads():
+        payload = longer[:-1]
+        outcome = answer(kind, payload)
+        yield "%04x %d %s same %d %d" % (kind, outcome, frame(kind, 0x0201, payload).hex(), outcome, answer(kind, longer))
+
+
 def lines():
     """What vectors prints: the published values, and what no linked function reaches."""
     for part in published, noise_around, sums_apart, numbers, doubles, log_texts, walks, counted:
@@ -354,5 +382,5 @@ def asked():
 
 
 if __name__ == "__main__":
-    for line in asked() if sys.argv[1:] == ["--asked"] else lines():
+    for line in {"--asked": asked, "--rewritten": rewritten}.get("".join(sys.argv[1:]), lines)():
         print(line)
