@@ -62,6 +62,7 @@ use Rattle.epochs.specs.Collator as Collator
 use Rattle.epochs.specs.declared.recognising.Recognised.the-variants as Recognised
 use Rattle.observation.specs.declared.entry.Observation.{Observation}
 use Rattle.obs_reader.specs.declared.ObsReader.{ObsReader}
+use Rattle.obs_reader.specs.declared.Stepped.{Stepped}
 use Rattle.calls.specs.Replies.{variantOf}
 use Rattle.calls.proofs.Variants as variants
 use Rattle.calls.proofs.Variants.{Back}
@@ -112,6 +113,16 @@ module _ {M : Type 1} (𝓤 : URA M) where
   asked {B} {x} {d} {b} {e} =
       fact-mono 𝓤 ((Obs.entryAnswer x ≡ d) × (b ≡ e)) ((x ≡ variantOf ObservationRead.the-variants.Record ObservationRead.the-variants.Refused d) × ((b ≡ e) × Unit {0}))
       (λ p. (by-variant Obs.entryAnswer ObservationRead.the-variants.Record ObservationRead.the-variants.Refused variants.one-observation (p .0), (p .1, tt)))
+
+  pub stepped : {x : Stepped} {d : Answer Observation} {at : ℕ}
+      → ent 𝓤 (fact 𝓤 ((Obs.entryAnswer (x .answer) ≡ d) × (x .at ≡ at)))
+      (fact 𝓤 ((x ≡ record { answer = variantOf ObservationRead.the-variants.Record ObservationRead.the-variants.Refused d; at = at }) × Unit {0}))
+  stepped {x} {d} {at} =
+      fact-mono 𝓤 ((Obs.entryAnswer (x .answer) ≡ d) × (x .at ≡ at))
+      ((x ≡ record { answer = variantOf ObservationRead.the-variants.Record ObservationRead.the-variants.Refused d; at = at }) × Unit {0})
+      (λ p.
+      let q = by-variant Obs.entryAnswer ObservationRead.the-variants.Record ObservationRead.the-variants.Refused variants.one-observation (p .0) in
+      ((λ i. record { answer = q i; at = p .1 i }), tt))
 
   -- ---- an enum alone
 

@@ -9,11 +9,13 @@ use contract.Monad.{Fun}
 use Rattle.frames.specs.Step.{payloadIn}
 use Rattle.phases.specs.Phase.{readPhase}
 use Rattle.observation.specs.Obs.{readEntryOf}
+use Rattle.obs_reader.specs.Reader.{atAfter}
+use Rattle.epochs.specs.Collator.{forPlace}
 use Rattle.listing.specs.Listing.{listAnswer}
 use Rattle.calls.proofs.Giving as by
 use Rattle.capture_calls.specs.CaptureCalls as calls
 
-ruleset givings = (by.plain, by.written-stored, by.reader, by.asked, by.phase-parts)
+ruleset givings = (by.plain, by.written-stored, by.reader, by.asked, by.stepped, by.phase-parts, by.packet-read, by.recognised)
 
 module _ {M : Type 1} (𝓤 : URA M) (H : Heap 𝓤) (A : Atoms 𝓤) (mem : Memory → SProp 𝓤) (run : Routine → Fun 𝓤) where
   pub frames : calls.Frames 𝓤 H A mem run
@@ -21,11 +23,11 @@ module _ {M : Type 1} (𝓤 : URA M) (H : Heap 𝓤) (A : Atoms 𝓤) (mem : Mem
   frames = search givings
 
   pub collators : calls.Collators 𝓤 H A mem run
-  unfolding listAnswer
+  unfolding listAnswer forPlace
   collators = search givings
 
   pub observations : calls.Observations 𝓤 H A mem run
-  unfolding readEntryOf
+  unfolding readEntryOf atAfter
   observations = search givings
 
   pub told : calls.Told 𝓤 H A mem run

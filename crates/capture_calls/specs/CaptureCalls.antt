@@ -24,8 +24,11 @@ use Rattle.phases.specs.Phase.{phaseOf, readingPhase}
 use Rattle.phases.specs.declared.phase.PhaseParts.the-variants as PhaseParts
 use Rattle.observation.specs.Obs.{oneOfFrame}
 use Rattle.observation.specs.declared.entry.ObservationRead.the-variants as ObservationRead
-use Rattle.obs_reader.specs.Reader.{asked}
-use Rattle.epochs.specs.Collator.{fedFrame, made}
+use Rattle.obs_reader.specs.Reader.{movedBy, asked}
+use Rattle.packets.specs.Packet.{packetIn, shape, numbering}
+use Rattle.packets.specs.declared.packet.PacketRead.the-variants as PacketRead
+use Rattle.epochs.specs.declared.recognising.Recognised.the-variants as Recognised
+use Rattle.epochs.specs.Collator.{feeding, fedFrame, made}
 use Rattle.captures.specs.Capture.{collated}
 use Rattle.enlisting.specs.Enlisting.{enlistedTo}
 use Rattle.listing.specs.Listing.{textOf, listing}
@@ -37,6 +40,7 @@ use Rattle.flags.proofs as flags
 use Rattle.phases.proofs as phases
 use Rattle.system.proofs as system
 use Rattle.obs_reader.proofs as obs_reader
+use Rattle.packets.proofs as packets
 use Rattle.epochs.proofs as epochs
 use Rattle.captures.proofs as captures
 use Rattle.enlisting.proofs as enlisting
@@ -66,6 +70,14 @@ module _ {M : Type 1} (𝓤 : URA M) (H : Heap 𝓤) (A : Atoms 𝓤) (mem : Mem
     pub make : Gives 𝓤 epochs.collating.Collator.made.ended (epochs.collating.Collator.made.clauses 𝓤 H A mem run) (λ κs roster. (made (now roster), tt))
     pub feed : Gives 𝓤 epochs.collating.Collator.feed.ended (epochs.collating.Collator.feed.clauses 𝓤 H A mem run)
         (λ κs c kind sender payload. (fedFrame c (record { kind = kind; sender = sender; payload = now payload }), tt))
+    -- a frame recognised for its sender's place, by the roster; and by itself, in two steps
+    pub recognise : Gives 𝓤 epochs.recognise.ended (epochs.recognise.clauses 𝓤 H A mem run)
+        (λ κs roster count kind sender payload.
+        handsBack (λ a. Recognised.For (a .0) (a .1)) Recognised.Refused (feeding (take count roster) (record { kind = kind; sender = sender; payload = now payload })))
+    pub read-packet : Gives 𝓤 packets.read_packet.ended (packets.read_packet.clauses 𝓤 H A mem run)
+        (λ κs kind s. handsBack PacketRead.Record PacketRead.Refused (record { tests = shape kind (now s); value = packetIn (now s) }))
+    pub numbered : Gives 𝓤 packets.numbered.ended (packets.numbered.clauses 𝓤 H A mem run)
+        (λ κs p. handsBack PacketRead.Record PacketRead.Refused (record { tests = numbering p; value = p }))
     pub collate : Gives 𝓤 captures.collate.ended (captures.collate.clauses 𝓤 H A mem run) (λ κs s roster. (collated (now s) (now roster), tt))
     pub enlist : Gives 𝓤 enlisting.enlist.ended (enlisting.enlist.clauses 𝓤 H A mem run) (λ κs c kind sender. (enlistedTo c kind sender, tt))
     pub list : Gives 𝓤 listings.list.ended (listings.list.clauses 𝓤 H A mem run) (λ κs s buf. puts (listing (now s) (length (now buf))) (textOf (now s)) (now buf))
@@ -77,6 +89,10 @@ module _ {M : Type 1} (𝓤 : URA M) (H : Heap 𝓤) (A : Atoms 𝓤) (mem : Mem
         (λ κs reader.
         let r = now reader in
         (variantOf ObservationRead.Record ObservationRead.Refused (reply (oneOfFrame (r .kind) (now (r .payload)) (r .at))), (asked r, tt)))
+    pub step-from : Gives 𝓤 obs_reader.step_from.ended (obs_reader.step_from.clauses 𝓤 H A mem run)
+        (λ κs kind payload at.
+        let a = reply (oneOfFrame kind (now payload) at) in
+        (record { answer = variantOf ObservationRead.Record ObservationRead.Refused a; at = at + movedBy a }, tt))
 
   -- phases, and flags by their bits
   pub record Told : Type 1 where
