@@ -171,6 +171,20 @@ frames-few opened zero p (b ∷ t) = by (stops opened (stepOf p (b ∷ t))) (ste
     by false x rest h = omega (arith, one x (framesOf rest))
 frames-few opened (suc k) p (b ∷ t) = omega (arith, frames-few opened k (suc p) t)
 
+fed-number : (t : Collated) (xs : List Content) → fedAll t xs .number ≡ t .number
+unfolding fedAll
+fed-number t [] = refl
+fed-number t (x ∷ xs) = fed-number (fedInto t x) xs
+
+-- fed or not, the number is the roster's
+pub collated-number : (s roster : List ℕ) → collated s roster .number ≡ made roster .number
+unfolding collated
+collated-number s roster = by (eqb (made roster .number) 0)
+  where
+    by : (t : Bool) → (cond t (fedAll (begun (made roster)) (contentsOf s)) (begun (made roster))) .number ≡ made roster .number
+    by true = fed-number (begun (made roster)) (contentsOf s)
+    by false = refl
+
 module _ (s roster : List ℕ) (ok : made roster .number ≡ 0) where
   whole : collated s roster ≡ fedAll (begun (made roster)) (contentsOf s)
   whole = collated-fed s roster refl ok

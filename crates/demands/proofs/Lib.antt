@@ -15,5 +15,6 @@ pub mod Shuffled
 pub mod Between
 pub mod FlagTables
 pub mod Packets
+pub mod ReportsLeft
 pub mod LinesShown
 pub mod Ordering

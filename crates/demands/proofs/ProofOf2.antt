@@ -23,8 +23,8 @@ use Rattle.epochs.specs.Epoch.{after, reportsOf, Epochs, contentsOf}
 use Rattle.epochs.specs.declared.collating.Report.{Report}
 use Rattle.epochs.proofs.Making.{seated}
 use Rattle.epochs.proofs.Collations.{epochs-in, only-epochs, epoch-outcome, epoch-small, one-epoch, came-to}
-use Rattle.captures.proofs.Captures.{collated-counts}
-use Rattle.text.proofs.Decimals.{decimal-value}
+use Rattle.captures.proofs.Captures.{collated-number, collated-state, collated-counts}
+use Rattle.text.proofs.Decimals.{one-digit, more-digits}
 use Rattle.enlisting.proofs.Growing.{as-of-the-first}
 use Rattle.enlisting.proofs.EightSenders.{first-sent, first-all, first-accepted}
 use Rattle.listing.proofs.EpochLines.{text-lines, text-alone}
@@ -79,6 +79,8 @@ epochs-reported = record {
   capture-reported = λ roster ok s es.
       let came = came-to roster (seated roster ok) [] (contentsOf s) in
       (λ w. only-epochs w _ came, λ e. subst (Epochs roster [] (contentsOf s)) (sym e) (epochs-in [] (contentsOf s) _ came));
+  capture-number = λ roster s. collated-number s roster;
+  capture-end = λ roster ok s. collated-state s roster ok;
   capture-counted = λ roster ok s es small w i below.
       collated-counts s roster ok small i below
       ∙ ap (λ (rs : List Report). length (reportsOf (getD roster i 0) rs)) (sym (only-epochs w _ (came-to roster (seated roster ok) [] (contentsOf s))));
@@ -99,7 +101,8 @@ listing = record {
       shown-line 0x54 _
       ∙ ap₂ (λ (a b : ℕ). 0x54 ∷ shows (length s ∷ a ∷ b ∷ countsOf xs .bad ∷ countsOf xs .short ∷ [])) (counts-are-steps .framed xs) (counts-are-steps .junk xs)
       ∙ ap₂ (λ (a b : ℕ). 0x54 ∷ shows (length s ∷ frameBytesIn xs ∷ junksIn xs ∷ a ∷ b ∷ [])) (counts-are-steps .bad xs) (counts-are-steps .short xs);
-  decimals = decimal-value;
+  one-digit = one-digit;
+  more-digits = more-digits;
   room = room-enough;
   printed = λ s h. rw (le-leb (length s) 65536 h);
   over-long = λ s h. (rw (lt-leb (length s) 65536 h)) ∙ shown-line 0x52 (11 ∷ []);

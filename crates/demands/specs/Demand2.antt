@@ -40,7 +40,7 @@ use Rattle.epochs.specs.Epoch.{ownPacket, after, reports, reportsOf, EndsEpoch,
 use Rattle.captures.specs.Capture.{collated}
 use Rattle.epochs.specs.declared.collating.Report.{Report}
 use Rattle.epochs.specs.declared.collating.Happened.the-variants as H
-use Rattle.text.specs.Decimal.{decimal, valueFrom}
+use Rattle.text.specs.Decimal.{decimal}
 use Rattle.enlisting.specs.FirstEight.{different, obsSendersIn, rosterIn}
 use Rattle.enlisting.specs.Enlisting.{AsOfTheFirst}
 use Rattle.listing.specs.Listing.{frameLine, totalsLine, textOf, listAnswer, withListing, output}
@@ -131,7 +131,9 @@ pub record EpochsReported : Type 0 where
   -- a whole capture, read closed and fed in order to a fresh collator: its epochs are what is reported, each once and in order
   pub capture-reported : (roster : List ℕ) → made roster .number ≡ 0 → (s : List ℕ) (es : List Report)
       → Epochs roster [] (contentsOf s) es ↔ (es ≡ reports (made roster .collator) (contentsOf s))
-  -- `collate` counts them by place
+  -- `collate` answers the roster's number and comes to the same end, and counts the epochs by place
+  pub capture-number : (roster s : List ℕ) → collated s roster .number ≡ made roster .number
+  pub capture-end : (roster : List ℕ) → made roster .number ≡ 0 → (s : List ℕ) → collated s roster .collator ≡ after (made roster .collator) (contentsOf s)
   pub capture-counted : (roster : List ℕ) → made roster .number ≡ 0 → (s : List ℕ) (es : List Report) → length s < 2 ^ 64 → Epochs roster [] (contentsOf s) es
       → (i : ℕ) → i < length roster → getD (collated s roster .reports) i 0 ≡ length (reportsOf (getD roster i 0) es)
 
@@ -161,8 +163,9 @@ pub record Listed : Type 0 where
   pub epoch-line : (e : Report) → epochLine e ≡ 0x45 ∷ shows (e .sender ∷ e .wn ∷ e .tow ∷ e .n ∷ e .observations ∷ [])
   pub totals-line : (s : List ℕ) → let xs = closedSteps s in
       totalsLine s ≡ 0x54 ∷ shows (length s ∷ frameBytesIn xs ∷ junksIn xs ∷ badsIn xs ∷ shortsIn xs ∷ [])
-  -- "numbers in decimal": the digits stand for the number
-  pub decimals : (n : ℕ) → valueFrom 0 (decimal n) ≡ n
+  -- "numbers in decimal": a digit is ASCII's, 48 for 0, and the last stands for the ones
+  pub one-digit : (n : ℕ) → n < 10 → decimal n ≡ (48 + n) ∷ []
+  pub more-digits : (n : ℕ) → 10 ≤ n → decimal n ≡ decimal (n / 10) ++ (48 + n % 10) ∷ []
   -- a buffer of 8 bytes for each of a capture's, and 32, gets the whole text, and keeps the bytes after it
   pub room : (s buf : List ℕ) → Bytes s → length s ≤ 65536 → 8 * length s + 32 ≤ length buf
       → (listAnswer s (length buf) ≡ given (length (textOf s))) × (withListing s buf ≡ textOf s ++ drop (length (textOf s)) buf)

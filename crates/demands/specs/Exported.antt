@@ -7,7 +7,7 @@ use mathlib.Core.List.{List, []}
 use mathlib.Core.Logic.{_↔_}
 use Prim.Native.Nat.{ℕ, _/_, _%_, _≤_, _<_}
 use lib.Dec.{eqb}
-use lib.ListN.{length}
+use lib.ListN.{length, drop}
 use Rattle.frames.specs.Frame.{Content}
 use Rattle.row_reader.specs.ReadsTyped.{AllRead}
 use Rattle.row_writer.specs.WritesTyped.{AllWritten}
@@ -65,6 +65,9 @@ pub record Exported : Type 0 where
   -- `sbp_feed` tells of an epoch, by 1 and the report that the lent bytes show, exactly where the frame ends it
   pub epochs-told : (roster s report : List ℕ) (xs : List Content) → Filled roster s report xs → (x : Content) → AsSent x → (lent : List ℕ) → 11 ≤ length lent
       → (e : Report) → (told (fedIn (afterIn (madeStored roster s) report xs) x lent) ≡ H.Epoch e) ↔ EndsEpoch roster xs x e
+  -- a report has 11 bytes, and no other byte that is lent for it changes; where no epoch is told none does
+  pub report-alone : (state lent : List ℕ) (x : Content) → drop 11 (fedIn state x lent .report) ≡ drop 11 lent
+  pub report-kept : (state lent : List ℕ) (x : Content) → (fedIn state x lent .answer ≡ 1 → ⊥) → fedIn state x lent .report ≡ lent
   -- so the reports that are told are demand 2's epochs in order
   pub epochs-read : (roster s report : List ℕ) (xs : List Content) → Filled roster s report xs → (es : List Report) → Epochs roster [] xs es
       → es ≡ reportsIn (toldIn (madeStored roster s) report xs)

@@ -1,14 +1,14 @@
--- Numbers in decimal: one digit and one more, how many there are, and that they stand for the number.
+-- Numbers in decimal: one digit and one more, and how many there are.
 use mathlib.Core.Path.{_≡_, refl, ap, _∙_}
 use mathlib.Core.Bool.{Bool, true, false}
 use mathlib.Core.List.{List, [], _∷_, _++_}
-use Prim.Native.Nat.{ℕ, zero, suc, _+_, _*_, _-_, _/_, _%_, _^_, _≤_, _<_}
+use Prim.Native.Nat.{ℕ, zero, suc, _+_, _/_, _%_, _^_, _≤_, _<_}
 use native.Mathlib.Omega.{arith}
 use native.Mathlib.Nat.{pow-suc}
 use lib.Dec.{ltb}
 use lib.ListN.{length, length-append}
 use borrow.Author.Tests.{lt-ltb, le-ltb, ltb-true, ltb-false}
-use Rattle.text.specs.Decimal.{digit, digitsOf, decimal, valueFrom}
+use Rattle.text.specs.Decimal.{digit, digitsOf, decimal}
 
 -- how many digits are allowed for does not matter once they are enough
 enough : (j k n : ℕ) → n < j → n < k → digitsOf j n ≡ digitsOf k n
@@ -54,24 +54,3 @@ some-digit n = by (ltb n 10) refl
     by : (t : Bool) → ltb n 10 ≡ t → 1 ≤ length (decimal n)
     by true e = omega (arith, one-long n (ltb-true n 10 e))
     by false e = omega (arith, one-longer n (ltb-false n 10 e))
-
--- ---- the digits stand for the number
-
-value-more : (m : ℕ) (ds : List ℕ) (d : ℕ) → valueFrom m (ds ++ digit d ∷ []) ≡ valueFrom m ds * 10 + d
-unfolding valueFrom
-value-more m [] d = omega arith
-value-more m (x ∷ ds) d = value-more (m * 10 + (x - 48)) ds d
-
-worth : (k n : ℕ) → n < k → valueFrom 0 (digitsOf k n) ≡ n
-unfolding digitsOf valueFrom
-worth zero n h = absurd (omega arith)
-worth (suc k) n h = by (ltb n 10) refl (λ l. worth k (n / 10) l)
-  where
-    by : (t : Bool) → ltb n 10 ≡ t → (n / 10 < k → valueFrom 0 (digitsOf k (n / 10)) ≡ n / 10) → valueFrom 0 (digitsOf (suc k) n) ≡ n
-    by true e rest = rw e (omega arith)
-    by false e rest =
-        let big = ltb-false n 10 e in
-        rw e (value-more 0 (digitsOf k (n / 10)) (n % 10) ∙ ap (λ (v : ℕ). v * 10 + n % 10) (rest (omega arith)) ∙ omega arith)
-
-pub decimal-value : (n : ℕ) → valueFrom 0 (decimal n) ≡ n
-decimal-value n = worth (suc n) n (omega arith)

@@ -15,8 +15,3 @@ digitsOf (suc k) n = cond (ltb n 10) (digit n ∷ []) (digitsOf k (n / 10) ++ di
 -- n has at most n + 1 digits
 abbrev pub decimal : ℕ → List ℕ
 decimal n = digitsOf (suc n) n
-
--- what digits stand for, those before them being worth n
-unfoldable pub valueFrom : ℕ → List ℕ → ℕ
-valueFrom n [] = n
-valueFrom n (d ∷ ds) = valueFrom (n * 10 + (d - 48)) ds
