@@ -14,12 +14,12 @@ use Rattle.frames.proofs.NextAnswers.{said, led, led-end, led-needs}
 use Rattle.demands.specs.Handed.{Stops, Handed}
 
 module _ (opened : Bool) (s : List ℕ) (small : length s < 2 ^ 64) where
-  stopped : {fs : List Frame} {c : Cursor} {n : Next.Next} → Led opened s fs c → nextOf s c ≡ n → Stops opened n
+  stopped : {fs : List Frame} {c : Cursor} {n : Next.Next} → Led opened s fs c → nextOf s c ≡ n → Stops opened s n
       → (fs ≡ framesOf (steps opened s 0)) × (countsIn (after n) ≡ countsOf (steps opened s 0)) → Handed opened s
   stopped {c = c} l e stop all = record {
     last = c;
     frames = subst (λ (fs : List Frame). Led opened s fs c) (all .0) l;
-    stops = subst (Stops opened) (sym e) stop;
+    stops = subst (Stops opened s) (sym e) stop;
     counts = ap (λ (n : Next.Next). countsIn (after n)) e ∙ all .1;
   }
 
@@ -32,8 +32,8 @@ module _ (opened : Bool) (s : List ℕ) (small : length s < 2 ^ 64) where
 
       by : (n : Next.Next) → nextOf s c ≡ n → Handed opened s
       by (Next.the-variants.Frame f d) e = rest f d (more l e) (omega (arith, ap length (says e)))
-      by (Next.the-variants.End d) e = stopped l e tt (led-end s small opened l e)
-      by (Next.the-variants.Needs n d) e = stopped l e (says e .2) (led-needs s small opened l e)
+      by (Next.the-variants.End d) e = stopped l e (says e .1) (led-end s small opened l e)
+      by (Next.the-variants.Needs n d) e = stopped l e (says e .2, says e .1) (led-needs s small opened l e)
 
   within : (k : ℕ) (fs : List Frame) (c : Cursor) → Led opened s fs c → length (remaining opened s c) ≤ k → Handed opened s
   within zero fs c l few = turn fs c l (λ f d on fewer. absurd (omega arith))

@@ -14,6 +14,8 @@ pub mod Room
 pub mod Shuffled
 pub mod Between
 pub mod FlagTables
+pub mod OffTheCall
+pub mod Shorts
 pub mod Packets
 pub mod ReportsLeft
 pub mod LinesShown

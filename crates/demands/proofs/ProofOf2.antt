@@ -1,11 +1,14 @@
 -- Demand 2 holds, all of it by citations.
-use mathlib.Core.Path.{refl, sym, ap, ap₂, _∙_, subst}
+use mathlib.Core.Path.{_≡_, refl, sym, ap, ap₂, _∙_, subst}
 use mathlib.Core.List.{List, [], _∷_}
 use Prim.Native.Nat.{ℕ}
 use native.Mathlib.Omega.{arith}
 use lib.ListN.{length, getD}
 use Rattle.frames.specs.Reading.{closedSteps, Tiled, countsOf}
-use borrow.Author.Tests.{le-leb, lt-leb}
+use borrow.Author.Tests.{le-leb, lt-leb, eq-eqb, ne-eqb}
+use Rattle.frames.specs.Frame.{Content}
+use Rattle.observation.specs.Edition.{isObs}
+use Rattle.enlisting.specs.FirstEight.{obsSenders}
 use Rattle.frames.specs.Decides.{Decides}
 use Rattle.frames.proofs.Steps.{only, decided}
 use Rattle.frames.proofs.Frames.{found-bytes}
@@ -35,10 +38,17 @@ use Rattle.demands.proofs.AllHanded.{handed-out}
 use Rattle.demands.proofs.Room.{room-enough}
 use Rattle.demands.proofs.Packets.{well-formed, report-numbers}
 use Rattle.demands.proofs.LinesShown.{shown-line}
+use Rattle.demands.proofs.Shorts.{needs-more}
+
+obs-senders : (x : Content) (xs : List Content)
+    → (x .kind ≡ 0x0049 → obsSenders (x ∷ xs) ≡ x .sender ∷ obsSenders xs) × ((x .kind ≡ 0x0049 → ⊥) → obsSenders (x ∷ xs) ≡ obsSenders xs)
+unfolding obsSenders isObs
+obs-senders x xs = (λ e. rw (eq-eqb (x .kind) 0x0049 e), λ e. rw (ne-eqb (x .kind) 0x0049 e))
 
 frames-found : FramesFound
 frames-found = record {
   five-lines = λ s p x. (λ e. subst (Decides s p) e (decided s p), λ l. sym (only s p l));
+  needs-more = needs-more;
   closed-reading = λ s xs. (only-closed s, λ e. subst (Tiled s 0 (length s)) (sym e) (closed-tiled s));
   open-reading = open-closed;
   handed-out = handed-out;
@@ -89,6 +99,7 @@ epochs-reported = record {
 listing : Listed
 listing = record {
   roster = λ s. refl;
+  obs-senders = obs-senders;
   roster-names = λ s sender. (first-sent (contentsOf s) sender, first-all (contentsOf s) sender);
   roster-grows = as-of-the-first;
   roster-taken = λ s. first-accepted (contentsOf s);

@@ -9,16 +9,17 @@ use Prim.Native.Nat.{ℕ, _+_, _≤_, _<_}
 use lib.ListN.{length}
 use denote.Ref.{now}
 use Rattle.wire.specs.Number.{bytesStored}
-use Rattle.refusals.specs.Refusals.{refused, given, Call, reply, leaves, asNumber, FirstFails, AllPass}
+use Rattle.refusals.specs.Refusals.{refused, given, Call, reply, leaves, asNumber, zeroOr, FirstFails, AllPass}
 use Rattle.frames.specs.Frame.{Content}
 use Rattle.observation.specs.Obs.{readEntryOf}
 use Rattle.obs_reader.specs.Reader.{asked}
 use Rattle.obs_reader.specs.declared.ObsReader.{ObsReader}
-use Rattle.epochs.specs.Collator.{fedFrame, fresh, made}
+use Rattle.epochs.specs.Collator.{feeding, rosterOf, fedFrame, fresh, rostering, made}
 use Rattle.epochs.specs.Epoch.{after}
 use Rattle.captures.specs.Capture.{begun, collated}
 use Rattle.epochs.specs.declared.collating.Collator.{Collator}
 use Rattle.epochs.specs.declared.collating.Happened.the-variants as H
+use Rattle.states.specs.Feed.{feedingIn, fedIn}
 use Rattle.demands.specs.Order.{Order, LinkedOrder}
 
 -- "a roster, payload, index or buffer that doesn't fit is refused by number"
@@ -41,6 +42,14 @@ pub record WritesNothing : Type 1 where
   -- bytes to store, a line of text among them, have no number to be refused by: where they have no room, nothing is written
   pub unfit-bytes : (bs buf : List ℕ) (at : ℕ) → length buf < at + length bs → bytesStored bs buf at ≡ buf
 
+-- what a collator answers and leaves is read off its call too
+pub record ReadOff : Type 0 where
+  pub made-number : (roster : List ℕ) → made roster .number ≡ zeroOr (reply (rostering roster))
+  pub fed-refused : (c : Collator) (x : Content) (n : ℕ) → (fedFrame c x .happened ≡ H.Refused n) ↔ FirstFails (feeding (rosterOf c) x .tests) n
+  pub fed-number : (state report : List ℕ) (x : Content) (n : ℕ) → 11 ≤ n → (fedIn state x report .answer ≡ n) ↔ FirstFails (feedingIn state (length report) x .tests) n
+  pub fed-untouched : (state report : List ℕ) (x : Content) (n : ℕ) → FirstFails (feedingIn state (length report) x .tests) n
+      → (fedIn state x report .state ≡ state) × (fedIn state x report .report ≡ report)
+
 -- "and moves no state"
 pub record MovesNoState : Type 0 where
   pub refused-frame : (c : Collator) (x : Content) (n : ℕ) → fedFrame c x .happened ≡ H.Refused n → fedFrame c x .collator ≡ c
@@ -54,4 +63,5 @@ pub record MovesNoState : Type 0 where
 pub record Demand1 : Type 1 where
   pub refused-by-number : RefusedByNumber
   pub writes-nothing : WritesNothing
+  pub read-off : ReadOff
   pub moves-no-state : MovesNoState

@@ -19,7 +19,7 @@ use Rattle.frame_writer.specs.Writer.{asRead, foundFrom}
 use Rattle.frames.specs.Decides.{Decides}
 use Rattle.frames.specs.declared.step.Frame.{Frame}
 use Rattle.frames.specs.declared.step.Step.{Step}
-use Rattle.frames.specs.declared.step.Step.the-variants.{Found}
+use Rattle.frames.specs.declared.step.Step.the-variants.{Short, Found}
 use Rattle.observation.specs.Edition.{first}
 use Rattle.observation.specs.Obs.{readObs}
 use Rattle.obs_writer.specs.ObsFaithful.{ObsFaithful}
@@ -41,7 +41,7 @@ use Rattle.captures.specs.Capture.{collated}
 use Rattle.epochs.specs.declared.collating.Report.{Report}
 use Rattle.epochs.specs.declared.collating.Happened.the-variants as H
 use Rattle.text.specs.Decimal.{decimal}
-use Rattle.enlisting.specs.FirstEight.{different, obsSendersIn, rosterIn}
+use Rattle.enlisting.specs.FirstEight.{obsSenders, different, obsSendersIn, rosterIn}
 use Rattle.enlisting.specs.Enlisting.{AsOfTheFirst}
 use Rattle.listing.specs.Listing.{frameLine, totalsLine, textOf, listAnswer, withListing, output}
 use Rattle.listing.specs.Words.{Lines}
@@ -53,6 +53,8 @@ use Rattle.demands.specs.Handed.{Handed}
 pub record FramesFound : Type 0 where
   -- at every position the first of the five lines that holds decides
   pub five-lines : (s : List ℕ) (p : ℕ) (x : Step) → (stepAt s p ≡ x) ↔ Decides s p x
+  -- what a short needs is not there yet
+  pub needs-more : (s : List ℕ) (p n : ℕ) → stepAt s p ≡ Short n → length s < p + n
   -- closed reading goes from 0 to the end by the capture's own steps, each from where the one before ended, and no other steps do
   pub closed-reading : (s : List ℕ) (xs : List Positioned) → Tiled s 0 (length s) xs ↔ (xs ≡ closedSteps s)
   -- open reading is the same up to the first short
@@ -146,6 +148,8 @@ shows (n ∷ ns) = 0x20 ∷ decimal n ++ shows ns
 pub record Listed : Type 0 where
   -- "The roster is the first eight different senders of frames of type 0x0049, malformed ones too, in order of appearance"
   pub roster : (s : List ℕ) → rosterIn s ≡ take 8 (different [] (obsSendersIn s))
+  pub obs-senders : (x : Content) (xs : List Content)
+      → (x .kind ≡ 0x0049 → obsSenders (x ∷ xs) ≡ x .sender ∷ obsSenders xs) × ((x .kind ≡ 0x0049 → ⊥) → obsSenders (x ∷ xs) ≡ obsSenders xs)
   -- so it names only such senders, and every one of them while it has room
   pub roster-names : (s : List ℕ) (sender : ℕ)
       → (names (rosterIn s) sender ≡ true → names (obsSendersIn s) sender ≡ true)
