@@ -18,5 +18,6 @@ pub mod OffTheCall
 pub mod Shorts
 pub mod Packets
 pub mod ReportsLeft
+pub mod StatesLeft
 pub mod LinesShown
 pub mod Ordering

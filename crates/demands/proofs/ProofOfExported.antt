@@ -19,6 +19,7 @@ use Rattle.rows_back.proofs.LogProof.{log-rows}
 use Rattle.demands.specs.Exported.{Exported}
 use Rattle.demands.proofs.FlagTables.{flags-by-type}
 use Rattle.demands.proofs.ProofOf3.{reported}
+use Rattle.demands.proofs.StatesLeft.{other-bytes}
 use Rattle.demands.proofs.ReportsLeft.{report-alone, report-kept}
 
 pub exported : Exported
@@ -26,6 +27,7 @@ exported = record {
   frames-told = frames-told;
   rows-follow = rows-follow;
   epochs-told = tells-epoch;
+  other-bytes = other-bytes;
   report-alone = report-alone;
   report-kept = report-kept;
   epochs-read = λ roster s report xs f es w. reported roster (f .taken) xs es w ∙ ap reportsIn (sym (told-made roster s report xs f));

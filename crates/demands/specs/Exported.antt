@@ -19,6 +19,7 @@ use Rattle.frame_writer.specs.Given.{sentBy}
 use Rattle.flag_numbers.specs.Flagged.{fixAnswer, availableAnswer, repairedAnswer, aboveSeaAnswer}
 use Rattle.places.specs.State.{stateIn}
 use Rattle.states.specs.Feed.{madeStored, fedIn, afterIn}
+use Rattle.states.specs.Enlist.{growingStored, enlistStored}
 use Rattle.told.specs.Told.{AsSent, told, toldIn, Filled}
 use Rattle.told.specs.Growing.{Grows}
 use Rattle.frames_told.specs.FramesTold.{FramesTold}
@@ -55,6 +56,14 @@ pub record FlagsByType : Type 0 where
   pub above-sea : (flags : ℕ) → aboveSeaAnswer 0x0201 flags ≡ flags / 8 % 2
   pub above-sea-others : (kind flags : ℕ) → (kind ≡ 0x0201 → ⊥) → aboveSeaAnswer kind flags ≡ 21
 
+-- ---- a collator has 105 bytes, and no other byte that is lent for it changes
+
+pub record OtherBytes : Type 0 where
+  pub collator : (roster s : List ℕ) → drop 105 (madeStored roster s) ≡ drop 105 s
+  pub growing-collator : (s : List ℕ) → drop 105 (growingStored s) ≡ drop 105 s
+  pub enlist : (s : List ℕ) (kind sender : ℕ) → drop 105 (enlistStored s kind sender) ≡ drop 105 s
+  pub feed : (s : List ℕ) (x : Content) (report : List ℕ) → drop 105 (fedIn s x report .state) ≡ drop 105 s
+
 -- ---- all of them
 
 pub record Exported : Type 0 where
@@ -65,6 +74,7 @@ pub record Exported : Type 0 where
   -- `sbp_feed` tells of an epoch, by 1 and the report that the lent bytes show, exactly where the frame ends it
   pub epochs-told : (roster s report : List ℕ) (xs : List Content) → Filled roster s report xs → (x : Content) → AsSent x → (lent : List ℕ) → 11 ≤ length lent
       → (e : Report) → (told (fedIn (afterIn (madeStored roster s) report xs) x lent) ≡ H.Epoch e) ↔ EndsEpoch roster xs x e
+  pub other-bytes : OtherBytes
   -- a report has 11 bytes, and no other byte that is lent for it changes; where no epoch is told none does
   pub report-alone : (state lent : List ℕ) (x : Content) → drop 11 (fedIn state x lent .report) ≡ drop 11 lent
   pub report-kept : (state lent : List ℕ) (x : Content) → (fedIn state x lent .answer ≡ 1 → ⊥) → fedIn state x lent .report ≡ lent

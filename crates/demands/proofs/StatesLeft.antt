@@ -1,0 +1,129 @@
+-- What the calls of a collator leave of the bytes after its own.
+use mathlib.Core.Path.{_≡_, refl, sym, ap, _∙_}
+use mathlib.Core.Bool.{Bool, true, false, cond}
+use mathlib.Core.List.{List, [], _∷_}
+use Prim.Native.Nat.{ℕ, zero, suc, _+_, _*_, _≤_, _<_}
+use native.Mathlib.Omega.{arith}
+use lib.Dec.{leb}
+use lib.ListN.{length, drop, set}
+use lib.Seq.{sets, drop-set-lt}
+use borrow.Author.Tests.{leb-false}
+use Rattle.wire.specs.Number.{bytesOf, storedAt}
+use Rattle.wire.specs.Value.{width, bitsOf}
+use Rattle.wire.proofs.Numbers.{length-bytesOf}
+use Rattle.refusals.specs.Refusals.{given, refused, Answer, leaves}
+use Rattle.refusals.proofs.Ordered.{exactly-all}
+use Rattle.layouts.specs.Field.{Field, Row, formatOf, size, rowStored}
+use Rattle.lent_rows.specs.Lent.{firstRowsStored}
+use Rattle.frames.specs.Frame.{Content}
+use Rattle.packets.specs.declared.packet.Packet.{Packet}
+use Rattle.observation.specs.Edition.{isObs}
+use Rattle.epochs.specs.Search.{seatOf}
+use Rattle.epochs.specs.Collator.{feeding, ownPlace, forPlace, rosterOf}
+use Rattle.epochs.specs.declared.seating.Seat.{Seat}
+use Rattle.epochs.specs.declared.seating.Seat.the-variants.{At, Nowhere}
+use Rattle.epochs.specs.declared.collating.Collator.{Collator}
+use Rattle.epochs.specs.declared.collating.Place.{Place}
+use Rattle.places.specs.State.{slotFields, seatFields, countFields, slotRow, slotOf, seatRow, placeRow, sendersIn, countStored, placeStored, collatorStored, seatsStored, stateIn}
+use Rattle.states.specs.Feed.{madeIn, madeStored, feedingIn, forPlaceIn, stepIn, cameOut, fedIn}
+use Rattle.states.specs.Enlist.{growingIn, growingStored, seatTaken, seatedBy, joinedIn, enlistedIn, enlistIn, enlistStored}
+use Rattle.states.proofs.Feeds.{eight}
+use Rattle.demands.specs.Exported.{OtherBytes}
+
+-- ---- a store leaves what stands after it
+
+after-sets : (m : ℕ) (vs s : List ℕ) (at : ℕ) → at + length vs ≤ m → drop m (sets s at vs) ≡ drop m s
+after-sets m [] s at h = refl
+after-sets m (v ∷ vs) s at h = after-sets m vs (set s at v) (suc at) (omega (arith, h)) ∙ drop-set-lt m s at v (omega (arith, h))
+
+after-number : (m w n : ℕ) (s : List ℕ) (at : ℕ) → at + w ≤ m → drop m (storedAt w n s at) ≡ drop m s
+unfolding storedAt
+after-number m w n s at h = by (leb (at + w) (length s))
+  where
+    by : (t : Bool) → drop m (cond t (sets s at (bytesOf w n)) s) ≡ drop m s
+    by true = after-sets m (bytesOf w n) s at (omega (arith, h, length-bytesOf w n))
+    by false = refl
+
+after-row : (m : ℕ) (fs : List Field) (v : Row fs) (s : List ℕ) (at : ℕ) → at + size fs ≤ m → drop m (rowStored fs v s at) ≡ drop m s
+after-row m [] v s at h = refl
+after-row m (f ∷ fs) v s at h =
+    let w = width (formatOf f) in
+    after-row m fs (v .1) (storedAt w (bitsOf (formatOf f) (v .0)) s at) (at + w) (omega (arith, h)) ∙ after-number m w (bitsOf (formatOf f) (v .0)) s at (omega (arith, h))
+
+after-rows : (m : ℕ) (fs : List Field) (row : ℕ → Row fs) (k : ℕ) (s : List ℕ) (at : ℕ) → at + k * size fs ≤ m → drop m (firstRowsStored fs row k s at) ≡ drop m s
+unfolding firstRowsStored
+after-rows m fs row zero s at h = refl
+after-rows m fs row (suc k) s at h =
+    after-row m fs (row k) (firstRowsStored fs row k s at) (at + k * size fs) (omega (arith, h)) ∙ after-rows m fs row k s at (omega (arith, h))
+
+-- ---- a collator of 105 bytes
+
+after-count : (n : ℕ) (s : List ℕ) → drop 105 (countStored n s) ≡ drop 105 s
+after-count n s = after-row 105 countFields (n, tt) s 0 (omega arith)
+
+after-collator : (c : Collator) (s : List ℕ) → drop 105 (collatorStored c s) ≡ drop 105 s
+after-collator c s =
+    after-rows 105 slotFields (placeRow (c .places)) 8 (seatsStored (c .roster) (countStored (c .count) s)) 17 (omega arith)
+    ∙ after-rows 105 seatFields (seatRow (c .roster)) 8 (countStored (c .count) s) 1 (omega arith)
+    ∙ after-count (c .count) s
+
+after-stored : (a : Answer Collator) (s : List ℕ) → drop 105 (leaves collatorStored a s) ≡ drop 105 s
+after-stored (given c) s = after-collator c s
+after-stored (refused n) s = refl
+
+-- a seat that is taken is one of eight
+module _ (s : List ℕ) (sender : ℕ) where
+  after-seat : (seat : Seat) → drop 105 (seatedBy seat s sender) ≡ drop 105 s
+  unfolding seatTaken
+  after-seat (At i) = refl
+  after-seat Nowhere = by (leb 8 (sendersIn s)) refl
+    where
+      by : (t : Bool) → leb 8 (sendersIn s) ≡ t → drop 105 (cond t s (seatTaken s sender)) ≡ drop 105 s
+      by true e = refl
+      by false e =
+          let at = 1 + sendersIn s * 2 in
+          after-count (sendersIn s + 1) (rowStored seatFields (sender, tt) s at)
+          ∙ after-row 105 seatFields (sender, tt) s at (omega (arith, leb-false 8 (sendersIn s) e))
+
+  after-enlisted : (kind : ℕ) → drop 105 (enlistedIn s kind sender) ≡ drop 105 s
+  unfolding enlistedIn
+  after-enlisted kind = by (isObs kind)
+    where
+      by : (t : Bool) → drop 105 (cond t (joinedIn s sender) s) ≡ drop 105 s
+      by true = after-seat (seatOf (rosterOf (stateIn s)) sender 0)
+      by false = refl
+
+module _ (s : List ℕ) (x : Content) (report : List ℕ) where
+  -- a packet's place is one of eight
+  place-below : {t : ℕ × Packet} → forPlaceIn s (length report) x ≡ given t → t .0 < 8
+  unfolding forPlaceIn forPlace
+  place-below {t} e =
+      let roster = rosterOf (stateIn s) in
+      let all = exactly-all (ownPlace roster x) (feedingIn s (length report) x .tests) t .0 e in
+      eight s x (exactly-all (ownPlace roster x) (feeding roster x .tests) t .1 (all .0 .1 .1, all .1))
+
+  after-fed : drop 105 (fedIn s x report .state) ≡ drop 105 s
+  unfolding fedIn
+  after-fed = by (forPlaceIn s (length report) x) refl
+    where
+      by : (a : Answer (ℕ × Packet)) → forPlaceIn s (length report) x ≡ a → drop 105 (cameOut s x report a .state) ≡ drop 105 s
+      by (refused n) e = refl
+      by (given t) e =
+          let place : Place = record { run = stepIn s (t .0) (t .1) .run } in
+          after-row 105 slotFields (slotRow (slotOf place)) s (17 + t .0 * 11) (omega (arith, place-below e))
+
+after-answer : (s : List ℕ) (kind sender : ℕ) → drop 105 (enlistStored s kind sender) ≡ drop 105 s
+unfolding enlistIn
+after-answer s kind sender = by (leb 105 (length s))
+  where
+    by : (t : Bool) → drop 105 (leaves (λ (t was : List ℕ). t) (cond t (given (enlistedIn s kind sender)) (refused 32)) s) ≡ drop 105 s
+    by true = after-enlisted s sender kind
+    by false = refl
+
+pub other-bytes : OtherBytes
+other-bytes = record {
+  collator = λ roster s. after-stored (madeIn roster (length s)) s;
+  growing-collator = λ s. after-stored (growingIn (length s)) s;
+  enlist = after-answer;
+  feed = after-fed;
+}
