@@ -33,7 +33,7 @@ use Rattle.epochs.specs.declared.collating.Report.{Report}
 use Rattle.epochs.specs.declared.collating.Happened.{Happened}
 use Rattle.epochs.specs.declared.collating.Happened.the-variants as H
 use Rattle.captures.specs.declared.capturing.Collated.{Collated}
-use Rattle.epochs.proofs.Searches.{seat-named, seat-own}
+use Rattle.epochs.proofs.Searches.{seat-named, seat-own, seat-below}
 use Rattle.epochs.proofs.Making.{seated, made-seated}
 use Rattle.epochs.proofs.Feeding.{fed-lists}
 use Rattle.epochs.proofs.Senders.{roster-kept}
@@ -153,6 +153,24 @@ module _ (roster : List ℕ) (once : repeats roster ≡ false) (few : length ros
       all-counted (fedInto t x) (fed-lists c x ∙ e) (counted-size c (f .happened) (t .reports) ∙ size) xs next
       ∙ one-counted c e (f .happened) (t .reports) size fits (reports (f .collator) xs)
 
+-- a place that the roster does not reach counts nothing
+module _ (roster : List ℕ) (i : ℕ) (past : length roster ≤ i) where
+  one-idle : (c : Collator) → rosterOf c ≡ roster → (h : Happened) (counts : List ℕ) → getD (counted c h counts) i 0 ≡ getD counts i 0
+  one-idle c e (H.Refused n) counts = refl
+  one-idle c e H.Taken counts = refl
+  one-idle c e (H.Epoch r) counts = by (seatOf (rosterOf c) (r .sender) 0) refl
+    where
+      by : (seat : Seat) → seatOf (rosterOf c) (r .sender) 0 ≡ seat → getD (oneMore counts seat) i 0 ≡ getD counts i 0
+      by Nowhere q = refl
+      by (At j) q =
+          let below = seat-below (rosterOf c) (r .sender) 0 q .1 in
+          getD-set-other counts j i _ 0 (λ same. omega (arith, below, ap length e, past, same))
+
+  all-idle : (t : Collated) → rosterOf (t .collator) ≡ roster → (xs : List Content) → getD (fedAll t xs .reports) i 0 ≡ getD (t .reports) i 0
+  unfolding fedAll
+  all-idle t e [] = refl
+  all-idle t e (x ∷ xs) = all-idle (fedInto t x) (fed-lists (t .collator) x ∙ e) xs ∙ one-idle (t .collator) e (fedFrame (t .collator) x .happened) (t .reports)
+
 -- a capture has no more frames than bytes
 frames-few : (opened : Bool) (k p : ℕ) (t : List ℕ) → length (framesOf (readFrom opened k p t)) ≤ length t
 unfolding readFrom framesOf
@@ -185,6 +203,11 @@ collated-number s roster = by (eqb (made roster .number) 0)
     by true = fed-number (begun (made roster)) (contentsOf s)
     by false = refl
 
+none-of : (n i : ℕ) → _≡_ {A = ℕ} (getD (replicate n 0) i 0) 0
+none-of zero i = refl
+none-of (suc n) zero = refl
+none-of (suc n) (suc i) = none-of n i
+
 module _ (s roster : List ℕ) (ok : made roster .number ≡ 0) where
   whole : collated s roster ≡ fedAll (begun (made roster)) (contentsOf s)
   whole = collated-fed s roster refl ok
@@ -192,6 +215,12 @@ module _ (s roster : List ℕ) (ok : made roster .number ≡ 0) where
   -- the end state is that of the capture's frames
   pub collated-state : collated s roster .collator ≡ after (made roster .collator) (contentsOf s)
   collated-state = ap (λ (t : Collated). t .collator) whole ∙ fed-after (begun (made roster)) (contentsOf s)
+
+  pub collated-idle : (i : ℕ) → length roster ≤ i → getD (collated s roster .reports) i 0 ≡ 0
+  collated-idle i past =
+      let is = seated roster ok in
+      let listed : rosterOf (made roster .collator) ≡ roster = ap rosterOf (made-seated roster is) ∙ roster-kept roster (is .few) (λ (k : ℕ). []) in
+      ap (λ (t : Collated). getD (t .reports) i 0) whole ∙ all-idle roster i past (begun (made roster)) listed (contentsOf s) ∙ none-of 8 i
 
   -- and each place's count is the number of its sender's reports
   pub collated-counts : length s < 2 ^ 64 → (i : ℕ) → i < length roster

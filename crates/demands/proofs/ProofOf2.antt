@@ -1,7 +1,7 @@
 -- Demand 2 holds, all of it by citations.
 use mathlib.Core.Path.{_≡_, refl, sym, ap, ap₂, _∙_, subst}
 use mathlib.Core.List.{List, [], _∷_}
-use Prim.Native.Nat.{ℕ}
+use Prim.Native.Nat.{ℕ, _<_}
 use native.Mathlib.Omega.{arith}
 use lib.ListN.{length, getD}
 use Rattle.frames.specs.Reading.{closedSteps, Tiled, countsOf}
@@ -16,6 +16,11 @@ use Rattle.frames.proofs.Tiling.{closed-tiled, only-closed, open-closed, each-o
 use Rattle.frame_writer.proofs.WrittenRead.{reads-back-at}
 use Rattle.frame_writer.proofs.WrittenStream.{closed-stream, stream-payloads}
 use Rattle.obs_writer.proofs.ObsThrough.{obs-faithful}
+use lib.IntN.{ℤ, pos, negsuc}
+use Rattle.refusals.specs.Refusals.{given}
+use Rattle.refusals.proofs.Ordered.{exactly-all}
+use Rattle.phases.specs.Phase.{phaseOf, partsOf, readingPhase, readPhase}
+use Rattle.phases.specs.declared.phase.Phase.{Phase}
 use Rattle.phases.proofs.Phases.{phase-parts, parts-phase}
 use Rattle.logs.proofs.Logs.{log-faithful}
 use Rattle.obs_reader.proofs.HandedOut.{whole-walk}
@@ -26,7 +31,7 @@ use Rattle.epochs.specs.Epoch.{after, reportsOf, Epochs, contentsOf}
 use Rattle.epochs.specs.declared.collating.Report.{Report}
 use Rattle.epochs.proofs.Making.{seated}
 use Rattle.epochs.proofs.Collations.{epochs-in, only-epochs, epoch-outcome, epoch-small, one-epoch, came-to}
-use Rattle.captures.proofs.Captures.{collated-number, collated-state, collated-counts}
+use Rattle.captures.proofs.Captures.{collated-number, collated-state, collated-idle, collated-counts}
 use Rattle.text.proofs.Decimals.{one-digit, more-digits}
 use Rattle.enlisting.proofs.Growing.{as-of-the-first}
 use Rattle.enlisting.proofs.EightSenders.{first-sent, first-all, first-accepted}
@@ -39,6 +44,16 @@ use Rattle.demands.proofs.Room.{room-enough}
 use Rattle.demands.proofs.Packets.{well-formed, report-numbers}
 use Rattle.demands.proofs.LinesShown.{shown-line}
 use Rattle.demands.proofs.Shorts.{needs-more}
+
+few-parts : (z : ℤ) → partsOf z .«l_f» < 256
+few-parts (pos n) = omega arith
+few-parts (negsuc n) = omega arith
+
+phase-read : (z : ℤ) (p : Phase) → readPhase z ≡ given p → (phaseOf p ≡ z) × (p .«l_f» < 256)
+unfolding readPhase
+phase-read z p e =
+    let same : partsOf z ≡ p = exactly-all (partsOf z) (readingPhase z .tests) p .0 e .1 in
+    (ap phaseOf (sym same) ∙ phase-parts z, subst (λ (p : Phase). p .«l_f» < 256) same (few-parts z))
 
 obs-senders : (x : Content) (xs : List Content)
     → (x .kind ≡ 0x0049 → obsSenders (x ∷ xs) ≡ x .sender ∷ obsSenders xs) × ((x .kind ≡ 0x0049 → ⊥) → obsSenders (x ∷ xs) ≡ obsSenders xs)
@@ -73,6 +88,7 @@ read-and-written = record {
   log-read = log-read;
   obs-asked = asked-times;
   obs-walk = whole-walk;
+  phase-read = phase-read;
   phase-of = λ p. refl;
   phase = (phase-parts, parts-phase);
 }
@@ -90,6 +106,7 @@ epochs-reported = record {
       let came = came-to roster (seated roster ok) [] (contentsOf s) in
       (λ w. only-epochs w _ came, λ e. subst (Epochs roster [] (contentsOf s)) (sym e) (epochs-in [] (contentsOf s) _ came));
   capture-number = λ roster s. collated-number s roster;
+  capture-others = λ roster ok s. collated-idle s roster ok;
   capture-end = λ roster ok s. collated-state s roster ok;
   capture-counted = λ roster ok s es small w i below.
       collated-counts s roster ok small i below

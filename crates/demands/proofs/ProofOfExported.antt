@@ -1,5 +1,5 @@
 -- The demands hold of the functions that C and Rust link, all of it by citations.
-use mathlib.Core.Path.{_≡_, sym, ap, _∙_}
+use mathlib.Core.Path.{_≡_, refl, sym, ap, _∙_}
 use mathlib.Core.List.{List}
 use borrow.Author.Tests.{lt-ltb, le-ltb}
 use Rattle.row_reader.proofs.EachRead.{all-read}
@@ -38,6 +38,8 @@ exported = record {
   same-state = λ roster s t report other xs ys f g same.
       stands roster s report xs f ∙ same-state roster (seated roster (f .taken)) xs ys same ∙ sym (stands roster t other ys g);
   growing = grows;
+  named = λ n. refl;
+  unnamed = refl;
   sender-given = λ n h. rw (lt-ltb n 65536 h);
   sender-none = λ n h. rw (le-ltb n 65536 h);
   rows-read = all-read;

@@ -23,7 +23,7 @@ use Rattle.frames.specs.declared.step.Step.the-variants.{Short, Found}
 use Rattle.observation.specs.Edition.{first}
 use Rattle.observation.specs.Obs.{readObs}
 use Rattle.obs_writer.specs.ObsFaithful.{ObsFaithful}
-use Rattle.phases.specs.Phase.{phaseOf, partsOf}
+use Rattle.phases.specs.Phase.{phaseOf, partsOf, readPhase}
 use Rattle.phases.specs.declared.phase.Phase.{Phase}
 use Rattle.logs.specs.Log as system
 use Rattle.logs.specs.Log.{readLog}
@@ -92,6 +92,7 @@ pub record ReadAndWritten : Type 0 where
   pub obs-walk : (kind : ℕ) (s : List ℕ) (more : ℕ)
       → Walk (length (observationsIn kind s) + more) kind s 0 (map given (observationsIn kind s) ++ replicate more (pastThem kind s)) (length (observationsIn kind s))
   -- "256 × L.i + L.f", and it has one pair, which gives it back
+  pub phase-read : (z : ℤ) (p : Phase) → readPhase z ≡ given p → (phaseOf p ≡ z) × (p .«l_f» < 256)
   pub phase-of : (p : Phase) → phaseOf p ≡ pos 256 *ℤ p .«l_i» +ℤ pos (p .«l_f»)
   pub phase : ((z : ℤ) → phaseOf (partsOf z) ≡ z) × ((p : Phase) → p .«l_f» < 256 → partsOf (phaseOf p) ≡ p)
 
@@ -138,6 +139,7 @@ pub record EpochsReported : Type 0 where
   pub capture-end : (roster : List ℕ) → made roster .number ≡ 0 → (s : List ℕ) → collated s roster .collator ≡ after (made roster .collator) (contentsOf s)
   pub capture-counted : (roster : List ℕ) → made roster .number ≡ 0 → (s : List ℕ) (es : List Report) → length s < 2 ^ 64 → Epochs roster [] (contentsOf s) es
       → (i : ℕ) → i < length roster → getD (collated s roster .reports) i 0 ≡ length (reportsOf (getD roster i 0) es)
+  pub capture-others : (roster : List ℕ) → made roster .number ≡ 0 → (s : List ℕ) (i : ℕ) → length roster ≤ i → getD (collated s roster .reports) i 0 ≡ 0
 
 -- numbers in decimal, each behind a space, to the line's end
 abbrev pub shows : List ℕ → List ℕ
