@@ -14,7 +14,10 @@ use Rattle.layouts.proofs.Layouts.{lengths-true, lengths-false}
 use Rattle.frames.specs.Frame.{Content}
 use Rattle.observation.specs.Edition.{obs, fitting, first, isObs}
 use Rattle.payloads.specs.Payloads.{table}
-use Rattle.payloads.specs.Checks.{document}
+use Rattle.payloads.specs.Checks.{document, testsBy}
+use Rattle.payloads.specs.Inner.{checkIn}
+use Rattle.payloads.specs.declared.check.Check.{Check}
+use Rattle.payloads.specs.declared.check.Check.the-variants as C
 use Rattle.payloads.proofs.Agreed.{agreed, tests-agree}
 use Rattle.packets.specs.Packet.{packetIn, shape, numbering}
 use Rattle.epochs.specs.Search.{names, repeats}
@@ -23,7 +26,7 @@ use Rattle.observation.specs.Obs.{oneObservation}
 use Rattle.places.specs.State.{stateIn}
 use Rattle.epochs.specs.Collator.{feeding, rostering, rosterOf}
 use Rattle.epochs.proofs.Searches.{names-first, names-later, names-not, names-at, once-on, seat-listed, seat-named, seat-below}
-use Rattle.demands.specs.Order.{Cases, InOrder, Not, ObsLength, NamesTwice, Unlisted, indexCases, frameCases, rosterCases, bufferCases, roomCases, Order, LinkedOrder}
+use Rattle.demands.specs.Order.{Cases, InOrder, Not, ObsLength, NamesTwice, Unlisted, indexCases, frameCases, rosterCases, bufferCases, roomCases, columnTests, Order, LinkedOrder}
 
 -- ---- a test fails exactly in its case
 
@@ -160,9 +163,17 @@ over-room k room = (λ e. omega (arith, leb-false (7 + k * 16 + 8) room e), λ h
 obs-buffer-order : (k room : ℕ) → InOrder ((31, 15 < k) ∷ bufferCases (16 * k + 7) room) (writingObs first k room .tests)
 obs-buffer-order k room = (refl, over k 15, (refl, over-size k, (refl, over-room k room, tt)))
 
+by-column : (k : Check) (s : List ℕ) → testsBy k s ≡ columnTests k s
+by-column C.Unknown s = refl
+by-column (C.Length n) s = refl
+by-column (C.Ns n at) s = refl
+by-column (C.Fix n at last) s = refl
+by-column C.Obs s = refl
+by-column C.Log s = refl
+
 pub order : Order
 order = record {
-  any-payload = λ kind s. tests-agree table document agreed kind s;
+  any-payload = λ kind s. tests-agree table document agreed kind s ∙ by-column (checkIn document kind) s;
   payload = λ R d s. (refl, long (d .layout) (length s), (refl, itself _, tt));
   obs-payload = λ s. (refl, obs-long (length s), tt);
   index = λ s i. index-order s i;

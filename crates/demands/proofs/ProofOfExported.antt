@@ -14,6 +14,7 @@ use Rattle.frames_told.proofs.CallsTell.{frames-told}
 use Rattle.frames_told.proofs.RowAfterRow.{rows-follow}
 use Rattle.rows_back.proofs.BackAgain.{all-back}
 use Rattle.rows_back.proofs.StoredRows.{rows-stored}
+use Rattle.rows_back.proofs.FieldsShown.{field-rows}
 use Rattle.rows_back.proofs.ObsProof.{obs-rows}
 use Rattle.rows_back.proofs.LogProof.{log-rows}
 use Rattle.demands.specs.Exported.{Exported}
@@ -43,6 +44,7 @@ exported = record {
   sender-given = λ n h. rw (lt-ltb n 65536 h);
   sender-none = λ n h. rw (le-ltb n 65536 h);
   rows-read = all-read;
+  field-rows = field-rows;
   rows-stored = rows-stored;
   rows-written = as-typed;
   rows-back = all-back;

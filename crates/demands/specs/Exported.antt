@@ -28,6 +28,7 @@ use Rattle.frames_told.specs.FramesTold.{FramesTold}
 use Rattle.frames_told.specs.RowByRow.{RowsFollow}
 use Rattle.rows_back.specs.RowsBack.{AllBack}
 use Rattle.rows_back.specs.RowsStored.{RowsStored}
+use Rattle.rows_back.specs.FieldRows.{FieldRows}
 use Rattle.rows_back.specs.ObsRows.{ObsRows}
 use Rattle.rows_back.specs.LogRows.{LogRows}
 
@@ -99,6 +100,7 @@ pub record Exported : Type 0 where
   -- messages as numbers: each is read as the fields of the typed record and written as the typed writer writes it, and what was written comes back;
   -- OBS and LOG number by number
   pub rows-read : AllRead
+  pub field-rows : FieldRows
   pub rows-stored : RowsStored
   pub rows-written : AllWritten
   pub rows-back : AllBack

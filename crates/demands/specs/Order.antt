@@ -6,9 +6,9 @@ use mathlib.Core.Bool.{Bool, true, false, _&&_}
 use mathlib.Core.List.{List, [], _∷_, _++_}
 use mathlib.Core.Logic.{_↔_, _⊎_}
 use lib.IntN.{ℤ, pos, negℤ}
-use lib.Dec.{leb}
+use lib.Dec.{leb, eqb}
 use lib.Signed.{leZ}
-use lib.ListN.{length, getD}
+use lib.ListN.{length, getD, drop}
 use Rattle.wire.specs.Number.{numberAt}
 use Rattle.refusals.specs.Refusals.{Tests}
 use Rattle.layouts.specs.Layout.{LengthOf, allowedBody, decodeBody, fewEnough, bodySize}
@@ -21,7 +21,10 @@ use Rattle.observation.specs.Edition.{first}
 use Rattle.observation.specs.Obs.{oneObservation, oneOfFrame, readingObs}
 use Rattle.obs_writer.specs.ObsWriter.{writingObs}
 use Rattle.payloads.specs.Payloads.{knownFor, layoutFor, readingAny}
-use Rattle.payloads.specs.Checks.{document, testsBy}
+use Rattle.padded.specs.Padded.{allZero, fromZero}
+use Rattle.wire.specs.Value.{u8, s32, valueAt}
+use Rattle.payloads.specs.declared.check.Check.{Check}
+use Rattle.payloads.specs.declared.check.Check.the-variants as C
 use Rattle.payloads.specs.Inner.{checkIn}
 use Rattle.formats.specs.Wide.{fitsRow, fitsRows, numberCount}
 use Rattle.formats.specs.Digits.{frontOf}
@@ -96,9 +99,49 @@ bufferCases n room = (31, 255 < n) ∷ (32, room < n + 8) ∷ []
 abbrev pub roomCases : ℕ → ℕ → Cases
 roomCases n room = (32, room < n) ∷ []
 
+-- document 01's columns Type and Length, and where its ranges lie, once more: no contract cites these. ns or flags stand at the offset that is named
+-- second, and the fix mode goes up to what is named third
+abbrev pub columns : List (ℕ × Check)
+columns =
+    (0x0049, C.Obs) ∷
+    (0x0100, C.Ns 11 6) ∷
+    (0x0206, C.Length 14) ∷
+    (0x0200, C.Fix 32 31 2) ∷
+    (0x0201, C.Fix 34 33 2) ∷
+    (0x0202, C.Fix 20 19 1) ∷
+    (0x0204, C.Length 20) ∷
+    (0x0203, C.Fix 22 21 1) ∷
+    (0x0205, C.Length 22) ∷
+    (0x0207, C.Fix 10 9 1) ∷
+    (0x0044, C.Length 24) ∷
+    (0x0048, C.Length 24) ∷
+    (0x0081, C.Length 185) ∷
+    (0x0082, C.Length 112) ∷
+    (0x0083, C.Length 112) ∷
+    (0x0090, C.Length 70) ∷
+    (0x0091, C.Length 10) ∷
+    (0x0092, C.Length 14) ∷
+    (0x00a1, C.Length 0) ∷
+    (0x00a6, C.Length 0) ∷
+    (0x00a2, C.Length 2) ∷
+    (0xff00, C.Length 4) ∷
+    (0xffff, C.Length 4) ∷
+    (0x0401, C.Log) ∷
+    []
+
+-- what a payload is tested for by its column: 21 for a type that is not there
+abbrev pub columnTests : Check → List ℕ → Tests
+columnTests C.Unknown s = (false, 21) ∷ []
+columnTests (C.Length n) s = (true, 21) ∷ (eqb (length s) n, 22) ∷ (true, 23) ∷ []
+columnTests (C.Ns n at) s =
+    let ns = valueAt s32 s at in (true, 21) ∷ (eqb (length s) n, 22) ∷ (leZ (negℤ (pos 500000)) ns && leZ ns (pos 500000), 23) ∷ []
+columnTests (C.Fix n at last) s = (true, 21) ∷ (eqb (length s) n, 22) ∷ (leb (valueAt u8 s at % 8) last, 23) ∷ []
+columnTests C.Obs s = (true, 21) ∷ (eqb (length s % 16) 7 && leb (length s) 247, 22) ∷ (true, 23) ∷ []
+columnTests C.Log s = (true, 21) ∷ (leb 1 (length s) && leb (length s) 255, 22) ∷ (allZero (fromZero (drop 1 s)), 23) ∷ []
+
 pub record Order : Type 1 where
-  -- "Reading: 21, 22, 23." By document 01's table (payloads' Checks.antt, whose numbers are numerals); and of the reader of one type
-  pub any-payload : (kind : ℕ) (s : List ℕ) → readingAny kind s .tests ≡ testsBy (checkIn document kind) s
+  -- "Reading: 21, 22, 23." By document 01's table; and of the reader of one type
+  pub any-payload : (kind : ℕ) (s : List ℕ) → readingAny kind s .tests ≡ columnTests (checkIn columns kind) s
   pub payload : (R : Type 0) (d : Description R) (s : List ℕ)
       → InOrder ((22, Not (LengthOf (d .layout) (length s))) ∷ (23, allowedBody (d .layout) (decodeBody (d .layout) s) ≡ false) ∷ []) (reading d s .tests)
   pub obs-payload : (s : List ℕ) → InOrder ((22, Not (ObsLength (length s))) ∷ []) (readingObs s .tests)

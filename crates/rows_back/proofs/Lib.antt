@@ -9,3 +9,4 @@ pub mod Texts
 pub mod LogRead
 pub mod LogBack
 pub mod LogProof
+pub mod FieldsShown

@@ -22,7 +22,7 @@ use Rattle.rows_back.proofs.ObsRead.{no-fit, fits, counted}
 
 -- ---- the numbers
 
-widens : (n : ℕ) → n < 2 ^ 32 → ofZ w64 (toZ w32 n) ≡ widened n
+pub widens : (n : ℕ) → n < 2 ^ 32 → ofZ w64 (toZ w32 n) ≡ widened n
 widens n h = by (ltb n 0x80000000) refl
   where
     by : (t : Bool) → ltb n 0x80000000 ≡ t → ofZ w64 (toZ w32 n) ≡ cond t n (n + 0xffffffff00000000)

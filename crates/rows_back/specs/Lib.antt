@@ -1,4 +1,5 @@
 pub mod RowsStored
 pub mod RowsBack
 pub mod ObsRows
+pub mod FieldRows
 pub mod LogRows

@@ -1,1 +1,2 @@
 pub mod AllTyped
+pub mod Named

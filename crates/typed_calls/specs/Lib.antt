@@ -1,1 +1,2 @@
 pub mod TypedCalls
+pub mod Names
