@@ -1,1 +1,2 @@
+pub mod Formats
 pub mod Named
