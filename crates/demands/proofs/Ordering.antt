@@ -26,7 +26,7 @@ use Rattle.observation.specs.Obs.{oneObservation}
 use Rattle.places.specs.State.{stateIn}
 use Rattle.epochs.specs.Collator.{feeding, rostering, rosterOf}
 use Rattle.epochs.proofs.Searches.{names-first, names-later, names-not, names-at, once-on, seat-listed, seat-named, seat-below}
-use Rattle.demands.specs.Order.{Cases, InOrder, Not, ObsLength, NamesTwice, Unlisted, indexCases, frameCases, rosterCases, bufferCases, roomCases, columnTests, Order, LinkedOrder}
+use Rattle.demands.specs.Order.{Cases, InOrder, Not, ObsLength, NamesTwice, Unlisted, indexCases, frameCases, rosterCases, bufferCases, roomCases, columnOf, columnTests, Order, LinkedOrder}
 
 -- ---- a test fails exactly in its case
 
@@ -171,9 +171,14 @@ by-column (C.Fix n at last) s = refl
 by-column C.Obs s = refl
 by-column C.Log s = refl
 
+same-column : (cs : List (ℕ × Check)) (kind : ℕ) → checkIn cs kind ≡ columnOf cs kind
+unfolding checkIn columnOf
+same-column [] kind = refl
+same-column (c ∷ cs) kind = ap (λ (k : Check). cond (eqb kind (c .0)) (c .1) k) (same-column cs kind)
+
 pub order : Order
 order = record {
-  any-payload = λ kind s. tests-agree table document agreed kind s ∙ by-column (checkIn document kind) s;
+  any-payload = λ kind s. tests-agree table document agreed kind s ∙ by-column (checkIn document kind) s ∙ ap (λ (k : Check). columnTests k s) (same-column document kind);
   payload = λ R d s. (refl, long (d .layout) (length s), (refl, itself _, tt));
   obs-payload = λ s. (refl, obs-long (length s), tt);
   index = λ s i. index-order s i;

@@ -2,7 +2,7 @@
 -- A call is refused exactly when one of its own cases holds, by the first (`in-order`, Demand1.antt).
 use Prim.Native.Nat.{ℕ, _+_, _-_, _*_, _/_, _%_, _≤_, _<_}
 use mathlib.Core.Path.{_≡_}
-use mathlib.Core.Bool.{Bool, true, false, _&&_}
+use mathlib.Core.Bool.{Bool, true, false, cond, _&&_}
 use mathlib.Core.List.{List, [], _∷_, _++_}
 use mathlib.Core.Logic.{_↔_, _⊎_}
 use lib.IntN.{ℤ, pos, negℤ}
@@ -25,7 +25,6 @@ use Rattle.padded.specs.Padded.{allZero, fromZero}
 use Rattle.wire.specs.Value.{u8, s32, valueAt}
 use Rattle.payloads.specs.declared.check.Check.{Check}
 use Rattle.payloads.specs.declared.check.Check.the-variants as C
-use Rattle.payloads.specs.Inner.{checkIn}
 use Rattle.formats.specs.Wide.{fitsRow, fitsRows, numberCount}
 use Rattle.formats.specs.Digits.{frontOf}
 use Rattle.row_reader.specs.ReadRow.{readingRow, readingOne}
@@ -129,6 +128,10 @@ columns =
     (0x0401, C.Log) ∷
     []
 
+unfoldable pub columnOf : List (ℕ × Check) → ℕ → Check
+columnOf [] kind = C.Unknown
+columnOf (c ∷ cs) kind = cond (eqb kind (c .0)) (c .1) (columnOf cs kind)
+
 -- what a payload is tested for by its column: 21 for a type that is not there
 abbrev pub columnTests : Check → List ℕ → Tests
 columnTests C.Unknown s = (false, 21) ∷ []
@@ -141,7 +144,7 @@ columnTests C.Log s = (true, 21) ∷ (leb 1 (length s) && leb (length s) 255, 22
 
 pub record Order : Type 1 where
   -- "Reading: 21, 22, 23." By document 01's table; and of the reader of one type
-  pub any-payload : (kind : ℕ) (s : List ℕ) → readingAny kind s .tests ≡ columnTests (checkIn columns kind) s
+  pub any-payload : (kind : ℕ) (s : List ℕ) → readingAny kind s .tests ≡ columnTests (columnOf columns kind) s
   pub payload : (R : Type 0) (d : Description R) (s : List ℕ)
       → InOrder ((22, Not (LengthOf (d .layout) (length s))) ∷ (23, allowedBody (d .layout) (decodeBody (d .layout) s) ≡ false) ∷ []) (reading d s .tests)
   pub obs-payload : (s : List ℕ) → InOrder ((22, Not (ObsLength (length s))) ∷ []) (readingObs s .tests)
