@@ -41,7 +41,7 @@ def edited(folder, steps):
         there = os.path.join(folder, path)
         with open(there, encoding="utf-8") as file:
             text = file.read()
-        before.setdefault(there, text)
+        before.setdefault(there, (text, os.stat(there).st_mtime_ns))
         if text.count(old) != 1:
             restore(before)
             raise Wrong("'%s' is %d times in %s" % (old, text.count(old), path))
@@ -50,5 +50,7 @@ def edited(folder, steps):
 
 
 def restore(before):
-    for path, was in before.items():
+    """Puts all as it was, the times too: what is built of a file is not built again (tools/run)."""
+    for path, (was, when) in before.items():
         write(path, was)
+        os.utime(path, ns=(when, when))
