@@ -1,4 +1,5 @@
 pub mod Entries
 pub mod Lengths
+pub mod Placed
 pub mod Agreed
 pub mod Shapes

@@ -1,3 +1,4 @@
 pub mod Payloads
+pub mod Places
 pub mod Checks
 pub mod Inner

@@ -5,8 +5,11 @@ ghost use mathlib.Core.Path.{_≡_};
 ghost use Rattle.payloads.specs.Payloads.{answerFor};
 
 mod check;
+mod place;
 mod shape;
 
+pub use place::MESSAGES;
+pub use place::place_of;
 pub use shape::is_known;
 pub use shape::shape_of;
 
