@@ -1,0 +1,9 @@
+pub mod Counts
+pub mod Onward
+pub mod Plans
+pub mod TurnCases
+pub mod Filled
+pub mod Turns
+pub mod Fills
+pub mod Seeking
+pub mod Walking
