@@ -56,6 +56,9 @@ use Rattle.system.specs.declared.settings.ReadByIndexReqRead.the-variants as Re
 use Rattle.system.specs.declared.startup.StartupRead.the-variants as StartupRead
 use Rattle.payloads.specs.Payloads as Payloads
 use Rattle.payloads.specs.declared.Reading.the-variants as Reading
+use Rattle.index.specs.Index as Index
+use Rattle.index.specs.declared.asking.Sought.the-variants as Sought
+use Rattle.index.specs.declared.counting.Counted.the-variants as Counted
 use Rattle.packets.specs.Packet as Packet
 use Rattle.packets.specs.declared.packet.PacketRead.the-variants as PacketRead
 use Rattle.epochs.specs.Collator as Collator
@@ -63,7 +66,7 @@ use Rattle.epochs.specs.declared.recognising.Recognised.the-variants as Recogni
 use Rattle.observation.specs.declared.entry.Observation.{Observation}
 use Rattle.obs_reader.specs.declared.ObsReader.{ObsReader}
 use Rattle.obs_reader.specs.declared.Stepped.{Stepped}
-use Rattle.calls.specs.Replies.{variantOf}
+use Rattle.calls.specs.Replies.{variantOf, soughtOf}
 use Rattle.calls.proofs.Variants as variants
 use Rattle.calls.proofs.Variants.{Back}
 
@@ -213,3 +216,19 @@ module _ {M : Type 1} (𝓤 : URA M) where
 
   pub recognised : Said Collator.recognisedAnswer (λ x. Recognised.For (x .0) (x .1)) Recognised.Refused
   recognised = enum Collator.recognisedAnswer (λ x. Recognised.For (x .0) (x .1)) Recognised.Refused variants.recognised
+
+  pub sought : Said Index.soughtAnswer soughtOf Sought.Refused
+  sought = enum Index.soughtAnswer soughtOf Sought.Refused variants.sought
+
+  pub counted : Said Index.countAnswer Counted.Frames Counted.Refused
+  counted = enum Index.countAnswer Counted.Frames Counted.Refused variants.counted
+
+  -- ---- all in one clause, as walked functions say it
+
+  pub both : {D B : Type 0} {x d : D} {b e : B} → ent 𝓤 (fact 𝓤 ((x ≡ d) × (b ≡ e))) (fact 𝓤 ((x ≡ d) × ((b ≡ e) × Unit {0})))
+  both {D} {B} {x} {d} {b} {e} = fact-mono 𝓤 ((x ≡ d) × (b ≡ e)) ((x ≡ d) × ((b ≡ e) × Unit {0})) (λ p. (p .0, (p .1, tt)))
+
+  pub three : {D B C : Type 0} {x d : D} {b e : B} {u w : C}
+      → ent 𝓤 (fact 𝓤 ((x ≡ d) × (b ≡ e) × (u ≡ w))) (fact 𝓤 ((x ≡ d) × ((b ≡ e) × ((u ≡ w) × Unit {0}))))
+  three {D} {B} {C} {x} {d} {b} {e} {u} {w} =
+      fact-mono 𝓤 ((x ≡ d) × (b ≡ e) × (u ≡ w)) ((x ≡ d) × ((b ≡ e) × ((u ≡ w) × Unit {0}))) (λ p. (p .0, (p .1, (p .2, tt))))

@@ -51,11 +51,14 @@ use Rattle.system.specs.declared.settings.ReadByIndexReqRead.the-variants as Re
 use Rattle.system.specs.declared.startup.StartupRead.the-variants as StartupRead
 use Rattle.payloads.specs.Payloads as Payloads
 use Rattle.payloads.specs.declared.Reading.the-variants as Reading
+use Rattle.index.specs.Index as Index
+use Rattle.index.specs.declared.asking.Sought.the-variants as Sought
+use Rattle.index.specs.declared.counting.Counted.the-variants as Counted
 use Rattle.packets.specs.Packet as Packet
 use Rattle.packets.specs.declared.packet.PacketRead.the-variants as PacketRead
 use Rattle.epochs.specs.Collator as Collator
 use Rattle.epochs.specs.declared.recognising.Recognised.the-variants as Recognised
-use Rattle.calls.specs.Replies.{variantOf}
+use Rattle.calls.specs.Replies.{variantOf, soughtOf}
 
 abbrev pub Back : {E A : Type 0} → (E → Answer A) → (A → E) → (ℕ → E) → Type 0
 Back {E} answer record-of refusal = (r : E) → variantOf record-of refusal (answer r) ≡ r
@@ -140,3 +143,9 @@ written = elim [ Written.the-variants.Bytes r ↦ refl | Written.the-variants.Re
 
 pub recognised : Back Collator.recognisedAnswer (λ x. Recognised.For (x .0) (x .1)) Recognised.Refused
 recognised = elim [ Recognised.For i p ↦ refl | Recognised.Refused n ↦ refl ]
+
+pub sought : Back Index.soughtAnswer soughtOf Sought.Refused
+sought = elim [ Sought.At i e ↦ refl | Sought.Nowhere ↦ refl | Sought.Refused n ↦ refl ]
+
+pub counted : Back Index.countAnswer Counted.Frames Counted.Refused
+counted = elim [ Counted.Frames n ↦ refl | Counted.Refused n ↦ refl ]

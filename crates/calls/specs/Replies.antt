@@ -5,6 +5,9 @@ use Rattle.refusals.specs.Refusals.{Answer, given, refused, Call, reply, leaves
 use Rattle.frame_writer.specs.Writer.{startingWith}
 use Rattle.frame_writer.specs.declared.write.Written.{Written}
 use Rattle.frame_writer.specs.declared.write.Written.the-variants as Written
+use Rattle.index.specs.Index.{Hit, at, nowhere}
+use Rattle.index.specs.declared.asking.Sought.{Sought}
+use Rattle.index.specs.declared.asking.Sought.the-variants as Sought
 
 -- ---- in Rattle: an enum of what was asked for and a refusal
 
@@ -18,6 +21,11 @@ handsBack record-of refusal c = (variantOf record-of refusal (reply c), tt)
 -- how many bytes were written, and the buffer with them at its start and the bytes after them as they were
 abbrev pub puts : Call ℕ → List ℕ → List ℕ → Written × (List ℕ × Unit {0})
 puts c bytes buf = (variantOf Written.Bytes Written.Refused (reply c), (leaves (startingWith bytes) (reply c) buf, tt))
+
+-- an entry found and its place, or that there is none
+abbrev pub soughtOf : Hit → Sought
+soughtOf (at i e) = Sought.At i e
+soughtOf nowhere = Sought.Nowhere
 
 -- ---- for C and Rust: a number
 

@@ -11,6 +11,9 @@ use Rattle.determined.proofs.Determining as by
 
 ruleset determinations = (id⊢, by.plain, by.stored, by.plain-stored, by.plain-stored-stored, by.written-stored, by.reader, by.asked, by.stepped, by.gps-time, by.dilutions, by.pos-ecef, by.pos-llh, by.ecef-vector, by.ned-vector, by.baseline-heading, by.base-pos-llh, by.base-pos-ecef, by.ephemeris-gps, by.ephemeris-sbas, by.ephemeris-glo, by.ionosphere, by.sv-configuration-gps, by.group-delay, by.obs, by.one-observation, by.phase-parts, by.log, by.empty, by.read-by-index-req, by.start-up, by.heart-beat, by.reading, by.packet-read, by.recognised, by.written)
 
+-- of what an index is asked, and of walked functions, which say all in one clause
+ruleset indexed = (by.plain, by.plain-stored, by.both, by.three, by.sought, by.counted)
+
 module _ {M : Type 1} (𝓤 : URA M) (H : Heap 𝓤) (A : Atoms 𝓤) (mem : Memory → SProp 𝓤) (run : Routine → Fun 𝓤) where
   pub wire : public.Wire 𝓤 H A mem run
   wire = search determinations
@@ -117,6 +120,12 @@ module _ {M : Type 1} (𝓤 : URA M) (H : Heap 𝓤) (A : Atoms 𝓤) (mem : Mem
   pub flag-numbers : public.FlagNumbers 𝓤 H A mem run
   flag-numbers = search determinations
 
+  pub index : public.Index 𝓤 H A mem run
+  index = search indexed
+
+  pub lent-index : public.LentIndex 𝓤 H A mem run
+  lent-index = search indexed
+
   pub places : public.Places 𝓤 H A mem run
   places = search determinations
 
@@ -125,3 +134,6 @@ module _ {M : Type 1} (𝓤 : URA M) (H : Heap 𝓤) (A : Atoms 𝓤) (mem : Mem
 
   pub exports : public.Exports 𝓤 H A mem run
   exports = search determinations
+
+  pub linked-index : public.LinkedIndex 𝓤 H A mem run
+  linked-index = search indexed

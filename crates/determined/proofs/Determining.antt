@@ -59,11 +59,14 @@ use Rattle.obs_reader.specs.declared.ObsReader.{ObsReader}
 use Rattle.obs_reader.specs.declared.Stepped.{Stepped}
 use Rattle.payloads.specs.Payloads as Payloads
 use Rattle.payloads.specs.declared.Reading.the-variants as Reading
+use Rattle.index.specs.Index as Index
+use Rattle.index.specs.declared.asking.Sought.the-variants as Sought
+use Rattle.index.specs.declared.counting.Counted.the-variants as Counted
 use Rattle.packets.specs.Packet as Packet
 use Rattle.packets.specs.declared.packet.PacketRead.the-variants as PacketRead
 use Rattle.epochs.specs.Collator as Collator
 use Rattle.epochs.specs.declared.recognising.Recognised.the-variants as Recognised
-use Rattle.calls.specs.Replies.{variantOf}
+use Rattle.calls.specs.Replies.{variantOf, soughtOf}
 use Rattle.calls.proofs.Variants as variants
 use Rattle.calls.proofs.Variants.{Back}
 
@@ -216,3 +219,18 @@ module _ {M : Type 1} (𝓤 : URA M) where
   pub stepped : {x y : Stepped} {d : Answer Observation} {at : ℕ}
       → ent 𝓤 (conj 𝓤 (fact 𝓤 ((Obs.entryAnswer (x .answer) ≡ d) × (x .at ≡ at))) (fact 𝓤 ((Obs.entryAnswer (y .answer) ≡ d) × (y .at ≡ at)))) (fact 𝓤 ((x ≡ y) × Unit {0}))
   stepped = one-clause (λ p q. (ap₂ {C = Stepped} (λ answer at. record { answer = answer; at = at }) (entry-back (p .0) (q .0)) (p .1 ∙ sym (q .1)), tt))
+
+  pub sought : Answered Index.soughtAnswer
+  sought = enum Index.soughtAnswer soughtOf Sought.Refused variants.sought
+
+  pub counted : Answered Index.countAnswer
+  counted = enum Index.countAnswer Counted.Frames Counted.Refused variants.counted
+
+  -- ---- all in one clause, as walked functions say it
+
+  pub both : {D B : Type 0} {x y d : D} {b c e : B} → ent 𝓤 (conj 𝓤 (fact 𝓤 ((x ≡ d) × (b ≡ e))) (fact 𝓤 ((y ≡ d) × (c ≡ e)))) (fact 𝓤 ((x ≡ y) × ((b ≡ c) × Unit {0})))
+  both = one-clause (λ p q. (p .0 ∙ sym (q .0), (p .1 ∙ sym (q .1), tt)))
+
+  pub three : {D B C : Type 0} {x y d : D} {b c e : B} {u v w : C}
+      → ent 𝓤 (conj 𝓤 (fact 𝓤 ((x ≡ d) × (b ≡ e) × (u ≡ w))) (fact 𝓤 ((y ≡ d) × (c ≡ e) × (v ≡ w)))) (fact 𝓤 ((x ≡ y) × ((b ≡ c) × ((u ≡ v) × Unit {0}))))
+  three = one-clause (λ p q. (p .0 ∙ sym (q .0), (p .1 ∙ sym (q .1), (p .2 ∙ sym (q .2), tt))))

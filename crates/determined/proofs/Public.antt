@@ -45,6 +45,8 @@ use Rattle.lines.proofs as lines
 use Rattle.listing.proofs as listing
 use Rattle.frame_rows.proofs as frame_rows
 use Rattle.flag_numbers.proofs as flag_numbers
+use Rattle.index.proofs as index
+use Rattle.lent_index.proofs as lent_index
 use Rattle.places.proofs as places
 use Rattle.states.proofs as states
 use Rattle.exports.proofs as exports
@@ -247,6 +249,7 @@ module _ {M : Type 1} (𝓤 : URA M) (H : Heap 𝓤) (A : Atoms 𝓤) (mem : Mem
   pub record Payloads : Type 1 where
     pub answer : Determined 𝓤 payloads.answer.ended (payloads.answer.clauses 𝓤 H A mem run)
     pub is-known : Determined 𝓤 payloads.is_known.ended (payloads.is_known.clauses 𝓤 H A mem run)
+    pub place-of : Determined 𝓤 payloads.place_of.ended (payloads.place_of.clauses 𝓤 H A mem run)
     pub shape-of : Determined 𝓤 payloads.shape_of.ended (payloads.shape_of.clauses 𝓤 H A mem run)
 
   pub record Readings : Type 1 where
@@ -299,6 +302,20 @@ module _ {M : Type 1} (𝓤 : URA M) (H : Heap 𝓤) (A : Atoms 𝓤) (mem : Mem
     pub raim-repaired-of : Determined 𝓤 flag_numbers.raim_repaired_of.ended (flag_numbers.raim_repaired_of.clauses 𝓤 H A mem run)
     pub above-sea-of : Determined 𝓤 flag_numbers.above_sea_of.ended (flag_numbers.above_sea_of.clauses 𝓤 H A mem run)
 
+  pub record Index : Type 1 where
+    pub empty : Determined 𝓤 index.empty.ended (index.empty.clauses 𝓤 H A mem run)
+    pub extend : Determined 𝓤 index.extend.ended (index.extend.clauses 𝓤 H A mem run)
+    pub first : Determined 𝓤 index.first.ended (index.first.clauses 𝓤 H A mem run)
+    pub count : Determined 𝓤 index.count.ended (index.count.clauses 𝓤 H A mem run)
+
+  pub record LentIndex : Type 1 where
+    pub index-in : Determined 𝓤 lent_index.index_in.ended (lent_index.index_in.clauses 𝓤 H A mem run)
+    pub extendable : Determined 𝓤 lent_index.extendable.ended (lent_index.extendable.clauses 𝓤 H A mem run)
+    pub make : Determined 𝓤 lent_index.make.ended (lent_index.make.clauses 𝓤 H A mem run)
+    pub settle : Determined 𝓤 lent_index.settle.ended (lent_index.settle.clauses 𝓤 H A mem run)
+    pub hand-place : Determined 𝓤 lent_index.hand_place.ended (lent_index.hand_place.clauses 𝓤 H A mem run)
+    pub count-in : Determined 𝓤 lent_index.count_in.ended (lent_index.count_in.clauses 𝓤 H A mem run)
+
   pub record Places : Type 1 where
     pub place-in : Determined 𝓤 places.place_in.ended (places.place_in.clauses 𝓤 H A mem run)
     pub put-place : Determined 𝓤 places.put_place.ended (places.put_place.clauses 𝓤 H A mem run)
@@ -337,3 +354,9 @@ module _ {M : Type 1} (𝓤 : URA M) (H : Heap 𝓤) (A : Atoms 𝓤) (mem : Mem
     pub sbp-write-obs : Determined 𝓤 exports.sbp_write_obs.ended (exports.sbp_write_obs.clauses 𝓤 H A mem run)
     pub sbp-write-log : Determined 𝓤 exports.sbp_write_log.ended (exports.sbp_write_log.clauses 𝓤 H A mem run)
     pub sbp-write-frame : Determined 𝓤 exports.sbp_write_frame.ended (exports.sbp_write_frame.clauses 𝓤 H A mem run)
+
+  pub record LinkedIndex : Type 1 where
+    pub sbp-index : Determined 𝓤 exports.sbp_index.ended (exports.sbp_index.clauses 𝓤 H A mem run)
+    pub sbp-extend : Determined 𝓤 exports.sbp_extend.ended (exports.sbp_extend.clauses 𝓤 H A mem run)
+    pub sbp-first : Determined 𝓤 exports.sbp_first.ended (exports.sbp_first.clauses 𝓤 H A mem run)
+    pub sbp-count : Determined 𝓤 exports.sbp_count.ended (exports.sbp_count.clauses 𝓤 H A mem run)
