@@ -4,6 +4,7 @@ pub mod ProofOf3
 pub mod ProofOfExported
 pub mod ProofOfParts
 pub mod ProofOfStays
+pub mod ProofOfIndexes
 pub mod ShortAtTheEnd
 pub mod CountsAhead
 pub mod RowsGoOn

@@ -13,7 +13,6 @@ use Rattle.layouts.specs.Layout.{Layout, LengthOf, lengths}
 use Rattle.layouts.proofs.Layouts.{lengths-true, lengths-false}
 use Rattle.frames.specs.Frame.{Content}
 use Rattle.observation.specs.Edition.{obs, fitting, first, isObs}
-use Rattle.payloads.specs.Payloads.{table}
 use Rattle.payloads.specs.Checks.{document, testsBy}
 use Rattle.payloads.specs.Inner.{checkIn}
 use Rattle.payloads.specs.declared.check.Check.{Check}
@@ -23,10 +22,14 @@ use Rattle.packets.specs.Packet.{packetIn, shape, numbering}
 use Rattle.epochs.specs.Search.{names, repeats}
 use Rattle.obs_writer.specs.ObsWriter.{writingObs}
 use Rattle.observation.specs.Obs.{oneObservation}
+use Rattle.payloads.specs.Payloads.{table, knownFor}
+use Rattle.indexed.specs.Growing.{countedKinds}
+use Rattle.indexed.specs.Asking.{Among}
+use Rattle.indexed.proofs.Tallies.{among-known, known-among}
 use Rattle.places.specs.State.{stateIn}
 use Rattle.epochs.specs.Collator.{feeding, rostering, rosterOf}
 use Rattle.epochs.proofs.Searches.{names-first, names-later, names-not, names-at, once-on, seat-listed, seat-named, seat-below}
-use Rattle.demands.specs.Order.{Cases, InOrder, Not, ObsLength, NamesTwice, Unlisted, indexCases, frameCases, rosterCases, bufferCases, roomCases, columnOf, columnTests, Order, LinkedOrder}
+use Rattle.demands.specs.Order.{Cases, InOrder, Not, ObsLength, NamesTwice, Unlisted, indexCases, frameCases, rosterCases, bufferCases, roomCases, columnOf, columnTests, Order, LinkedOrder, IndexOrder}
 
 -- ---- a test fails exactly in its case
 
@@ -216,4 +219,20 @@ linked-order = record {
   write-obs = λ kind hs ns room.
       let counts = both-fail (eqb (length hs) 3) (eqb (length ns % 8) 0) (eqb-true (length hs) 3) (eq-eqb (length hs) 3) (eqb-true (length ns % 8) 0) (eq-eqb (length ns % 8) 0) in
       (refl, obs-kind kind, (refl, counts, (refl, itself _, obs-buffer-order (length ns / 8) room)));
+}
+
+-- a type that is not among the 24 has no reading
+uncounted : (kind : ℕ) → (knownFor kind ≡ false) ↔ Not (Among kind countedKinds)
+uncounted kind = (λ e a. true≢false (sym (among-known kind a) ∙ e), λ none. by (knownFor kind) refl none)
+  where
+    by : (t : Bool) → knownFor kind ≡ t → Not (Among kind countedKinds) → t ≡ false
+    by true e none = absurd (none (known-among kind e))
+    by false e none = refl
+
+pub indexes-order : IndexOrder
+indexes-order = record {
+  extension = λ x s most. (refl, over (x .reached) (length s), (refl, over _ most, tt));
+  search = λ x list kind sender offset. (refl, over (x .held) (length list), tt);
+  count = λ x kind. (refl, uncounted kind, tt);
+  in-bytes = λ A bytes c cs p. (refl, over 208 (length bytes), p);
 }

@@ -9,7 +9,7 @@ use Rattle.obs_reader.proofs.OneQuestion.{stays}
 use Rattle.epochs.proofs.Feeding.{refused-keeps}
 use Rattle.captures.proofs.Captures.{collated-refused}
 use Rattle.demands.specs.Demand1.{Demand1}
-use Rattle.demands.proofs.Ordering.{order, linked-order}
+use Rattle.demands.proofs.Ordering.{order, linked-order, indexes-order}
 use Rattle.demands.proofs.OffTheCall.{apart, alone, read-off}
 use Rattle.demands.proofs.Nobody.{nobody-listed}
 
@@ -20,6 +20,7 @@ demand-1 = record {
     told-apart = λ A number c. apart c number;
     order = order;
     linked-order = linked-order;
+    index-order = indexes-order;
   };
   writes-nothing = record { left-alone = λ A B put c. alone c put; unfit-bytes = bytes-nowhere };
   read-off = read-off;

@@ -44,13 +44,13 @@ after-number m w n s at h = by (leb (at + w) (length s))
     by true = after-sets m (bytesOf w n) s at (omega (arith, h, length-bytesOf w n))
     by false = refl
 
-after-row : (m : ℕ) (fs : List Field) (v : Row fs) (s : List ℕ) (at : ℕ) → at + size fs ≤ m → drop m (rowStored fs v s at) ≡ drop m s
+pub after-row : (m : ℕ) (fs : List Field) (v : Row fs) (s : List ℕ) (at : ℕ) → at + size fs ≤ m → drop m (rowStored fs v s at) ≡ drop m s
 after-row m [] v s at h = refl
 after-row m (f ∷ fs) v s at h =
     let w = width (formatOf f) in
     after-row m fs (v .1) (storedAt w (bitsOf (formatOf f) (v .0)) s at) (at + w) (omega (arith, h)) ∙ after-number m w (bitsOf (formatOf f) (v .0)) s at (omega (arith, h))
 
-after-rows : (m : ℕ) (fs : List Field) (row : ℕ → Row fs) (k : ℕ) (s : List ℕ) (at : ℕ) → at + k * size fs ≤ m → drop m (firstRowsStored fs row k s at) ≡ drop m s
+pub after-rows : (m : ℕ) (fs : List Field) (row : ℕ → Row fs) (k : ℕ) (s : List ℕ) (at : ℕ) → at + k * size fs ≤ m → drop m (firstRowsStored fs row k s at) ≡ drop m s
 unfolding firstRowsStored
 after-rows m fs row zero s at h = refl
 after-rows m fs row (suc k) s at h =

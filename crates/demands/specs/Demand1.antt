@@ -20,10 +20,10 @@ use Rattle.captures.specs.Capture.{begun, collated}
 use Rattle.epochs.specs.declared.collating.Collator.{Collator}
 use Rattle.epochs.specs.declared.collating.Happened.the-variants as H
 use Rattle.states.specs.Feed.{feedingIn, fedIn}
-use Rattle.demands.specs.Order.{Order, LinkedOrder}
+use Rattle.demands.specs.Order.{Order, LinkedOrder, IndexOrder}
 
 -- "a roster, payload, index or buffer that doesn't fit is refused by number"
-pub record RefusedByNumber : Type 1 where
+pub record RefusedByNumber : Type 2 where
   -- a call is refused exactly when one of its own cases holds, by the first; else it gives what was asked for
   pub in-order : (A : Type 0) (c : Call A)
       → ((n : ℕ) → (reply c ≡ refused n) ↔ FirstFails (c .tests) n)
@@ -34,6 +34,7 @@ pub record RefusedByNumber : Type 1 where
   -- each call's cases, number by number
   pub order : Order
   pub linked-order : LinkedOrder
+  pub index-order : IndexOrder
 
 -- "and a refusal writes nothing"
 pub record WritesNothing : Type 1 where
@@ -60,7 +61,7 @@ pub record MovesNoState : Type 0 where
       → (n : ℕ) × ((n ≡ 46) ⊎ (n ≡ 22) ⊎ (n ≡ 43)) × (fedFrame (after (made roster .collator) xs) x ≡ record { collator = fresh []; happened = H.Refused n })
   pub refused-capture : (s roster : List ℕ) → (made roster .number ≡ 0 → ⊥) → begun (made roster) ≡ collated s roster
 
-pub record Demand1 : Type 1 where
+pub record Demand1 : Type 2 where
   pub refused-by-number : RefusedByNumber
   pub writes-nothing : WritesNothing
   pub read-off : ReadOff

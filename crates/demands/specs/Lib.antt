@@ -7,5 +7,6 @@ pub mod InParts
 pub mod Swallowed
 pub mod RowsStay
 pub mod Stays
+pub mod Indexes
 pub mod Handed
 pub mod Noise

@@ -10,10 +10,11 @@ use lib.Dec.{leb, eqb}
 use lib.Signed.{leZ}
 use lib.ListN.{length, getD, drop}
 use Rattle.wire.specs.Number.{numberAt}
-use Rattle.refusals.specs.Refusals.{Tests}
+use Rattle.refusals.specs.Refusals.{Tests, Call}
 use Rattle.layouts.specs.Layout.{LengthOf, allowedBody, decodeBody, fewEnough, bodySize}
 use Rattle.layouts.specs.Description.{Description, reading}
 use Rattle.frames.specs.Frame.{Content}
+use Rattle.frames.specs.Reading.{steps, framesOf}
 use Rattle.frame_writer.specs.Writer.{planning}
 use Rattle.frame_writer.specs.Faithful.{writing}
 use Rattle.phases.specs.Phase.{readingPhase}
@@ -35,6 +36,12 @@ use Rattle.epochs.specs.Collator.{feeding, rostering, rosterOf}
 use Rattle.listing.specs.Listing.{textOf, listing}
 use Rattle.frame_rows.specs.Found.{finding}
 use Rattle.frame_rows.specs.Totals.{totalling}
+use Rattle.index.specs.Index.{extending, asking, counting}
+use Rattle.index.specs.declared.entry.Entry.{Entry}
+use Rattle.index.specs.declared.planning.Index.{Index}
+use Rattle.lent_index.specs.Bytes.{inBytes}
+use Rattle.indexed.specs.Growing.{countedKinds}
+use Rattle.indexed.specs.Asking.{Among}
 use Rattle.places.specs.State.{stateIn}
 use Rattle.states.specs.Feed.{making, feedingIn}
 use Rattle.states.specs.Enlist.{growing, enlisting}
@@ -198,3 +205,12 @@ pub record LinkedOrder : Type 1 where
       (31, 15 < k) ∷
       bufferCases (16 * k + 7) room)
       (writingObsRow kind hs ns room .tests)
+
+-- the calls of an index (document 02, P5): "52 comes first"; 51 also where nothing new came
+pub record IndexOrder : Type 2 where
+  pub extension : (x : Index) (s : List ℕ) (most : ℕ)
+      → InOrder ((52, length s < x .reached) ∷ (51, most < x .held + length (framesOf (steps true s (x .reached)))) ∷ []) (extending x s most .tests)
+  pub search : (x : Index) (list : List Entry) (kind sender offset : ℕ) → InOrder ((51, length list < x .held) ∷ []) (asking x list kind sender offset .tests)
+  pub count : (x : Index) (kind : ℕ) → InOrder ((21, Not (Among kind countedKinds)) ∷ []) (counting x kind .tests)
+  -- with the index in lent bytes 32 comes before
+  pub in-bytes : (A : Type 0) (bytes : List ℕ) (c : Call A) (cs : Cases) → InOrder cs (c .tests) → InOrder (roomCases 208 (length bytes) ++ cs) (inBytes bytes c .tests)

@@ -1,0 +1,10 @@
+pub mod ReadsOn
+pub mod Tallies
+pub mod Partway
+pub mod InBytes
+pub mod BytesBack
+pub mod Grown
+pub mod Looking
+pub mod Finding
+pub mod Counting
+pub mod Rest
