@@ -1,5 +1,5 @@
-/* Times the exported functions beside the C twin and the Rust twin, in one run and by turns. A line for each case: the ns a byte of each, our
- * time over theirs, and Rust's ns a byte with the CRC in another form, eight bytes at a time. Each number is the median of the rounds.
+/* Times the exported functions beside the C twin and the Rust twin, in one run and by turns. A line for each case: the ns a byte of each (or an
+ * entry), our time over theirs, and Rust's ns a byte with the CRC in another form, eight bytes at a time. Each number is the median of the rounds.
  * usage: bench [MEBIBYTES [ROUNDS]], by default 64 and 9 (bench/run builds it) */
 #define _POSIX_C_SOURCE 199309L
 #include <stdio.h>
@@ -19,6 +19,8 @@
 #include "../link/include/sbp.h"
 #include "../twins/c/rows.h"
 #include "captures.h"
+#include "indexes.h"
+#include "timed.h"
 
 /* bench/twin.rs, which says what they do. */
 uint16_t rust_crc(uint16_t start, const uint8_t *bytes, size_t n);
@@ -32,15 +34,12 @@ uint8_t rust_read(uint16_t kind, const uint8_t *payload, size_t n, uint64_t *row
 uint8_t rust_write(uint8_t *out, size_t room, uint16_t kind, uint32_t sender, const uint64_t *row, size_t fields, uint64_t *size);
 const uint8_t *rust_list(const uint8_t *capture, size_t n, uint64_t *size);
 
-enum { OURS, C, RUST, SLICED, SIDES, ROUNDS_MAX = 99, ROOM = 8 * SBP_INPUT_MAX + 32 };
-
-typedef void (*side)(void);
+enum { ROUNDS_MAX = 99, ROOM = 8 * SBP_INPUT_MAX + 32 };
 
 static size_t writing_room;
 static uint8_t our_text[ROOM];
 static char twins_text[SBP_LIST_MAX];
-/* What a call found, in numbers or as a text of told[0] bytes. All sides must find the same. */
-static uint64_t told[4];
+uint64_t told[4];
 static const uint8_t *text;
 
 /* The time that this program has had, so that others on the machine count little. */
@@ -252,8 +251,7 @@ static void our_writing(void) { write_all(sbp_write); }
 static void twins_writing(void) { write_all(twin_write); }
 static void rusts_writing(void) { write_all(rust_write); }
 
-/* The sides by turns, each so many times; the last may be NULL. */
-static void timed(const char *name, int rounds, int times, const side sides[SIDES]) {
+double timed(const char *name, int rounds, int times, size_t over, const side sides[SIDES]) {
     double ns[SIDES][ROUNDS_MAX], ratio[SIDES][ROUNDS_MAX];
     uint64_t ours[4];
     for (int r = 0; r < rounds; r++) {
@@ -275,27 +273,29 @@ static void timed(const char *name, int rounds, int times, const side sides[SIDE
                 fprintf(stderr, "%s: side %d found something else\n", name, s);
                 exit(EXIT_FAILURE);
             }
-            ns[s][r] = took / ((double)length * times);
+            ns[s][r] = took / ((double)over * times);
             ratio[s][r] = ns[OURS][r] / ns[s][r];
         }
     }
-    printf("%-40s %8.3f %8.3f %8.3f", name, median(ns[OURS], rounds), median(ns[C], rounds), median(ns[RUST], rounds));
+    const double our_ns = median(ns[OURS], rounds);
+    printf("%-40s %8.3f %8.3f %8.3f", name, our_ns, median(ns[C], rounds), median(ns[RUST], rounds));
     printf(" %8.2f %8.2f", median(ratio[C], rounds), median(ratio[RUST], rounds));
     if (sides[SLICED] != NULL) {
         printf(" %18.3f", median(ns[SLICED], rounds));
     }
     printf("\n");
     fflush(stdout);
+    return our_ns;
 }
 
 static void readings(const char *by_frame, const char *in_one, int rounds) {
-    timed(by_frame, rounds, 1, (const side[SIDES]){our_reading, twins_reading, rusts_reading, sliced_reading});
-    timed(in_one, rounds, 1, (const side[SIDES]){our_totals, twins_reading, rusts_reading, sliced_reading});
+    timed(by_frame, rounds, 1, length, (const side[SIDES]){our_reading, twins_reading, rusts_reading, sliced_reading});
+    timed(in_one, rounds, 1, length, (const side[SIDES]){our_totals, twins_reading, rusts_reading, sliced_reading});
 }
 
 static void reading_rows(const char *name, int rounds) {
     same_rows();
-    timed(name, rounds, 1, (const side[SIDES]){our_rows, twins_rows, rusts_rows, NULL});
+    timed(name, rounds, 1, length, (const side[SIDES]){our_rows, twins_rows, rusts_rows, NULL});
 }
 
 int main(int argc, char **argv) {
@@ -311,9 +311,10 @@ int main(int argc, char **argv) {
     }
     printf("%-40s %8s %8s %8s %8s %8s %18s\n", "ns a byte", "Rattle", "C", "Rust", "to C", "to Rust", "Rust, sliced by 8");
     clean(most);
-    timed("CRC of a long buffer", rounds, 1, (const side[SIDES]){our_crc, twins_crc, rusts_crc, sliced_crc});
+    timed("CRC of a long buffer", rounds, 1, length, (const side[SIDES]){our_crc, twins_crc, rusts_crc, sliced_crc});
     readings("closed reading, clean, frame by frame", "closed reading, clean, in one call", rounds);
-    timed("feeding epochs", rounds, 1, (const side[SIDES]){our_feeding, twins_feeding, rusts_feeding, NULL});
+    timed("feeding epochs", rounds, 1, length, (const side[SIDES]){our_feeding, twins_feeding, rusts_feeding, NULL});
+    time_indexing(rounds);
     texts(most);
     reading_rows("rows read of LOG, 80 bytes of text", rounds);
     mixed(most);
@@ -322,13 +323,15 @@ int main(int argc, char **argv) {
     writing_room = length;
     twins_writing();
     length = told[0];
-    timed("rows written of 22 messages", rounds, 1, (const side[SIDES]){our_writing, twins_writing, rusts_writing, NULL});
+    timed("rows written of 22 messages", rounds, 1, length, (const side[SIDES]){our_writing, twins_writing, rusts_writing, NULL});
     noise(most);
     readings("closed reading, noise, frame by frame", "closed reading, noise, in one call", rounds);
     /* Every byte begins a frame of 93 that is bad: some 200 ns a byte, so a 64th of them. */
     preambles(most / 64);
     readings("closed reading, all 0x55, frame by frame", "closed reading, all 0x55, in one call", rounds);
     clean(SBP_INPUT_MAX);
-    timed("listing of 64 KiB", rounds, (int)(most / SBP_INPUT_MAX), (const side[SIDES]){our_listing, twins_listing, rusts_listing, NULL});
+    timed("listing of 64 KiB", rounds, (int)(most / SBP_INPUT_MAX), length, (const side[SIDES]){our_listing, twins_listing, rusts_listing, NULL});
+    printf("%-40s %8s %8s %8s %8s %8s\n", "ns an entry", "Rattle", "C", "Rust", "to C", "to Rust");
+    time_finding(rounds);
     return EXIT_SUCCESS;
 }

@@ -4,7 +4,8 @@ use std::slice;
 use std::sync::Mutex;
 
 use twin::fast::{
-    closed, crc_sliced, crc_table, listing_into, read_row, write_row, Collator, Counts,
+    closed, crc_sliced, crc_table, listing_into, read_row, write_row, Collator, Counts, Entry,
+    Index,
 };
 
 /// The listing last made; it grows once and is used again.
@@ -167,4 +168,47 @@ pub unsafe extern "C" fn rust_list(capture: *const u8, n: usize, size: *mut u64)
     listing_into(crc_table, unsafe { lent(capture, n) }, &mut text);
     unsafe { *size = text.len() as u64 }
     text.as_ptr()
+}
+
+/// 0, or the refusal.
+///
+/// # Safety
+/// The caller keeps: `n` bytes are at `capture` for the length of the call;
+/// `index`, and `most` entries at `entries`, are aligned and nobody else's.
+#[no_mangle]
+pub unsafe extern "C" fn rust_extend(
+    index: *mut Index,
+    capture: *const u8,
+    n: usize,
+    entries: *mut Entry,
+    most: usize,
+) -> u8 {
+    let entries = unsafe { slice::from_raw_parts_mut(entries, most) };
+    unsafe { (*index).extend(lent(capture, n), entries) }
+}
+
+/// 0, and the place in `place`; or 1 where there is none.
+///
+/// # Safety
+/// The caller keeps: `index`, and `most` entries at `entries`, are aligned and
+/// stay as they are for the length of the call; `place` is aligned and nobody
+/// else's.
+#[no_mangle]
+pub unsafe extern "C" fn rust_first(
+    index: *const Index,
+    entries: *const Entry,
+    most: usize,
+    msg_type: u16,
+    sender: u16,
+    offset: u64,
+    place: *mut u64,
+) -> u8 {
+    let entries = unsafe { slice::from_raw_parts(entries, most) };
+    match unsafe { (*index).first(entries, msg_type, sender, offset) } {
+        Some(found) => {
+            unsafe { *place = found as u64 }
+            0
+        }
+        None => 1,
+    }
 }

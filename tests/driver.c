@@ -16,13 +16,19 @@ static uint64_t number(unsigned n) {
     return sbp_number(bytes, n);
 }
 
-/* A count, and so many things of some bytes each, to be read alone. */
-static struct block *given(size_t each) {
+/* A count, and so many things of some bytes each. */
+static struct block *received(size_t each, bool written) {
     size_t count = number(4);
-    struct block *b = lend(count * each, false);
+    struct block *b = lend(count * each, written);
     if (fread(b->at, 1, b->n, stdin) != b->n) {
         fail("a request is cut");
     }
+    return b;
+}
+
+/* To be read alone. */
+static struct block *given(size_t each) {
+    struct block *b = received(each, false);
     memcpy(b->before, b->at, b->n);
     return b;
 }
@@ -232,6 +238,54 @@ static void feed(void) {
     keep_state(s);
 }
 
+/* ---- indexes: what a call has left is sent with the next */
+
+/* A list of no entries comes with any pointer. */
+static struct sbp_entry *entries_at(struct block *b) {
+    static uintptr_t turn;
+    if (b->n == 0 && ++turn % 3 > 0) {
+        return (struct sbp_entry *)(turn % 3 - 1);
+    }
+    return (struct sbp_entry *)(void *)b->at;
+}
+
+static size_t entries_of(const struct block *b) { return b->n / sizeof(struct sbp_entry); }
+
+/* What stands after an entry's last field is nobody's in so many of the first entries, and is told as zeros. */
+static void clear_between(struct block *b, size_t held) {
+    const size_t fields = offsetof(struct sbp_entry, length) + 1;
+    for (size_t i = 0; i < held && i < entries_of(b); i++) {
+        memset(b->at + i * sizeof(struct sbp_entry) + fields, 0, sizeof(struct sbp_entry) - fields);
+    }
+}
+
+static void make_index(void) {
+    struct block *index = room_for(1);
+    reply(sbp_index(index->at, index->n), 1);
+}
+
+static void extend(void) {
+    struct block *index = received(1, true), *entries = received(sizeof(struct sbp_entry), true);
+    size_t held = number(4);
+    struct block *capture = given(1);
+    uint8_t answer = sbp_extend(index->at, index->n, capture->at, capture->n, entries_at(entries), entries_of(entries));
+    clear_between(entries, held);
+    reply(answer, 1);
+}
+
+static void first(void) {
+    struct block *index = given(1), *entries = given(sizeof(struct sbp_entry)), *place = filled(8);
+    uint16_t kind = (uint16_t)number(2), sender = (uint16_t)number(2);
+    uint64_t offset = number(8);
+    reply(sbp_first(index->at, index->n, entries_at(entries), entries_of(entries), kind, sender, offset, numbers(place)), 1);
+}
+
+static void count(void) {
+    struct block *index = given(1), *total = filled(8);
+    uint16_t kind = (uint16_t)number(2);
+    reply(sbp_count(index->at, index->n, kind, numbers(total)), 1);
+}
+
 int main(void) {
     map_blocks();
     for (;;) {
@@ -258,6 +312,10 @@ int main(void) {
         case 'g': growing(); break;
         case 'e': enlist(); break;
         case 'f': feed(); break;
+        case 'I': make_index(); break;
+        case 'E': extend(); break;
+        case 'q': first(); break;
+        case 'k': count(); break;
         default: fail("no such request");
         }
         fflush(stdout);

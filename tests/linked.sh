@@ -1,7 +1,7 @@
 #!/usr/bin/env bash
 # The functions that C and Rust link, held against the twins. The Rust twin asks all of them through tests/driver.c, what Rust's safe wrapper can be
-# asked through tests/driver, and the C twin's rows in place of the library's, which bench/run times them beside. The Python twin works out
-# published values and edge cases, which tests/values asks for. All is built for the processor at hand. The last line is 'N passed, M failed'; a
+# asked through tests/driver, and the C twin's rows and indexes in place of the library's, which bench/run times them beside. The Python twin works
+# out published values and edge cases, which tests/values asks for. All is built for the processor at hand. The last line is 'N passed, M failed'; a
 # compiler that cannot be had fails, and is named.
 # usage: tests/linked.sh (after tests/twins.py, which builds the twin)
 set -eu
@@ -33,8 +33,8 @@ unset YAQTUMEER_LIB # Rust links the same
 c="gcc -std=c99 -O2 -Wall -Wextra -Wpedantic -Wconversion -Werror -Ilink/include"
 quietly $c -o "$work/driver" tests/driver.c "$lib"
 quietly $c -o "$work/values" tests/values/*.c "$lib"
-renamed=$(sed -n 's/^[a-z].* \(twin_[a-z_]*\)(.*/\1/p' twins/c/rows.h | sed 's/twin_\(.*\)/-Dsbp_\1=twin_\1/')
-quietly $c $renamed -o "$work/twin" tests/driver.c twins/c/rows.c "$lib"
+renamed=$(sed -n 's/^[a-z].* \(twin_[a-z_]*\)(.*/\1/p' twins/c/rows.h twins/c/index.h | sed 's/twin_\(.*\)/-Dsbp_\1=twin_\1/')
+quietly $c $renamed -o "$work/twin" tests/driver.c twins/c/rows.c twins/c/index.c "$lib"
 quietly cargo build --offline --release --manifest-path tests/driver/Cargo.toml --target-dir target/driver
 
 passed=0 failed=0
@@ -50,9 +50,9 @@ held() { # WHAT COMMAND..: prints what the command says, and adds up its last li
     *) passed=$((passed + n)) failed=$((failed + m)) ;;
     esac
 }
-held "the library from C" "$calls" 1 100000 c "$work/driver"
-held "the library from Rust" "$calls" 1 20000 rust target/driver/release/driver
-held "the C twin's rows" "$calls" 1 20000 c "$work/twin"
+held "the library from C" "$calls" 1 140000 c "$work/driver"
+held "the library from Rust" "$calls" 1 28000 rust target/driver/release/driver
+held "the C twin's rows and indexes" "$calls" 1 28000 c "$work/twin"
 held "published values and edge cases from C" python3 tests/values.py "$work/values"
 echo "$passed passed, $failed failed"
 [ "$failed" -eq 0 ]

@@ -1,7 +1,7 @@
 #!/usr/bin/env python3
 """Tests the twins and holds them against each other; its last line is 'N passed, M failed'.
 
-The Rust twin's tests, the C twin's, and the listings of all three on generated captures. usage: twins.py [SEED [COUNT]]
+The Rust twin's tests, the C twin's, and the listings and the indexes of all three on generated captures. usage: twins.py [SEED [COUNT]]
 """
 import os
 import subprocess
@@ -14,6 +14,8 @@ sys.dont_write_bytecode = True
 sys.path.insert(0, os.path.join(ROOT, "twins", "python"))
 import twin
 
+INDEXED = 4000  # so many bytes of a capture
+
 
 def cargo(word):
     return subprocess.run(["cargo", word, "--offline", "--release", "--quiet"], cwd=RUST).returncode == 0
@@ -22,7 +24,7 @@ def cargo(word):
 def compiled(work, name):
     """The C twin with one of its programs, or None."""
     made = os.path.join(work, name)
-    words = ["gcc", "-std=c11", "-O3", "-Wall", "-Wextra", "-Werror", "-o", made, name + ".c", "fast.c"]
+    words = ["gcc", "-std=c11", "-O3", "-Wall", "-Wextra", "-Werror", "-o", made, name + ".c", "fast.c", "index.c"]
     return made if subprocess.run(words, cwd=C).returncode == 0 else None
 
 
@@ -38,18 +40,35 @@ def captures(seed, count):
         stream = stream[end:]
 
 
-def printed(program, data):
-    return subprocess.run([program], input=data, stdout=subprocess.PIPE).stdout.decode()
+def printed(program, data, *words):
+    return subprocess.run([program, *words], input=data, stdout=subprocess.PIPE).stdout.decode()
 
 
-def agreed(clist, seed, count):
-    """Whether all three list a capture alike, for each capture."""
-    for at, data in enumerate(captures(seed, count)):
-        listings = {"Rust": printed(released("twinlist"), data), "C": printed(clist, data), "Python": twin.listing(data)}
-        same = len(set(listings.values())) == 1
-        if not same:
-            print("seed %d: %s" % (seed + at, listings))
-        yield same
+def alike(seed, texts):
+    same = len(set(texts.values())) == 1
+    if not same:
+        print("seed %d: %s" % (seed, texts))
+    return same
+
+
+def listed(clist, seed, data):
+    return alike(seed, {"Rust": printed(released("twinlist"), data), "C": printed(clist, data), "Python": twin.listing(data)})
+
+
+def indexed(cindex, seed, data):
+    """Rust and C extend theirs by pieces of up to 300 bytes; Python makes it afresh."""
+    piece, index = str(1 + seed * 37 % 300), twin.Index()
+    index.extend(data, len(data))
+    afresh = "".join(line + "\n" for line in index.lines())
+    return alike(seed, {"Rust": printed(released("twinindex"), data, piece), "C": printed(cindex, data, piece), "Python": afresh})
+
+
+def agreed(clist, cindex, seed, count):
+    """Whether all three list a capture alike, for each capture, and have the same index of the beginning of every fourth."""
+    for at, data in enumerate(captures(seed, count), seed):
+        yield listed(clist, at, data)
+        if at % 4 == 0:
+            yield indexed(cindex, at, data[:INDEXED])
 
 
 def results(seed, count):
@@ -57,10 +76,10 @@ def results(seed, count):
         built = cargo("build")
         yield built
         yield cargo("test")
-        ccheck, clist = compiled(work, "ccheck"), compiled(work, "clist")
+        ccheck, clist, cindex = (compiled(work, name) for name in ("ccheck", "clist", "cindex"))
         yield ccheck is not None and subprocess.run([ccheck]).returncode == 0
-        if built and clist is not None:
-            yield from agreed(clist, seed, count)
+        if built and clist is not None and cindex is not None:
+            yield from agreed(clist, cindex, seed, count)
         else:
             yield False
 

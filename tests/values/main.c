@@ -14,5 +14,6 @@ int main(void) {
     logs();
     types();
     collated();
+    indexed();
     return 0;
 }

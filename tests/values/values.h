@@ -32,6 +32,7 @@ void observations(void);
 void logs(void);
 void types(void);
 void collated(void);
+void indexed(void);
 
 /* A line of a message by its name: its payload's fields and the frame that they are written as, or the refusal. */
 void say_message(const char *name, const uint8_t *payload, size_t n);

@@ -1,11 +1,13 @@
-/* Checks what clist does not show: the published CRC values, that a message's
- * fields fill its length, a LOG longer than any frame's, the collator's making
- * and refusals, and the counts of closed reading. */
+/* Checks what clist and cindex do not show: the published CRC values, that a
+ * message's fields fill its length, a LOG longer than any frame's, the
+ * collator's making and refusals, an index's refusals, and the counts of closed
+ * reading. */
 #include "fast.h"
 
 #include <stdio.h>
 #include <string.h>
 
+#include "index.h"
 #include "messages.h"
 
 static int failed;
@@ -71,10 +73,43 @@ static void check_crc(void)
         }
 }
 
+/* Over two frames of type and sender 0. */
+static void check_index(void)
+{
+    const uint8_t two[16] = {0x55, 0, 0, 0, 0, 0, 0, 0, 0x55};
+    const size_t room = TWIN_INDEX;
+    uint8_t index[TWIN_INDEX];
+    struct twin_entry list[2] = {{7, 7, 7, 7}, {7, 7, 7, 7}};
+    uint64_t place = 7, count = 7;
+    check(twin_index(index, room - 1) == 32, "index's 32");
+    check(twin_index(index, room) == 0, "index");
+    check(twin_extend(index, room - 1, two, 16, list, 2) == 32, "extend's 32");
+    check(twin_extend(index, room, two, 16, list, 1) == 51, "extend's 51");
+    check(list[0].offset == 7 && list[1].offset == 7, "51 writes nothing");
+    check(twin_extend(index, room, two, 16, list, 2) == 0, "extended");
+    check(list[0].offset == 0 && list[1].offset == 8, "entries");
+    check(twin_extend(index, room, two, 15, list, 0) == 52, "52 before 51");
+    check(twin_extend(index, room, two, 16, list, 1) == 51, "51, nothing new");
+    check(twin_first(index, room - 1, list, 0, 0, 0, 0, &place) == 32,
+          "first's 32");
+    check(twin_first(index, room, list, 1, 0, 0, 0, &place) == 51,
+          "first's 51");
+    check(twin_first(index, room, list, 2, 0, 0, 9, &place) == TWIN_NONE,
+          "none");
+    check(place == 7, "none writes nothing");
+    check(twin_first(index, room, list, 2, 0, 0, 8, &place) == 0 && place == 1,
+          "first");
+    check(twin_count(index, room - 1, 0, &count) == 32, "count's 32");
+    check(twin_count(index, room, 0, &count) == 21, "count's 21");
+    check(count == 7, "21 writes nothing");
+    check(twin_count(index, room, 0x0401, &count) == 0 && count == 0, "count");
+}
+
 int main(void)
 {
     check_lengths();
     check_crc();
+    check_index();
 
     /* A letter after zeros. */
     uint8_t log[256] = {0};

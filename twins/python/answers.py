@@ -10,7 +10,7 @@ import binascii
 import struct
 import sys
 
-from twin import FIX_MODES, FLAGS, HEARTBEAT_FLAGS, MESSAGES, NAMES, OBS, Sorter, answer, frame, is_obs, log_answer, made, obs, reading, row
+from twin import FIX_MODES, FLAGS, HEARTBEAT_FLAGS, MESSAGES, NAMES, OBS, Index, Sorter, answer, frame, is_obs, log_answer, made, obs, reading, row
 
 # type through payload of the example frame of 003, section 4, and the fields that table 4.0.2 reads in it
 EXAMPLE = bytes.fromhex("0202cc0414703dd018cfefffffefe8fffff018000000000500")
@@ -342,6 +342,61 @@ def collated():
         yield name + "".join(epochs)
 
 
+def indexed_capture():
+    """Document 01's, whose last byte begins a frame that does not come; then frames of any payload, the last without its last byte."""
+    start = b"\0" + frame(0x0202, 1228, EXAMPLE[5:]) + frame(OBS, 0, obs(1000, 1900, 0x10, 0)) + b"\x55"
+    frames = (0xFFFF, 1228, 4), (0xFFFF, 0, 4), (0x0800, 1228, 10), (OBS, 1228, 6), (0x0401, 0, 0), (0xFFFF, 1228, 4), (0x00A1, 66, 0), (0xFFFF, 0, 4)
+    return (start + b"".join(frame(kind, sender, mixed(3, 37, size)) for kind, sender, size in frames))[:-1]
+
+
+def entries(index):
+    return ("entry %d %d %d %d %d" % (place, *one) for place, one in enumerate(index.entries))
+
+
+def first(index, most, kind, sender, offset):
+    refusal, place = index.first(most, kind, sender, offset)
+    return "first %d %d %d %s" % (kind, sender, offset, "refused %d" % refusal if refusal else "none" if place is None else place)
+
+
+def firsts(index):
+    """Each frame at its offset, one before and one after; its type of another sender, and another type of its sender."""
+    for at, kind, sender, _ in index.entries:
+        asked = [(kind, sender, at + k) for k in (-1, 0, 1)] + [(kind, (sender + 1) % 2**16, 0), ((kind + 1) % 2**16, sender, 0), (kind, sender, 2**64 - 1)]
+        yield from (first(index, 16, *one) for one in asked)
+
+
+def indexed():
+    """An index in some bytes, and over no list; then extended byte by byte, in the shortest list; its entries, its counts, what is found; refusals."""
+    for room in 0, 207, 208, 209:
+        yield "index-room %d" % room + (" refused 32" * 4 if room < 208 else " refused 0 refused 0 none refused 0")
+    data, index = indexed_capture(), Index()
+    for size in range(len(data) + 1):
+        refusal = index.extend(data[:size], 16)
+        yield "extend %d " % size + ("refused %d" % refusal if refusal else "%d %d %d" % (len(index.entries), index.reached, len(index.entries)))
+    yield from entries(index)
+    counts = {kind: index.count(kind) for kind in range(65536)}
+    yield from ("count %04x 0 %d" % (kind, count) for kind, (refusal, count) in counts.items() if not refusal)
+    yield "uncounted %d" % sum(refusal == 21 for refusal, _ in counts.values())
+    yield from firsts(index)
+    held, end = len(index.entries), index.reached
+    lists = (end - 1, 0), (end - 1, held), (end, held - 1), (len(data), 0), (end, held)
+    yield "short" + "".join(" refused %d" % index.extend(data[:size], most) for size, most in lists)
+    yield first(index, held - 1, *index.entries[0][1:3], 0)
+    yield from far(data)
+
+
+def far(data):
+    """The same capture after 4 GiB that were read before: all is found so much later."""
+    before, index = 2**32, Index()
+    index.extend(data, 16)
+    index.entries = [(before + at, *rest) for at, *rest in index.entries]
+    yield "extend %d %d %d %d" % (before + len(data), len(index.entries), before + index.reached, len(index.entries))
+    yield from entries(index)
+    at, kind, sender, _ = index.entries[2]
+    yield first(index, 16, kind, sender, at)
+    yield first(index, 16, kind, sender, at + 1)
+
+
 # the messages by their types in the order in which rewritten has them, and where mixed bytes begin, such that flags are in their range
 MIXED = {
     0x0206: 5, 0x0200: 5, 0x0201: 5, 0x0202: 2, 0x0204: 5, 0x0203: 7, 0x0205: 5, 0x0207: 4, 0x0044: 5, 0x0048: 5, 0x0081: 5, 0x0082: 5, 0x0083: 5,
@@ -377,7 +432,7 @@ def lines():
 
 def asked():
     """What tests/values prints: the published values again, and all that the linked functions can be asked."""
-    for part in published, sums, captures, written, each, orbits, flags, observations, logs, types, collated:
+    for part in published, sums, captures, written, each, orbits, flags, observations, logs, types, collated, indexed:
         yield from part()
 
 

@@ -1,5 +1,5 @@
-"""A twin in Python, by the words of documents 01 and 003 and of requests P1 and P2, with Python's own codecs: frames, payload answers, flags,
-epochs, the listing.
+"""A twin in Python, by the words of documents 01 and 003 and of requests P1, P2 and P5, with Python's own codecs: frames, payload answers, flags,
+epochs, the listing, an index beside a capture.
 
 It has none of our code and looks at none.
 """
@@ -106,6 +106,45 @@ def answer(kind, payload):
 
 def obs(tow, wn, n_obs, count):
     return struct.pack("<IHB", tow, wn, n_obs) + bytes(16 * count)
+
+
+COUNTED = {OBS, 0x0401, *NAMES}  # the types that have a reading
+
+
+class Index:
+    """P5's index by its meaning: what a full open reading of the capture has, made afresh each time. A list is told by how many entries it has."""
+
+    def __init__(self):
+        self.reached, self.entries = 0, []
+
+    def extend(self, data, most):
+        if len(data) < self.reached:
+            return 52
+        found, counts, _ = reading(data, True)
+        if most < len(found):
+            return 51
+        self.reached, self.entries = sum(counts.values()), [(at, kind, sender, len(payload)) for at, kind, sender, payload in found]
+        return 0
+
+    def first(self, most, kind, sender, offset):
+        """The refusal or 0, and the place of the first such frame at or after the offset, or None."""
+        if most < len(self.entries):
+            return 51, None
+        places = (place for place, entry in enumerate(self.entries) if entry[1:3] == (kind, sender) and entry[0] >= offset)
+        return 0, next(places, None)
+
+    def count(self, kind):
+        """The refusal or 0, and how many frames of that type were read."""
+        return (0, sum(entry[1] == kind for entry in self.entries)) if kind in COUNTED else (21, None)
+
+    def lines(self):
+        """Each entry with the place of the next like it, the counts, the position reached and how many entries are held."""
+        for at, kind, sender, length in self.entries:
+            _, place = self.first(len(self.entries), kind, sender, at + 1)
+            yield "F %d %d %d %d%s" % (at, kind, sender, length, "" if place is None else " %d" % place)
+        for kind in sorted(COUNTED):
+            yield "C %d %d" % (kind, self.count(kind)[1])
+        yield "T %d %d" % (self.reached, len(self.entries))
 
 
 def made(roster):

@@ -6,6 +6,7 @@
 mod captures;
 mod collators;
 mod fields;
+mod indexes;
 mod meanings;
 mod messages;
 mod talk;
@@ -13,12 +14,13 @@ mod talk;
 use std::io::{self, Write};
 
 use collators::Held;
+use indexes::Kept;
 use talk::{Reply, Request};
 
 fn main() -> io::Result<()> {
     let mut request = Request::of(io::stdin().lock());
     let mut out = io::stdout().lock();
-    let mut held = Held::default();
+    let (mut held, mut kept) = (Held::default(), Kept::default());
     while let Some(letter) = request.letter()? {
         let mut reply = Reply::default();
         match letter {
@@ -41,6 +43,10 @@ fn main() -> io::Result<()> {
             b'm' => held.roster(&mut request, &mut reply)?,
             b'g' => held.growing(&mut request, &mut reply)?,
             b'f' => held.feed(&mut request, &mut reply)?,
+            b'I' => kept.make(&mut request, &mut reply)?,
+            b'E' => kept.extend(&mut request, &mut reply)?,
+            b'q' => kept.first(&mut request, &mut reply)?,
+            b'k' => kept.count(&mut request, &mut reply)?,
             _ => return Err(io::Error::other("no such request")),
         }
         out.write_all(&reply.bytes)?;

@@ -88,7 +88,7 @@ impl<'a, F: Fn(u16, &[u8]) -> u16> Finder<'a, F> {
 /// are looked at together: a byte of 0x55 becomes 0, and 0 is the one byte
 /// that borrows in the subtraction below.
 #[inline]
-fn junk_run(bytes: &[u8]) -> usize {
+pub(super) fn junk_run(bytes: &[u8]) -> usize {
     const ONES: u64 = 0x0101_0101_0101_0101;
     // Between frames the run is empty; that case goes first.
     if bytes.first() == Some(&0x55) {

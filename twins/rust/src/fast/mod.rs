@@ -7,6 +7,7 @@ mod crc;
 mod decimal;
 mod find;
 mod formats;
+mod index;
 mod listing;
 mod rows;
 
@@ -14,5 +15,6 @@ pub use answer::answer;
 pub use collate::{Collator, Epoch};
 pub use crc::{crc_sliced, crc_table};
 pub use find::{closed, Counts};
+pub use index::{Entry, Index};
 pub use listing::listing_into;
 pub use rows::{read_row, write_row};

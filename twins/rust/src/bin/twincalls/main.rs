@@ -4,9 +4,10 @@
 //!
 //! A request is a letter and its arguments, little-endian; what is lent to be
 //! read comes as a count and its contents, what is lent to be written as a
-//! count, and it is filled with 0xEE first. A reply is the answer, a byte that
-//! is 1 where nothing else was touched, and the FNV-1a hash of all bytes of
-//! each buffer lent to be written; where nothing is lent, the answer alone.
+//! count, and it is filled with 0xEE first (an index to be extended and its
+//! list come with their contents). A reply is the answer, a byte that is 1
+//! where nothing else was touched, and the FNV-1a hash of all bytes of each
+//! buffer lent to be written; where nothing is lent, the answer alone.
 //!
 //! usage: twincalls SEED COUNT c|rust COMMAND [WORD..]
 
@@ -14,6 +15,7 @@ mod asked;
 mod captures;
 mod collators;
 mod feeding;
+mod indexes;
 mod meanings;
 mod reading;
 mod states;
@@ -55,6 +57,7 @@ fn main() -> ExitCode {
         writing::ask(&mut asked, &mut rng);
         meanings::ask(&mut asked, &mut rng);
         collators::ask(&mut asked, &mut rng);
+        indexes::ask(&mut asked, &mut rng, &bytes);
     }
     wanted::report(&asked);
     let wrong = asked.failed;

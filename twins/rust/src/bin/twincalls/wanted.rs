@@ -23,7 +23,7 @@ const OF_BOTH: [Wanted; 10] = [
     ("phase_parts", &[0, 33]),
 ];
 
-const OF_C: [Wanted; 14] = [
+const OF_C: [Wanted; 21] = [
     ("version", &[0]),
     ("next", &[0, 1, 2, 32]),
     ("totals", &[0, 32]),
@@ -38,9 +38,16 @@ const OF_C: [Wanted; 14] = [
     ("write", &[0, 21, 22, 23, 32]),
     ("write_obs", &[0, 21, 22, 23, 31, 32]),
     ("flags", &[0, 21]),
+    ("index", &[0, 32]),
+    ("extend", &[0, 32, 51, 52]),
+    ("first", &[0, 1, 32, 51]),
+    ("count", &[0, 21, 32]),
+    ("extend made up", &[0, 32, 51, 52]),
+    ("first made up", &[0, 1, 32, 51]),
+    ("count made up", &[0, 21, 32]),
 ];
 
-const OF_RUST: [Wanted; 12] = [
+const OF_RUST: [Wanted; 16] = [
     ("next", &[0, 1, 2]),
     ("totals", &[0]),
     ("list", &[0, 11]),
@@ -53,6 +60,10 @@ const OF_RUST: [Wanted; 12] = [
     ("flags", &[0]),
     ("write", &[0, 23, 32]),
     ("write_obs", &[0, 31, 32]),
+    ("index", &[0]),
+    ("extend", &[0, 52]),
+    ("first", &[0, 1]),
+    ("count", &[0, 21]),
 ];
 
 const RANGED: [u16; 6] = [0x0100, 0x0200, 0x0201, 0x0202, 0x0203, 0x0207];
