@@ -3,7 +3,7 @@
 # captures and on what goes wrong. A comparison that fails is a line 'differs: ..'; the last line is 'N passed, M failed'.
 # gcc and g++ are needed; clang and clang++ are asked too where they are. LIB names another library than link/library's, OPT another optimisation
 # than -O2.
-# usage: tests/header.sh [compile] [inline] [epochs] [grows] [writes] [errors] (all where none is named; after link/library and rt check sbplist)
+# usage: tests/header.sh [compile] [inline] [epochs] [grows] [writes] [finds] [errors] (all where none is named; after link/library and rt check sbplist)
 set -eu
 cd "$(dirname "$0")/.."
 lib=${LIB:-target/lib/libyaqtumeer.a}
@@ -110,7 +110,7 @@ inline() {
     sed -n '/^static/d; s/^[a-z].*[ *]\(sbp_[a-z_]*\)(.*/\1/p' "$header" | sort >"$work/declared"
     nm -g --defined-only "$lib" 2>/dev/null | sed -n 's/.* T \(sbp_.*\)/\1/p' | sort | comm -12 - "$work/declared" >"$work/there"
     same "a function that the library lacks" "$work/declared" "$work/there"
-    held "differs: a function that the Rust wrapper declares otherwise" python3 -B tests/signatures.py
+    held "differs: a function that the Rust wrapper or the Rattle source declares otherwise" python3 -B tests/signatures.py
 }
 
 # ---- the examples
@@ -246,6 +246,40 @@ LINES
     same "the listing of what is written" "$work/lines" "$work/listing"
 }
 
+finds() { # each question against sbplist's lines: in these captures closed reading finds no frame that open reading does not
+    local kind sender offset capture
+    for capture in "$sample" "$work/crowd"; do
+        listed "$capture" F >"$work/frames"
+        while read -r kind sender offset; do
+            awk -v k="$((kind))" -v s="$((sender))" -v o="${offset:-0}" '$3 == k && $4 == s && $2 >= o { print $1, $2, $3, $4, $5; found = 1; exit }
+                END { if (!found) print "N" }' "$work/frames" >"$work/lines"
+            [ "$((kind))" -eq 2048 ] || awk -v k="$((kind))" '$3 == k { n++ } END { print "C", n + 0 }' "$work/frames" >>"$work/lines"
+            ends "finds $kind $sender $offset" 0 "$work/finds" "$capture" $kind $sender $offset
+            same "finds $kind $sender $offset in ${capture##*/}" "$work/lines" "$work/out"
+        done <<'QUESTIONS'
+65535 1228 4000
+0xffff 0x4cc
+73 0 99
+73 0 100
+0x0049 60009
+73 7 1
+513 1228 0
+1025 0
+2048 9
+QUESTIONS
+    done
+    # several MiB: the first of one's places, so many times further on
+    listed "$work/one" F | awk -v size="$(wc -c <"$work/one")" -v n="$times" '$3 == 65535 { place[m++] = $2 }
+        END { for (k = 0; k < n; k++) for (i = 0; i < m; i++) print "F", k * size + place[i], 65535, 1228, 4 }' >"$work/beats"
+    awk '$2 >= 1000000 { print; exit }' "$work/beats" >"$work/lines"
+    echo "C $(wc -l <"$work/beats")" >>"$work/lines"
+    ends "finds in several MiB" 0 "$work/finds" "$work/many" 65535 1228 1000000
+    same "finds in several MiB" "$work/lines" "$work/out"
+    printf 'N\nC 0\n' >"$work/lines"
+    ends "finds in nothing" 0 "$work/finds" /dev/null 73 0
+    same "finds in nothing" "$work/lines" "$work/out"
+}
+
 errors() {
     local program
     for program in epochs grows; do
@@ -256,6 +290,12 @@ errors() {
     done
     ends "epochs of two files" 2 "$work/epochs" "$sample" "$sample"
     ends "grows for no number of seconds" 2 "$work/grows" "$sample" soon
+    ends "finds of a directory" 1 "$work/finds" "$work" 73 0
+    ends "finds of a missing file" 1 "$work/finds" "$work/none" 73 0
+    ends "finds to a full disk" 1 sh -c '"$1" "$2" 73 0 >/dev/full' sh "$work/finds" "$sample"
+    ends "finds without a sender" 2 "$work/finds" "$sample" 73
+    ends "finds of no type" 2 "$work/finds" "$sample" 65536 0
+    ends "finds from a negative offset" 2 "$work/finds" "$sample" 73 0 -1
     ends "writes with an argument" 2 "$work/writes" "$sample"
     ends "writes to a full disk" 1 sh -c '"$1" >/dev/full' sh "$work/writes"
 }
@@ -263,18 +303,18 @@ errors() {
 prepared() { # the examples and the captures are there
     [ -x target/bin/sbplist ] || missing "target/bin/sbplist (rt check sbplist makes it)"
     local program
-    for program in epochs grows writes; do
+    for program in epochs grows writes finds; do
         [ -x "$work/$program" ] || held "not built: $program" gcc -std=c99 $flags -o "$work/$program" "link/examples/$program.c" "$lib"
         [ -x "$work/$program" ] || return 1
     done
     [ -f "$work/written" ] || captures
 }
 
-[ $# -gt 0 ] || set -- compile inline epochs grows writes errors
+[ $# -gt 0 ] || set -- compile inline epochs grows writes finds errors
 for part; do
     case $part in
     compile | inline) "$part" ;;
-    epochs | grows | writes | errors) ! prepared || "$part" ;;
+    epochs | grows | writes | finds | errors) ! prepared || "$part" ;;
     *) missing "a part $part" ;;
     esac
 done

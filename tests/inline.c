@@ -1,5 +1,5 @@
-/* Calls every inline function of sbp.h, looks at every name in it and holds its sizes, and what it says of LOG's text and of the CRC, to the
- * library. What is not as it should be is a line 'differs: ..'; the last line is 'N passed, M failed'. No two bytes of a row are alike, so that a
+/* Calls every inline function of sbp.h, looks at every name in it and holds its sizes, and what it says of LOG's text, of the CRC and of an index,
+ * to the library. What is not as it should be is a line 'differs: ..'; the last line is 'N passed, M failed'. No two bytes of a row are alike, so that a
  * field from another place, of another width or without its sign shows.
  * usage: inline (tests/header.sh builds and runs it) */
 #include <inttypes.h>
@@ -438,6 +438,14 @@ static void report(void) {
     SAME("observations", r.observations, 0x0B0A);
 }
 
+static void indexed(void) {
+    uint8_t bytes[SBP_INDEX];
+    counted(bytes, sizeof bytes);
+    const struct sbp_indexed x = sbp_indexed_of(bytes);
+    SAME("reached", x.reached, 0x0807060504030201);
+    SAME("held", x.held, 0x100F0E0D0C0B0A09);
+}
+
 /* ---- the parts of rows */
 
 static void numbers(void) {
@@ -515,6 +523,7 @@ static void sizes(void) {
     NAME(SBP_TOTALS, 32);
     NAME(SBP_STATE, 105);
     NAME(SBP_REPORT, 11);
+    NAME(SBP_INDEX, 208);
     NAME(SBP_PAYLOAD_MOST, 255);
     NAME(SBP_FRAME_MOST, 263);
     NAME(SBP_TEXT_MOST, 254);
@@ -558,10 +567,10 @@ static void fields(void) {
 
 static void version(void) {
     NAME(SBP_VERSION_MAJOR, 0);
-    NAME(SBP_VERSION_MINOR, 11);
+    NAME(SBP_VERSION_MINOR, 12);
     NAME(SBP_VERSION_PATCH, 0);
-    NAME(SBP_VERSION, 1100);
-    SAME("sbp_version()", sbp_version(), 1100);
+    NAME(SBP_VERSION, 1200);
+    SAME("sbp_version()", sbp_version(), 1200);
 }
 
 static const struct {
@@ -583,6 +592,8 @@ static const struct {
     REFUSAL(44, NO_PACKETS),
     REFUSAL(45, WRONG_COUNTER),
     REFUSAL(46, NOT_OBS),
+    REFUSAL(51, LIST_SHORT),
+    REFUSAL(52, CAPTURE_SHORT),
 };
 
 /* The name of each number, and none of all others. */
@@ -824,11 +835,104 @@ static void crcs(void) {
     SAME("a frame's CRC in parts", sbp_crc(sbp_crc(0, header + 1, 5), payload, sizeof payload), 0x9443);
 }
 
+/* ---- an index: three frames, and the beginning of a fourth */
+
+static const struct sbp_entry three[] = {{2, 0xB2A1, 0xD2C1, 3}, {13, SBP_MSG_HEARTBEAT, 1228, 4}, {25, 0xB2A1, 0xD2C1, 0}};
+
+/* The frames of three at their offsets, junk before them and a short after; says the capture's length. */
+static size_t capture_of_three(uint8_t capture[64]) {
+    const uint8_t payload[4] = {0};
+    size_t n = 2;
+    memset(capture, 0, 64);
+    for (size_t i = 0; i < 3; i++) {
+        uint64_t size = 0;
+        SAME("a frame", sbp_write_frame(capture + n, 64 - n, three[i].kind, three[i].sender, payload, three[i].length, &size), SBP_OK);
+        SAME("its place", n, three[i].offset);
+        n += (size_t)size;
+    }
+    capture[n] = 0x55;
+    return n + 1;
+}
+
+static void same_entry(const struct sbp_entry *got, const struct sbp_entry *wanted) {
+    SAME("offset", got->offset, wanted->offset);
+    SAME("kind", got->kind, wanted->kind);
+    SAME("sender", got->sender, wanted->sender);
+    SAME("length", got->length, wanted->length);
+}
+
+/* Where the library has a field, the header has it: an entry is filled, and its neighbours are not. */
+static void entries(void) {
+    uint8_t capture[64], index[SBP_INDEX];
+    struct sbp_entry list[5];
+    const size_t n = capture_of_three(capture);
+    memset(list, 0xEE, sizeof list);
+    SAME("sizeof struct sbp_entry", sizeof(struct sbp_entry), 16);
+    SAME("sbp_index", sbp_index(index, SBP_INDEX), SBP_OK);
+    SAME("sbp_extend", sbp_extend(index, SBP_INDEX, capture, n, list + 1, 4), SBP_OK);
+    const struct sbp_indexed x = sbp_indexed_of(index);
+    SAME("reached", x.reached, n - 1);
+    SAME("held", x.held, 3);
+    for (size_t i = 0; i < 3; i++) {
+        same_entry(&list[i + 1], &three[i]);
+    }
+    SAME("before the list", all_are((const uint8_t *)&list[0], sizeof *list, 0xEE), true);
+    SAME("after the entries held", all_are((const uint8_t *)&list[4], sizeof *list, 0xEE), true);
+}
+
+static void questions(void) {
+    uint8_t capture[64], index[SBP_INDEX];
+    struct sbp_entry list[3];
+    uint64_t place = 77, count = 77;
+    const size_t n = capture_of_three(capture);
+    sbp_index(index, SBP_INDEX);
+    sbp_extend(index, SBP_INDEX, capture, n, list, 3);
+    SAME("sbp_first", sbp_first(index, SBP_INDEX, list, 3, 0xB2A1, 0xD2C1, 2, &place), SBP_OK);
+    SAME("its place", place, 0);
+    SAME("sbp_first after it", sbp_first(index, SBP_INDEX, list, 3, 0xB2A1, 0xD2C1, 3, &place), SBP_OK);
+    SAME("its place", place, 2);
+    SAME("sbp_first of another sender", sbp_first(index, SBP_INDEX, list, 3, 0xB2A1, 1228, 0, &place), SBP_END);
+    SAME("sbp_first of a shorter list", sbp_first(index, SBP_INDEX, list, 2, 0xB2A1, 0xD2C1, 0, &place), SBP_LIST_SHORT);
+    SAME("sbp_first with less", sbp_first(index, SBP_INDEX - 1, list, 3, 0xB2A1, 0xD2C1, 0, &place), SBP_NO_ROOM);
+    SAME("the place of none", place, 2);
+    SAME("sbp_count", sbp_count(index, SBP_INDEX, SBP_MSG_HEARTBEAT, &count), SBP_OK);
+    SAME("the count", count, 1);
+    SAME("sbp_count of no type", sbp_count(index, SBP_INDEX, 0xB2A1, &count), SBP_UNKNOWN_TYPE);
+    SAME("sbp_count with less", sbp_count(index, SBP_INDEX - 1, SBP_MSG_OBS, &count), SBP_NO_ROOM);
+    SAME("a refusal's count", count, 1);
+}
+
+/* In their order, with nothing written; and n / 8 entries have room for every capture. */
+static void indexes_refused(void) {
+    uint8_t capture[64], index[SBP_INDEX], before[SBP_INDEX];
+    struct sbp_entry list[8];
+    const size_t n = capture_of_three(capture);
+    SAME("sbp_index with less", sbp_index(index, SBP_INDEX - 1), SBP_NO_ROOM);
+    sbp_index(index, SBP_INDEX);
+    SAME("sbp_extend with less", sbp_extend(index, SBP_INDEX - 1, capture, n, list, 3), SBP_NO_ROOM);
+    SAME("sbp_extend of a shorter list", sbp_extend(index, SBP_INDEX, capture, n, list, 2), SBP_LIST_SHORT);
+    SAME("sbp_extend after a refusal", sbp_extend(index, SBP_INDEX, capture, n, list, 3), SBP_OK);
+    memcpy(before, index, sizeof index);
+    SAME("a list that has become shorter", sbp_extend(index, SBP_INDEX, capture, n, list, 2), SBP_LIST_SHORT);
+    SAME("a capture that has become shorter", sbp_extend(index, SBP_INDEX, capture, n - 2, list, 2), SBP_CAPTURE_SHORT);
+    SAME("a refusal's index", memcmp(index, before, sizeof index) == 0, true);
+    SAME("sbp_extend by nothing", sbp_extend(index, SBP_INDEX, capture, n - 1, list, 3), SBP_OK);
+    SAME("an index extended by nothing", memcmp(index, before, sizeof index) == 0, true);
+    memset(capture, 0, sizeof capture);
+    for (size_t at = 0; at < sizeof capture; at += 8) {
+        capture[at] = 0x55; /* a frame: the CRC of five zeros is 0 */
+    }
+    sbp_index(index, SBP_INDEX);
+    SAME("an entry for each 8 bytes", sbp_extend(index, SBP_INDEX, capture, sizeof capture, list, sizeof capture / 8), SBP_OK);
+    SAME("those held", sbp_indexed_of(index).held, 8);
+}
+
 int main(void) {
     messages_both_ways();
     found();
     counts();
     report();
+    indexed();
     numbers();
     signs();
     doubles();
@@ -847,6 +951,9 @@ int main(void) {
     logs_written();
     logs_refused();
     crcs();
+    entries();
+    questions();
+    indexes_refused();
     printf("%u passed, %u failed\n", passed, failed);
     return failed != 0;
 }

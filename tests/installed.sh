@@ -39,6 +39,8 @@ holds "one version" versioned
 listed_by() { "$@" <"$sample" | cmp - "$work/listed"; }
 holds "the installed sbplist" listed_by "$work/at/bin/sbplist"
 holds "the installed sbp" listed_by "$work/at/bin/sbp" list
+found_by() { [ "$("$@" "$sample" HEARTBEAT 1228 4000)" = "F 4422 65535 1228 4" ]; }
+holds "the installed sbp finds" found_by "$work/at/bin/sbp" find
 holds "tools/install without a prefix" ends 2 "usage" tools/install
 holds "tools/run without a program" ends 2 "usage" tools/run
 holds "tools/run of no program" ends 127 "no program" tools/run nothing

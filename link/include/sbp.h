@@ -1,11 +1,12 @@
-/* SBP 1.1 (Swift Navigation Binary Protocol) for C and C++: frames, messages read and written, observation epochs, listings. A proved library.
+/* SBP 1.1 (Swift Navigation Binary Protocol) for C and C++: frames, messages read and written, observation epochs, listings,
+ * an index beside a capture. A proved library.
  *
  * A frame is the byte 0x55, a type and a sender of 16 bits, a length N of 8 bits, N bytes of payload and a CRC of 16 bits, all little-endian:
  * N + 8 bytes. A payload of a type that is named below has fields; every type, named or not, may stand in a frame.
  *
  * Every function ends, on any input, and changes nothing but the memory that it is lent to write. What the caller keeps is said at each: that
  * a pointer and its length agree (so many bytes or numbers are there, for the length of the call), that memory lent to be written overlaps no
- * other argument, and that a pointer to uint16_t, int32_t or uint64_t is aligned. A length of 0 may come with any pointer.
+ * other argument, and that a pointer to uint16_t, int32_t, uint64_t or a struct is aligned. A length of 0 may come with any pointer.
  *
  * A function that can refuse answers with a uint8_t: 0 or another small number where it was done, or one of the refusals below. A refusal
  * writes nothing: no buffer, no row, no size, no state. Where several hold, it is the first in the order in which the function names them. */
@@ -30,7 +31,7 @@ extern "C" {
 
 /* This header's version; sbp_version tells the library's in the same form. */
 #define SBP_VERSION_MAJOR 0
-#define SBP_VERSION_MINOR 11
+#define SBP_VERSION_MINOR 12
 #define SBP_VERSION_PATCH 0
 #define SBP_VERSION (10000 * SBP_VERSION_MAJOR + 100 * SBP_VERSION_MINOR + SBP_VERSION_PATCH)
 
@@ -63,7 +64,8 @@ extern "C" {
 /* Given to a writer for a sender, this (as any number above 65535) means that none is given: 0x42 is written. */
 #define SBP_NO_SENDER 0x10000
 
-/* Done; of sbp_next: a frame, the end, more bytes are needed; of sbp_feed: taken, and taken with an epoch ended. */
+/* Done; of sbp_next: a frame, the end, more bytes are needed; of sbp_feed: taken, and taken with an epoch ended; of
+ * sbp_first: found, and SBP_END for none. */
 #define SBP_OK 0
 #define SBP_FRAME 0
 #define SBP_END 1
@@ -86,6 +88,8 @@ extern "C" {
 #define SBP_NO_PACKETS 44          /* the frame says that its epoch has 0 packets */
 #define SBP_WRONG_COUNTER 45       /* the frame's counter is not below its epoch's number of packets */
 #define SBP_NOT_OBS 46             /* the frame fed is not OBS */
+#define SBP_LIST_SHORT 51          /* the list is shorter than the frames that it has to hold */
+#define SBP_CAPTURE_SHORT 52       /* the capture is shorter than the position that its index has reached */
 
 /* What sbp_fix answers. */
 #define SBP_FIX_SINGLE_POINT 0
@@ -93,11 +97,12 @@ extern "C" {
 #define SBP_FIX_FIXED 2
 #define SBP_FIX_RESERVED 3
 
-/* Bytes of the rows and of a collator's state. */
+/* Bytes of the rows, of a collator's state and of an index's numbers. */
 #define SBP_FOUND 53
 #define SBP_TOTALS 32
 #define SBP_STATE 105
 #define SBP_REPORT 11
+#define SBP_INDEX 208
 
 /* The most of each: bytes of a payload, of a frame and of LOG's text with its padding, observations in a frame, senders on a roster. */
 #define SBP_PAYLOAD_MOST 255
@@ -273,6 +278,43 @@ uint8_t sbp_enlist(uint8_t *state, size_t room, uint16_t kind, uint16_t sender);
  * The caller keeps: room bytes to read and write are at state, n bytes at payload, report_room bytes to write at report; none overlaps another. */
 uint8_t sbp_feed(uint8_t *state, size_t room, uint16_t kind, uint16_t sender, const uint8_t *payload, size_t n, uint8_t *report, size_t report_room);
 
+/* ---- an index beside a capture: where each frame stands, how far open reading has come, and how many frames there are of each type that has a
+ * reading. Its numbers are SBP_INDEX bytes, and its entries a list, one for each frame in the capture's order; the caller keeps both as the calls
+ * left them. While the capture grows and keeps its earlier bytes, extending comes to the index that one made afresh would be. Frames with a
+ * payload that is refused are frames. Any bytes and entries are taken: they are some index, by whose numbers a call goes. */
+
+/* A frame: where it begins in the capture, its type, its sender, the length of its payload. The bytes between the fields are nobody's. */
+struct sbp_entry {
+    uint64_t offset;
+    uint16_t kind;
+    uint16_t sender;
+    uint8_t length;
+};
+
+/* An index of nothing: SBP_OK, and index[0 .. SBP_INDEX] has the numbers of an empty list; or SBP_NO_ROOM.
+ * The caller keeps: room bytes to write are at index. */
+uint8_t sbp_index(uint8_t *index, size_t room);
+
+/* Reads on in a capture, whole and from its start, where the index has stopped, in open reading: to the capture's end, or to a frame that has not
+ * come whole. SBP_OK, and the entries of the frames that came stand after those that were held; or SBP_NO_ROOM: room is below SBP_INDEX,
+ * SBP_CAPTURE_SHORT, SBP_LIST_SHORT: most is below the frames to hold afterwards, those that were held among them. A frame takes 8 bytes or more,
+ * so that n / 8 entries have room for every capture of n bytes; a list with less room than that for the bytes that are left is measured first, by
+ * reading them once more. All other entries stay as they are, to the byte.
+ * The caller keeps: room bytes to read and write are at index, n bytes at capture, most aligned entries to write at entries; none overlaps
+ * another. */
+uint8_t sbp_extend(uint8_t *index, size_t room, const uint8_t *capture, size_t n, struct sbp_entry *entries, size_t most);
+
+/* The first frame of a type and sender that begins at offset or after it: SBP_OK, and *place is where its entry stands in the list; or SBP_END:
+ * none of the frames read so far is such, and *place stays as it is; or SBP_NO_ROOM, SBP_LIST_SHORT: most is below the frames held. Any type may
+ * be asked for. It goes forward from the list's first entry each time.
+ * The caller keeps: room bytes are at index, most aligned entries at entries, and place points to an aligned uint64_t that is no part of them. */
+uint8_t sbp_first(const uint8_t *index, size_t room, const struct sbp_entry *entries, size_t most, uint16_t kind, uint16_t sender, uint64_t offset,
+                  uint64_t *place);
+
+/* How many frames of a type were read so far: SBP_OK, and their number in *count; or SBP_NO_ROOM, SBP_UNKNOWN_TYPE.
+ * The caller keeps: room bytes are at index, and count points to an aligned uint64_t that is no part of them. */
+uint8_t sbp_count(const uint8_t *index, size_t room, uint16_t kind, uint64_t *count);
+
 /* ---- the rows of bytes, little-endian, as structs: X_of is made of a row */
 
 /* Where a frame stands or, with no frame, the reading; where to go on; the bytes needed from there; the bytes passed over on the way, for each
@@ -294,6 +336,11 @@ struct sbp_report {
     uint32_t tow;
     uint8_t n;
     uint16_t observations;
+};
+
+/* An index: the position in the capture that its reading has reached, and how many entries are held. */
+struct sbp_indexed {
+    uint64_t reached, held;
 };
 
 /* The number in n bytes, at most 8. */
@@ -326,6 +373,11 @@ static inline struct sbp_report sbp_report_of(const uint8_t row[SBP_REPORT]) {
     return r;
 }
 
+static inline struct sbp_indexed sbp_indexed_of(const uint8_t index[SBP_INDEX]) {
+    const struct sbp_indexed x = {sbp_number(index, 8), sbp_number(index + 8, 8)};
+    return x;
+}
+
 /* A refusal's name without SBP_, as "OUT_OF_RANGE"; "" for a number that is none. */
 static inline const char *sbp_refusal_name(uint8_t number) {
     switch (number) {
@@ -343,6 +395,8 @@ static inline const char *sbp_refusal_name(uint8_t number) {
     case SBP_NO_PACKETS: return "NO_PACKETS";
     case SBP_WRONG_COUNTER: return "WRONG_COUNTER";
     case SBP_NOT_OBS: return "NOT_OBS";
+    case SBP_LIST_SHORT: return "LIST_SHORT";
+    case SBP_CAPTURE_SHORT: return "CAPTURE_SHORT";
     default: return "";
     }
 }
