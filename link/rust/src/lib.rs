@@ -1,5 +1,6 @@
 //! Swift Navigation Binary Protocol 1.1: frames found in captures and written,
-//! their messages as structs, and observation epochs collated sender by sender.
+//! their messages as structs, observation epochs collated sender by sender, and
+//! an index beside a capture that grows.
 //!
 //! Every decision is made by a library that is proved to make it as the
 //! published protocol says, to be safe and to end on any input; this crate is
@@ -33,6 +34,7 @@ mod collator;
 mod counts;
 mod flags;
 mod frames;
+mod index;
 mod listing;
 mod messages;
 mod phase;
@@ -46,6 +48,7 @@ pub use collator::{Collator, Epoch};
 pub use counts::{Counts, totals};
 pub use flags::Fix;
 pub use frames::{Frame, Frames, answer};
+pub use index::{Entry, Index};
 pub use listing::list;
 pub use messages::*;
 pub use phase::PhaseParts;

@@ -2,6 +2,8 @@
 //! what the caller keeps. A slice crosses as a pointer and a length: slices
 //! keep that these agree, and borrows that what is written overlaps nothing.
 
+use crate::index::Entry;
+
 const _: () = assert!(usize::BITS == 64, "the library is for 64-bit processors");
 
 unsafe extern "C" {
@@ -90,5 +92,25 @@ unsafe extern "C" {
     pub fn sbp_external_antenna(flags: u32) -> bool;
     pub fn sbp_carrier_phase(l_i: i32, l_f: u8) -> i64;
     pub fn sbp_phase_parts(phase: i64, l_i: *mut i32, l_f: *mut u8) -> u8;
+    pub fn sbp_index(index: *mut u8, room: usize) -> u8;
+    pub fn sbp_extend(
+        index: *mut u8,
+        room: usize,
+        capture: *const u8,
+        n: usize,
+        entries: *mut Entry,
+        most: usize,
+    ) -> u8;
+    pub fn sbp_first(
+        index: *const u8,
+        room: usize,
+        entries: *const Entry,
+        most: usize,
+        kind: u16,
+        sender: u16,
+        offset: u64,
+        place: *mut u64,
+    ) -> u8;
+    pub fn sbp_count(index: *const u8, room: usize, kind: u16, count: *mut u64) -> u8;
     pub fn sbp_version() -> u32;
 }

@@ -43,6 +43,13 @@ fn numbers_names_and_texts() {
         (Refusal::NoPackets, 44, "NO_PACKETS", "no packets"),
         (Refusal::WrongCounter, 45, "WRONG_COUNTER", "counter"),
         (Refusal::NotObs, 46, "NOT_OBS", "no observation frame"),
+        (Refusal::ListShort, 51, "LIST_SHORT", "list is shorter"),
+        (
+            Refusal::CaptureShort,
+            52,
+            "CAPTURE_SHORT",
+            "capture is shorter",
+        ),
     ];
     same!("ALL", Refusal::ALL, expected.map(|(refusal, ..)| refusal));
     for (refusal, number, name, words) in expected {

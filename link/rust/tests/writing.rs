@@ -197,7 +197,7 @@ fn versions() {
         version(),
         Version {
             major: 0,
-            minor: 11,
+            minor: 12,
             patch: 0
         }
     );
