@@ -12,6 +12,7 @@ sys.dont_write_bytecode = True
 sys.path.insert(0, os.path.join(os.path.dirname(os.path.abspath(__file__)), "tool_parts"))
 import captures
 import common
+import finds
 import lists
 import objects
 import piped
@@ -21,7 +22,7 @@ import trouble
 import unit
 
 PARTS = {"unit": unit.cases, "list": lists.cases, "long": captures.cases, "pipes": piped.cases, "json": objects.cases, "epochs": tables.cases,
-         "use": trouble.cases, "terminal": terminal.cases}
+         "find": finds.cases, "use": trouble.cases, "terminal": terminal.cases}
 
 
 def difference(got, wanted):

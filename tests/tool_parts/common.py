@@ -16,6 +16,7 @@ import twins
 
 SECONDS = 300
 WAIT = 20
+NOTHING = b"nothing came"
 
 
 def cargo(*words, **how):
@@ -44,7 +45,7 @@ def lacking(parts):
         return "%s, which link/library makes" % library()
     if "list" in parts and not os.path.exists(os.path.join(ROOT, "target", "bin", "sbplist")):
         return "sbplist, which rt check sbplist builds"
-    if {"list", "epochs"} & set(parts) and not twins.cargo("build"):
+    if {"list", "epochs", "find"} & set(parts) and not twins.cargo("build"):
         return "the Rust twin, which generates captures and did not build"
     return None if cargo("build", "--quiet").returncode == 0 else "the tool, which did not build"
 
@@ -62,4 +63,4 @@ def started(*words, **ends):
 
 def line_of(program):
     """A line of what it prints, while more of its input may come."""
-    return program.stdout.readline() if select.select([program.stdout], [], [], WAIT)[0] else b"nothing came"
+    return program.stdout.readline() if select.select([program.stdout], [], [], WAIT)[0] else NOTHING

@@ -46,9 +46,9 @@ def grown(command, data, more):
         return line + program.stdout.read()
 
 
-def memory(command, data):
+def memory(*words, data):
     """The most memory that it had by the time it has read all but what a pipe holds."""
-    with common.started(command, stdout=subprocess.DEVNULL) as program:
+    with common.started(*words, stdout=subprocess.DEVNULL) as program:
         program.stdin.write(data)
         program.stdin.flush()
         with open("/proc/%d/status" % program.pid) as status:
@@ -73,5 +73,5 @@ def cases():
     blank = twin.frame(0, 0, b"")
     yield "list shows nothing that a frame swallows later", grown("list", blank + early, late[len(early):]), twin.lines(blank + late).encode()
     for command in ("list", "json", "epochs"):
-        peak = memory(command, sample * 4000)
+        peak = memory(command, data=sample * 4000)
         yield "%s of a long capture takes little memory (%d bytes)" % (command, peak), peak < MOST_MEMORY, True

@@ -36,10 +36,10 @@ def cases_in(work):
         with open(name, "wb") as file:
             file.write(content)
     known = re.compile(rb"(\r[\d.]+ MiB of %s MiB read, \d+%%\x1b\[K)+\r\x1b\[K" % re.escape(length))
-    for command in ("list", "json", "epochs"):
-        yield "%s of a long file without a terminal" % command, common.run(command, long)[1:], (b"", 0)
-        shown, status = on_terminal(command, long)
-        yield "%s of a long file on a terminal: %r" % (command, shown), (bool(known.fullmatch(shown)), status), (True, 0)
+    for words in (["list", long], ["json", long], ["epochs", long], ["find", long], ["find", long, "OBS"]):
+        yield "%s of a long file without a terminal" % words[0], common.run(*words)[1:], (b"", 0)
+        shown, status = on_terminal(*words)
+        yield "%s of a long file on a terminal: %r" % (words[0], shown), (bool(known.fullmatch(shown)), status), (True, 0)
     with open(long, "rb") as file:
         shown, status = on_terminal("list", stdin=file)
         yield "a long file as standard input on a terminal: %r" % shown, (bool(known.fullmatch(shown)), status), (True, 0)

@@ -14,12 +14,12 @@ import twin
 LISTED = twin.lines(captures.SAMPLE).encode()
 
 
-def read_error(command, data):
+def read_error(*words, data):
     """What it prints, says and leaves where its connection is reset after it has told of all of this: the other end closes with bytes unread."""
     ours, theirs = socket.socketpair()
-    with theirs, common.started(command, stdin=theirs) as program:
+    with theirs, common.started(*words, stdin=theirs) as program:
         ours.sendall(data)
-        told = common.line_of(program) if command != "epochs" else emptied(program, theirs)
+        told = common.line_of(program) if words[0] in ("list", "json") else emptied(program, theirs)
         theirs.sendall(b"\0")
         ours.close()
         return told + program.stdout.read(), program.stderr.read(), program.wait()
@@ -70,11 +70,14 @@ def read_errors():
     for command in ("list", "json", "epochs"):
         whole = common.run(command, data=frame)[0]
         before = b"".join(line for line in whole.splitlines(True) if not line.startswith(b"T "))
-        yield "%s where a read fails in the middle" % command, read_error(command, frame + b"\x55\x49"), (before, said, 1)
+        yield "%s where a read fails in the middle" % command, read_error(command, data=frame + b"\x55\x49"), (before, said, 1)
+    yield "find where a read fails in the middle", read_error("find", "-", "OBS", data=frame), (b"", said, 2)
 
 
 def wrong_use():
-    for words in ([], ["lists"], ["list", "--all"], ["json", "-x", "file"], ["--list"], [""], ["--version", "more"], ["--help", "more"]):
+    for words in ([], ["lists"], ["list", "--all"], ["json", "-x", "file"], ["--list"], [""], ["--version", "more"], ["--help", "more"],
+                  ["find"], ["find", "-"], ["find", "file", "OB"], ["find", "file", "OBS", "-1"], ["find", "file", "OBS", "1", "2", "3"],
+                  ["find", "file", "65536"], ["find", "--all", "file"]):
         out, said, status = common.run(*words)
         yield "wrong use: %s" % words, (out, said.startswith(b"sbp: ") and said.endswith(b"; see sbp --help\n"), status), (b"", True, 2)
 
@@ -84,7 +87,7 @@ def told():
     with open(os.path.join(common.CRATE, "Cargo.toml")) as about:
         version = re.search('^version = "(.*)"', about.read(), re.M).group(1)
     yield "versions", common.run("--version"), (b"sbp %s (library %s)\n" % (version.encode(), version.encode()), b"", 0)
-    asked = {(): "list json epochs", ("list",): "F E T",
+    asked = {(): "list json epochs find", ("list",): "F E T", ("find",): "F N C R TYPE SENDER OFFSET 21 52",
              ("json",): "offset answer preamble msg_type msg_name sender length payload crc padding common pos vel acc UNKNOWN",
              ("epochs",): "sender epochs first_wn first_tow last_wn last_tow observations no_epoch"}
     for command, words in asked.items():

@@ -1,5 +1,7 @@
 //! What the words of the command line ask for.
 
+use crate::find::Question;
+use crate::help;
 use std::ffi::OsString;
 use std::path::PathBuf;
 
@@ -18,9 +20,11 @@ pub enum Source {
 
 #[derive(Debug, PartialEq, Eq)]
 pub enum Asked {
-    Help(Option<Command>),
+    Help(help::Pages),
     Version,
     Run(Command, Vec<Source>),
+    /// One question, or those of standard input.
+    Find(Source, Option<Question>),
 }
 
 /// What is asked for, or what is wrong with it.
@@ -30,11 +34,12 @@ pub fn parse(words: impl IntoIterator<Item = OsString>) -> Result<Asked, String>
         return Err("no command is given".into());
     };
     match first.to_str() {
-        Some("--help" | "-h") => alone(Asked::Help(None), words),
+        Some("--help" | "-h") => alone(Asked::Help(help::USAGE), words),
         Some("--version" | "-V") => alone(Asked::Version, words),
-        Some("list") => files(Command::List, words),
-        Some("json") => files(Command::Json, words),
-        Some("epochs") => files(Command::Epochs, words),
+        Some("list") => files(Command::List, help::LIST, words),
+        Some("json") => files(Command::Json, help::JSON, words),
+        Some("epochs") => files(Command::Epochs, help::EPOCHS, words),
+        Some("find") => find(words),
         _ => Err(format!(
             "no command is called '{}'",
             first.to_string_lossy()
@@ -50,24 +55,66 @@ fn alone(asked: Asked, mut words: impl Iterator<Item = OsString>) -> Result<Aske
     }
 }
 
-fn files(command: Command, words: impl Iterator<Item = OsString>) -> Result<Asked, String> {
-    let mut sources = Vec::new();
+/// The words that are no options, or none where help is asked for.
+fn operands(words: impl Iterator<Item = OsString>) -> Result<Option<Vec<OsString>>, String> {
+    let mut operands = Vec::new();
     let mut options = true;
     for word in words {
         match word.to_str() {
-            Some("-") => sources.push(Source::Standard),
             Some("--") if options => options = false,
-            Some("--help" | "-h") if options => return Ok(Asked::Help(Some(command))),
+            Some("--help" | "-h") if options => return Ok(None),
+            Some("-") => operands.push(word),
             _ if options && word.as_encoded_bytes().starts_with(b"-") => {
                 return Err(format!("there is no option '{}'", word.to_string_lossy()));
             }
-            _ => sources.push(Source::File(word.into())),
+            _ => operands.push(word),
         }
     }
+    Ok(Some(operands))
+}
+
+fn source(word: &OsString) -> Source {
+    match word.to_str() {
+        Some("-") => Source::Standard,
+        _ => Source::File(word.into()),
+    }
+}
+
+fn files(
+    command: Command,
+    about: help::Pages,
+    words: impl Iterator<Item = OsString>,
+) -> Result<Asked, String> {
+    let Some(names) = operands(words)? else {
+        return Ok(Asked::Help(about));
+    };
+    let mut sources: Vec<Source> = names.iter().map(source).collect();
     if sources.is_empty() {
         sources.push(Source::Standard);
     }
     Ok(Asked::Run(command, sources))
+}
+
+fn find(words: impl Iterator<Item = OsString>) -> Result<Asked, String> {
+    let Some(operands) = operands(words)? else {
+        return Ok(Asked::Help(help::FIND));
+    };
+    let Some((file, question)) = operands.split_first() else {
+        return Err("find needs a file".into());
+    };
+    let source = source(file);
+    if question.is_empty() {
+        return match source {
+            Source::Standard => Err("standard input has the questions".into()),
+            Source::File(_) => Ok(Asked::Find(source, None)),
+        };
+    }
+    let words: Option<Vec<&str>> = question.iter().map(|word| word.to_str()).collect();
+    let Some(asked) = words.and_then(|words| Question::of_words(&words)) else {
+        let text = question.join(" ".as_ref());
+        return Err(format!("'{}' is no question", text.to_string_lossy()));
+    };
+    Ok(Asked::Find(source, Some(asked)))
 }
 
 #[cfg(test)]
@@ -105,10 +152,26 @@ mod tests {
 
     #[test]
     fn help_and_version() {
-        assert_eq!(asked("--help"), Ok(Asked::Help(None)));
+        assert_eq!(asked("--help"), Ok(Asked::Help(help::USAGE)));
         assert_eq!(asked("-V"), Ok(Asked::Version));
-        let json = Ok(Asked::Help(Some(Command::Json)));
-        assert_eq!(asked("json a --help"), json);
+        assert_eq!(asked("json a --help"), Ok(Asked::Help(help::JSON)));
+        assert_eq!(asked("find a OBS -h"), Ok(Asked::Help(help::FIND)));
+    }
+
+    #[test]
+    fn one_question_or_those_of_standard_input() {
+        assert_eq!(asked("find a"), Ok(Asked::Find(file("a"), None)));
+        let count = Some(Question::Count { kind: 73 });
+        assert_eq!(
+            asked("find - OBS"),
+            Ok(Asked::Find(Source::Standard, count))
+        );
+        let first = Some(Question::First {
+            kind: 73,
+            sender: 7,
+            offset: 0,
+        });
+        assert_eq!(asked("find -- -a 73 7"), Ok(Asked::Find(file("-a"), first)));
     }
 
     #[test]
@@ -119,5 +182,9 @@ mod tests {
             asked("list --all"),
             Err("there is no option '--all'".into())
         );
+        assert_eq!(asked("find"), Err("find needs a file".into()));
+        let questions = "standard input has the questions";
+        assert_eq!(asked("find -"), Err(questions.into()));
+        assert_eq!(asked("find a OBS x"), Err("'OBS x' is no question".into()));
     }
 }

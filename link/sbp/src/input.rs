@@ -8,7 +8,7 @@ use std::os::fd::AsFd;
 use yaqtumeer::{Counts, Frame, Frames, LONGEST_FRAME};
 
 /// The longest frame has room in it, so that there is always room for more of a frame that waits for its rest.
-const WINDOW: usize = 256 << 10;
+pub const WINDOW: usize = 256 << 10;
 const _: () = assert!(WINDOW >= LONGEST_FRAME);
 
 /// What a command does with a capture.
@@ -35,16 +35,16 @@ pub enum Stop {
 }
 
 /// The part of a capture that is at hand.
-struct Window {
+pub struct Window {
     bytes: Vec<u8>,
     filled: usize,
     /// Where it begins in the capture.
-    offset: u64,
+    pub offset: u64,
     totals: Totals,
 }
 
 impl Window {
-    fn new(size: usize) -> Window {
+    pub fn new(size: usize) -> Window {
         Window {
             bytes: vec![0; size],
             filled: 0,
@@ -54,7 +54,7 @@ impl Window {
     }
 
     /// More of the capture; none at its end.
-    fn refill(&mut self, source: &mut impl Read) -> io::Result<usize> {
+    pub fn refill(&mut self, source: &mut impl Read) -> io::Result<usize> {
         loop {
             match source.read(&mut self.bytes[self.filled..]) {
                 Err(again) if again.kind() == ErrorKind::Interrupted => continue,
@@ -67,6 +67,23 @@ impl Window {
             }
         }
     }
+
+    pub fn at_hand(&self) -> &[u8] {
+        &self.bytes[..self.filled]
+    }
+
+    /// So many bytes are done with and make room.
+    pub fn forget(&mut self, read: usize) {
+        self.bytes.copy_within(read..self.filled, 0);
+        self.filled -= read;
+        self.offset += read as u64;
+    }
+
+    /// Empty, to be filled from another place of the capture.
+    pub fn move_to(&mut self, offset: u64) {
+        self.filled = 0;
+        self.offset = offset;
+    }
 }
 
 /// Hands on the frames that are at hand, and keeps what the next ones may begin with.
@@ -76,7 +93,7 @@ fn pass(
     reader: &mut impl Reader,
     out: &mut Output,
 ) -> io::Result<()> {
-    let at_hand = &window.bytes[..window.filled];
+    let at_hand = window.at_hand();
     let mut frames = if closed {
         Frames::closed(at_hand)
     } else {
@@ -88,9 +105,7 @@ fn pass(
     }
     let passed = frames.position();
     window.totals.counts += frames.counts();
-    window.bytes.copy_within(passed..window.filled, 0);
-    window.filled -= passed;
-    window.offset += passed as u64;
+    window.forget(passed);
     Ok(())
 }
 
@@ -124,7 +139,7 @@ fn read(mut source: impl Read, reader: &mut impl Reader, out: &mut Output) -> Re
     walked.map(|_| ())
 }
 
-fn opened(source: &Source) -> io::Result<File> {
+pub fn opened(source: &Source) -> io::Result<File> {
     match source {
         Source::Standard => io::stdin().as_fd().try_clone_to_owned().map(File::from),
         Source::File(path) => File::open(path),

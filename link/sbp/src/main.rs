@@ -2,6 +2,7 @@
 
 mod args;
 mod epochs;
+mod find;
 mod help;
 mod input;
 mod json;
@@ -11,6 +12,7 @@ mod output;
 mod progress;
 
 use args::{Asked, Command, Source};
+use find::Question;
 use input::{Reader, Stop};
 use output::Output;
 use std::io::{self, ErrorKind, Write};
@@ -18,12 +20,15 @@ use std::process::ExitCode;
 
 const TROUBLE: u8 = 1;
 const WRONG_USE: u8 = 2;
+/// As grep has it: 1 is for what is not found.
+const FIND_TROUBLE: u8 = 2;
 
 fn main() -> ExitCode {
     let status = match args::parse(std::env::args_os().skip(1)) {
-        Ok(Asked::Help(command)) => print(&help::text(command)),
+        Ok(Asked::Help(pages)) => print(&pages.concat()),
         Ok(Asked::Version) => print(&help::version()),
         Ok(Asked::Run(command, sources)) => run(command, &sources),
+        Ok(Asked::Find(source, question)) => find(&source, question),
         Err(wrong) => {
             say(&format!("{wrong}; see sbp --help"));
             WRONG_USE
@@ -57,6 +62,25 @@ fn read<R: Reader>(sources: &[Source], reader: impl Fn(&Source) -> R) -> u8 {
         }
     }
     status
+}
+
+fn find(source: &Source, question: Option<Question>) -> u8 {
+    let mut out = Output::new();
+    let asked = match question {
+        Some(question) => find::once(source, question, &mut out),
+        None => find::lines(source, io::stdin().lock(), &mut out).map(|()| 0),
+    };
+    match asked {
+        Ok(status) => return status,
+        Err(find::Stop::Write(failed, status)) => {
+            if unwritten(&failed) == 0 {
+                return status;
+            }
+        }
+        Err(find::Stop::Capture(failed)) => complain(&name(source), &failed),
+        Err(find::Stop::Questions(failed)) => complain(&name(&Source::Standard), &failed),
+    }
+    FIND_TROUBLE
 }
 
 fn print(text: &str) -> u8 {

@@ -20,6 +20,16 @@ pub fn push(text: &mut Vec<u8>, number: impl Into<u64>) {
     text.extend_from_slice(&digits[at..]);
 }
 
+/// A line: a letter, and numbers after it.
+pub fn push_line(text: &mut Vec<u8>, letter: u8, numbers: &[u64]) {
+    text.push(letter);
+    for &number in numbers {
+        text.push(b' ');
+        push(text, number);
+    }
+    text.push(b'\n');
+}
+
 pub fn push_signed(text: &mut Vec<u8>, number: impl Into<i64>) {
     let number = number.into();
     if number < 0 {

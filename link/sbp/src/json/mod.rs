@@ -4,6 +4,8 @@ mod base64;
 mod fields;
 mod text;
 
+pub use fields::name as message_name;
+
 use crate::input::{Reader, Totals};
 use crate::number;
 use yaqtumeer::Frame;
