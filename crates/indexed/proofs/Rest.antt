@@ -154,4 +154,4 @@ same-index s b x before = λ i. record {
 }
 
 pub of-the-rest : OfTheRest
-of-the-rest = record { index = λ s b x before inside. same-index s b x before; entries = λ s b p before inside. same-entries b s p before }
+of-the-rest = record { index = same-index; entries = λ s b p before. same-entries b s p before }

@@ -59,8 +59,8 @@ raised b e = record { offset = b + e .offset; kind = e .kind; sender = e .sender
 
 -- whoever has dropped the first b bytes, which were read, may go on with the rest: all comes out the same, but for b in every position
 pub record OfTheRest : Type 0 where
-  pub index : (s : List ℕ) (b : ℕ) (x : Index) → b ≤ x .reached → x .reached ≤ length s → extended (drop b s) (lowered b x) ≡ lowered b (extended s x)
-  pub entries : (s : List ℕ) (b p : ℕ) → b ≤ p → p ≤ length s → map (raised b) (entriesFrom (drop b s) (p - b)) ≡ entriesFrom s p
+  pub index : (s : List ℕ) (b : ℕ) (x : Index) → b ≤ x .reached → extended (drop b s) (lowered b x) ≡ lowered b (extended s x)
+  pub entries : (s : List ℕ) (b p : ℕ) → b ≤ p → map (raised b) (entriesFrom (drop b s) (p - b)) ≡ entriesFrom s p
 
 -- ---- calls while a capture grows
 
