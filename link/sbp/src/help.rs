@@ -93,7 +93,7 @@ command line:
                       the offset or after it? F offset type sender length, or N for none
   TYPE                how many frames of that type are there? C count, or R 21 for a type
                       without a reading
-  anything else       ?
+  anything else       ?, a line of 4096 bytes or more too
 
 Numbers are in decimal, or in hexadecimal after 0x; a type may be given by its name, as
 POS_LLH. On the command line an OFFSET of 0 may be left out. A frame counts whether its
