@@ -3,13 +3,13 @@ ghost use mathlib.Core.Path.{_≡_};
 ghost use lib.ListN.{length};
 ghost use Rattle.layouts.specs.Inner.{bodyStored};
 ghost use Rattle.layouts.specs.Description.{inside, readAs};
-ghost use Rattle.frame_writer.specs.Writer.{senderOf, writtenAnswer};
+ghost use Rattle.frame_writer.specs.Writer.{writtenAnswer};
 ghost use Rattle.frame_writer.specs.Faithful.{writeAnswer, writtenAs};
 ghost use Rattle.atmosphere.specs.GroupDelay.{groupDelay, answerOf};
-use frame_writer::Sender;
 use frame_writer::Written;
 use parts::TimeOfWeek;
 use parts::time_of_week;
+use senders::Writer;
 
 pub struct GroupDelay {
     pub t_op: TimeOfWeek,
@@ -58,14 +58,14 @@ pub fn read_group_delay(s: &[u8]) -> GroupDelayRead
     GroupDelayRead::Record(take_group_delay(s))
 }
 
-pub fn write_group_delay(buf: &mut [u8], sender: Sender, r: GroupDelay) -> Written
+pub fn write_group_delay(buf: &mut [u8], writer: Writer, r: GroupDelay) -> Written
     ensures { λ w. ⌜ writtenAnswer w ≡ writeAnswer groupDelay r (length (now (buf .entry))) ⌝ }
-    ensures { λ _. ⌜ now (buf .exit) ≡ writtenAs groupDelay (senderOf sender) r (now (buf .entry)) ⌝ }
+    ensures { λ _. ⌜ now (buf .exit) ≡ writtenAs groupDelay writer r (now (buf .entry)) ⌝ }
 {
     let answer = frame_writer::plan(14, buf.len());
     if let Written::Bytes(_) = answer {
         put(buf, r);
-        frame_writer::seal(buf, 0x0092, sender, 14);
+        frame_writer::seal(buf, 0x0092, writer, 14);
     }
     answer
 }

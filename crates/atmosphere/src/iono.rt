@@ -5,13 +5,13 @@ ghost use lib.ListN.{length};
 ghost use Rattle.layouts.specs.Together.{takenAt, putAt};
 ghost use Rattle.layouts.specs.Inner.{bodyStored};
 ghost use Rattle.layouts.specs.Description.{inside, readAs};
-ghost use Rattle.frame_writer.specs.Writer.{senderOf, writtenAnswer};
+ghost use Rattle.frame_writer.specs.Writer.{writtenAnswer};
 ghost use Rattle.frame_writer.specs.Faithful.{writeAnswer, writtenAs};
 ghost use Rattle.atmosphere.specs.Iono.{iono, cubic, answerOf};
-use frame_writer::Sender;
 use frame_writer::Written;
 use parts::TimeOfWeek;
 use parts::time_of_week;
+use senders::Writer;
 use wire::Double;
 
 // 003's a0 to a3, or b0 to b3.
@@ -88,14 +88,14 @@ pub fn read_iono(s: &[u8]) -> IonoRead
     IonoRead::Record(take_iono(s))
 }
 
-pub fn write_iono(buf: &mut [u8], sender: Sender, r: Iono) -> Written
+pub fn write_iono(buf: &mut [u8], writer: Writer, r: Iono) -> Written
     ensures { λ w. ⌜ writtenAnswer w ≡ writeAnswer iono r (length (now (buf .entry))) ⌝ }
-    ensures { λ _. ⌜ now (buf .exit) ≡ writtenAs iono (senderOf sender) r (now (buf .entry)) ⌝ }
+    ensures { λ _. ⌜ now (buf .exit) ≡ writtenAs iono writer r (now (buf .entry)) ⌝ }
 {
     let answer = frame_writer::plan(70, buf.len());
     if let Written::Bytes(_) = answer {
         put(buf, r);
-        frame_writer::seal(buf, 0x0090, sender, 70);
+        frame_writer::seal(buf, 0x0090, writer, 70);
     }
     answer
 }

@@ -3,13 +3,13 @@ ghost use mathlib.Core.Path.{_≡_};
 ghost use lib.ListN.{length};
 ghost use Rattle.layouts.specs.Inner.{bodyStored};
 ghost use Rattle.layouts.specs.Description.{inside, readAs};
-ghost use Rattle.frame_writer.specs.Writer.{senderOf, writtenAnswer};
+ghost use Rattle.frame_writer.specs.Writer.{writtenAnswer};
 ghost use Rattle.frame_writer.specs.Faithful.{writeAnswer, writtenAs};
 ghost use Rattle.atmosphere.specs.SvConfigurationGps.{svConfigurationGps, answerOf};
-use frame_writer::Sender;
 use frame_writer::Written;
 use parts::TimeOfWeek;
 use parts::time_of_week;
+use senders::Writer;
 
 pub struct SvConfigurationGps {
     pub t_nmct: TimeOfWeek,
@@ -46,14 +46,14 @@ pub fn read_sv_configuration_gps(s: &[u8]) -> SvConfigurationGpsRead
     SvConfigurationGpsRead::Record(take_sv_configuration_gps(s))
 }
 
-pub fn write_sv_configuration_gps(buf: &mut [u8], sender: Sender, r: SvConfigurationGps) -> Written
+pub fn write_sv_configuration_gps(buf: &mut [u8], writer: Writer, r: SvConfigurationGps) -> Written
     ensures { λ w. ⌜ writtenAnswer w ≡ writeAnswer svConfigurationGps r (length (now (buf .entry))) ⌝ }
-    ensures { λ _. ⌜ now (buf .exit) ≡ writtenAs svConfigurationGps (senderOf sender) r (now (buf .entry)) ⌝ }
+    ensures { λ _. ⌜ now (buf .exit) ≡ writtenAs svConfigurationGps writer r (now (buf .entry)) ⌝ }
 {
     let answer = frame_writer::plan(10, buf.len());
     if let Written::Bytes(_) = answer {
         put(buf, r);
-        frame_writer::seal(buf, 0x0091, sender, 10);
+        frame_writer::seal(buf, 0x0091, writer, 10);
     }
     answer
 }

@@ -3,11 +3,11 @@ ghost use mathlib.Core.Path.{_≡_};
 ghost use lib.ListN.{length};
 ghost use Rattle.layouts.specs.Inner.{bodyStored};
 ghost use Rattle.layouts.specs.Description.{inside, readAs};
-ghost use Rattle.frame_writer.specs.Writer.{senderOf, writtenAnswer};
+ghost use Rattle.frame_writer.specs.Writer.{writtenAnswer};
 ghost use Rattle.frame_writer.specs.Faithful.{writeAnswer, writtenAs};
 ghost use Rattle.base_positions.specs.BasePosLlh.{basePosLlh, answerOf};
-use frame_writer::Sender;
 use frame_writer::Written;
+use senders::Writer;
 use wire::Double;
 
 pub struct BasePosLlh {
@@ -48,14 +48,14 @@ pub fn read_base_pos_llh(s: &[u8]) -> BasePosLlhRead
     BasePosLlhRead::Record(take_base_pos_llh(s))
 }
 
-pub fn write_base_pos_llh(buf: &mut [u8], sender: Sender, r: BasePosLlh) -> Written
+pub fn write_base_pos_llh(buf: &mut [u8], writer: Writer, r: BasePosLlh) -> Written
     ensures { λ w. ⌜ writtenAnswer w ≡ writeAnswer basePosLlh r (length (now (buf .entry))) ⌝ }
-    ensures { λ _. ⌜ now (buf .exit) ≡ writtenAs basePosLlh (senderOf sender) r (now (buf .entry)) ⌝ }
+    ensures { λ _. ⌜ now (buf .exit) ≡ writtenAs basePosLlh writer r (now (buf .entry)) ⌝ }
 {
     let answer = frame_writer::plan(24, buf.len());
     if let Written::Bytes(_) = answer {
         put(buf, r);
-        frame_writer::seal(buf, 0x0044, sender, 24);
+        frame_writer::seal(buf, 0x0044, writer, 24);
     }
     answer
 }

@@ -3,12 +3,12 @@ ghost use mathlib.Core.Path.{_≡_};
 ghost use lib.ListN.{length};
 ghost use Rattle.layouts.specs.Inner.{bodyStored};
 ghost use Rattle.layouts.specs.Description.{inside, readAs};
-ghost use Rattle.frame_writer.specs.Writer.{senderOf, writtenAnswer};
+ghost use Rattle.frame_writer.specs.Writer.{writtenAnswer};
 ghost use Rattle.frame_writer.specs.Faithful.{writeAnswer, writtenAs};
 ghost use Rattle.baselines.specs.Ecef.{baselineEcef, velEcef, answerOf};
 use flags::fix_allowed;
-use frame_writer::Sender;
 use frame_writer::Written;
+use senders::Writer;
 
 pub struct EcefVector {
     pub tow: u32,
@@ -64,15 +64,15 @@ pub fn read_baseline_ecef(s: &[u8]) -> EcefVectorRead
     EcefVectorRead::Refused(23)
 }
 
-pub fn write_baseline_ecef(buf: &mut [u8], sender: Sender, r: EcefVector) -> Written
+pub fn write_baseline_ecef(buf: &mut [u8], writer: Writer, r: EcefVector) -> Written
     ensures { λ w. ⌜ writtenAnswer w ≡ writeAnswer baselineEcef r (length (now (buf .entry))) ⌝ }
-    ensures { λ _. ⌜ now (buf .exit) ≡ writtenAs baselineEcef (senderOf sender) r (now (buf .entry)) ⌝ }
+    ensures { λ _. ⌜ now (buf .exit) ≡ writtenAs baselineEcef writer r (now (buf .entry)) ⌝ }
 {
     if fix_allowed(r.flags, 1) {
         let answer = frame_writer::plan(20, buf.len());
         if let Written::Bytes(_) = answer {
             put(buf, r);
-            frame_writer::seal(buf, 0x0202, sender, 20);
+            frame_writer::seal(buf, 0x0202, writer, 20);
         }
         return answer;
     }
@@ -88,14 +88,14 @@ pub fn read_vel_ecef(s: &[u8]) -> EcefVectorRead
     EcefVectorRead::Record(take_ecef(s))
 }
 
-pub fn write_vel_ecef(buf: &mut [u8], sender: Sender, r: EcefVector) -> Written
+pub fn write_vel_ecef(buf: &mut [u8], writer: Writer, r: EcefVector) -> Written
     ensures { λ w. ⌜ writtenAnswer w ≡ writeAnswer velEcef r (length (now (buf .entry))) ⌝ }
-    ensures { λ _. ⌜ now (buf .exit) ≡ writtenAs velEcef (senderOf sender) r (now (buf .entry)) ⌝ }
+    ensures { λ _. ⌜ now (buf .exit) ≡ writtenAs velEcef writer r (now (buf .entry)) ⌝ }
 {
     let answer = frame_writer::plan(20, buf.len());
     if let Written::Bytes(_) = answer {
         put(buf, r);
-        frame_writer::seal(buf, 0x0204, sender, 20);
+        frame_writer::seal(buf, 0x0204, writer, 20);
     }
     answer
 }

@@ -3,12 +3,12 @@ ghost use mathlib.Core.Path.{_≡_};
 ghost use lib.ListN.{length};
 ghost use Rattle.layouts.specs.Inner.{bodyStored};
 ghost use Rattle.layouts.specs.Description.{inside, readAs};
-ghost use Rattle.frame_writer.specs.Writer.{senderOf, writtenAnswer};
+ghost use Rattle.frame_writer.specs.Writer.{writtenAnswer};
 ghost use Rattle.frame_writer.specs.Faithful.{writeAnswer, writtenAs};
 ghost use Rattle.baselines.specs.Heading.{baselineHeading, answerOf};
 use flags::fix_allowed;
-use frame_writer::Sender;
 use frame_writer::Written;
+use senders::Writer;
 
 pub struct BaselineHeading {
     pub tow: u32,
@@ -55,15 +55,15 @@ pub fn read_baseline_heading(s: &[u8]) -> BaselineHeadingRead
     BaselineHeadingRead::Refused(23)
 }
 
-pub fn write_baseline_heading(buf: &mut [u8], sender: Sender, r: BaselineHeading) -> Written
+pub fn write_baseline_heading(buf: &mut [u8], writer: Writer, r: BaselineHeading) -> Written
     ensures { λ w. ⌜ writtenAnswer w ≡ writeAnswer baselineHeading r (length (now (buf .entry))) ⌝ }
-    ensures { λ _. ⌜ now (buf .exit) ≡ writtenAs baselineHeading (senderOf sender) r (now (buf .entry)) ⌝ }
+    ensures { λ _. ⌜ now (buf .exit) ≡ writtenAs baselineHeading writer r (now (buf .entry)) ⌝ }
 {
     if fix_allowed(r.flags, 1) {
         let answer = frame_writer::plan(10, buf.len());
         if let Written::Bytes(_) = answer {
             put(buf, r);
-            frame_writer::seal(buf, 0x0207, sender, 10);
+            frame_writer::seal(buf, 0x0207, writer, 10);
         }
         return answer;
     }

@@ -3,12 +3,12 @@ ghost use mathlib.Core.Path.{_≡_};
 ghost use lib.ListN.{length};
 ghost use Rattle.layouts.specs.Inner.{bodyStored};
 ghost use Rattle.layouts.specs.Description.{inside, readAs};
-ghost use Rattle.frame_writer.specs.Writer.{senderOf, writtenAnswer};
+ghost use Rattle.frame_writer.specs.Writer.{writtenAnswer};
 ghost use Rattle.frame_writer.specs.Faithful.{writeAnswer, writtenAs};
 ghost use Rattle.baselines.specs.Ned.{baselineNed, velNed, answerOf};
 use flags::fix_allowed;
-use frame_writer::Sender;
 use frame_writer::Written;
+use senders::Writer;
 
 pub struct NedVector {
     pub tow: u32,
@@ -67,15 +67,15 @@ pub fn read_baseline_ned(s: &[u8]) -> NedVectorRead
     NedVectorRead::Refused(23)
 }
 
-pub fn write_baseline_ned(buf: &mut [u8], sender: Sender, r: NedVector) -> Written
+pub fn write_baseline_ned(buf: &mut [u8], writer: Writer, r: NedVector) -> Written
     ensures { λ w. ⌜ writtenAnswer w ≡ writeAnswer baselineNed r (length (now (buf .entry))) ⌝ }
-    ensures { λ _. ⌜ now (buf .exit) ≡ writtenAs baselineNed (senderOf sender) r (now (buf .entry)) ⌝ }
+    ensures { λ _. ⌜ now (buf .exit) ≡ writtenAs baselineNed writer r (now (buf .entry)) ⌝ }
 {
     if fix_allowed(r.flags, 1) {
         let answer = frame_writer::plan(22, buf.len());
         if let Written::Bytes(_) = answer {
             put(buf, r);
-            frame_writer::seal(buf, 0x0203, sender, 22);
+            frame_writer::seal(buf, 0x0203, writer, 22);
         }
         return answer;
     }
@@ -91,14 +91,14 @@ pub fn read_vel_ned(s: &[u8]) -> NedVectorRead
     NedVectorRead::Record(take_ned(s))
 }
 
-pub fn write_vel_ned(buf: &mut [u8], sender: Sender, r: NedVector) -> Written
+pub fn write_vel_ned(buf: &mut [u8], writer: Writer, r: NedVector) -> Written
     ensures { λ w. ⌜ writtenAnswer w ≡ writeAnswer velNed r (length (now (buf .entry))) ⌝ }
-    ensures { λ _. ⌜ now (buf .exit) ≡ writtenAs velNed (senderOf sender) r (now (buf .entry)) ⌝ }
+    ensures { λ _. ⌜ now (buf .exit) ≡ writtenAs velNed writer r (now (buf .entry)) ⌝ }
 {
     let answer = frame_writer::plan(22, buf.len());
     if let Written::Bytes(_) = answer {
         put(buf, r);
-        frame_writer::seal(buf, 0x0205, sender, 22);
+        frame_writer::seal(buf, 0x0205, writer, 22);
     }
     answer
 }

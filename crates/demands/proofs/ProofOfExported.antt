@@ -2,6 +2,7 @@
 use mathlib.Core.Path.{_≡_, refl, sym, ap, _∙_}
 use mathlib.Core.List.{List}
 use borrow.Author.Tests.{lt-ltb, le-ltb}
+use Rattle.senders.specs.Senders.{carried}
 use Rattle.row_reader.proofs.EachRead.{all-read}
 use Rattle.row_writer.proofs.WrittenTyped.{as-typed}
 use Rattle.epochs.specs.Epoch.{reportsIn, reportsOf}
@@ -24,6 +25,7 @@ use Rattle.demands.proofs.StatesLeft.{other-bytes}
 use Rattle.demands.proofs.ReportsLeft.{report-alone, report-kept}
 
 pub exported : Exported
+unfolding carried
 exported = record {
   frames-told = frames-told;
   rows-follow = rows-follow;
@@ -39,10 +41,8 @@ exported = record {
   same-state = λ roster s t report other xs ys f g same.
       stands roster s report xs f ∙ same-state roster (seated roster (f .taken)) xs ys same ∙ sym (stands roster t other ys g);
   growing = grows;
-  named = λ n. refl;
-  unnamed = refl;
-  sender-given = λ n h. rw (lt-ltb n 65536 h);
-  sender-none = λ n h. rw (le-ltb n 65536 h);
+  sender-given = λ kind n h. rw (lt-ltb n 65536 h);
+  sender-none = λ kind n h. rw (le-ltb n 65536 h);
   rows-read = all-read;
   field-rows = field-rows;
   rows-stored = rows-stored;

@@ -15,9 +15,7 @@ use Rattle.epochs.specs.Search.{names}
 use Rattle.epochs.specs.Epoch.{reportsIn, reportsOf, SameFrames, EndsEpoch, Epochs}
 use Rattle.epochs.specs.declared.collating.Report.{Report}
 use Rattle.epochs.specs.declared.collating.Happened.the-variants as H
-use Rattle.frame_writer.specs.Writer.{senderOf}
-use Rattle.frame_writer.specs.Given.{sentBy}
-use Rattle.frame_writer.specs.declared.write.Sender.the-variants.{Named, Unnamed}
+use Rattle.senders.specs.Senders.{carried, writerFrom}
 use Rattle.flag_numbers.specs.Flagged.{fixAnswer, availableAnswer, repairedAnswer, aboveSeaAnswer}
 use Rattle.places.specs.State.{stateIn}
 use Rattle.states.specs.Feed.{madeStored, fedIn, afterIn}
@@ -93,10 +91,8 @@ pub record Exported : Type 0 where
   -- a roster that grows: frame by frame the bytes tell what a collator tells that was made of the first eight senders
   pub growing : Grows
   -- a sender of 16 bits is written as it is, 0 too, and any number above stands for none, which is 0x42
-  pub named : (n : ℕ) → senderOf (Named n) ≡ n
-  pub unnamed : senderOf Unnamed ≡ 0x42
-  pub sender-given : (n : ℕ) → n < 65536 → sentBy n ≡ n
-  pub sender-none : (n : ℕ) → 65536 ≤ n → sentBy n ≡ 0x42
+  pub sender-given : (kind n : ℕ) → n < 65536 → carried kind (writerFrom n) ≡ n
+  pub sender-none : (kind n : ℕ) → 65536 ≤ n → carried kind (writerFrom n) ≡ 0x42
   -- messages as numbers: each is read as the fields of the typed record and written as the typed writer writes it, and what was written comes back;
   -- OBS and LOG number by number
   pub rows-read : AllRead

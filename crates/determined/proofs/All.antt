@@ -33,6 +33,9 @@ module _ {M : Type 1} (𝓤 : URA M) (H : Heap 𝓤) (A : Atoms 𝓤) (mem : Mem
   pub frames : public.Frames 𝓤 H A mem run
   frames = search determinations
 
+  pub senders : public.Senders 𝓤 H A mem run
+  senders = search determinations
+
   pub frame-writer : public.FrameWriter 𝓤 H A mem run
   frame-writer = search determinations
 

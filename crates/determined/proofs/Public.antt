@@ -16,6 +16,7 @@ use Rattle.text.proofs as text
 use Rattle.crc.proofs as crc
 use Rattle.formats.proofs as formats
 use Rattle.frames.proofs as frames
+use Rattle.senders.proofs as senders
 use Rattle.frame_writer.proofs as frame_writer
 use Rattle.flags.proofs as flags
 use Rattle.positions.proofs as positions
@@ -108,12 +109,14 @@ module _ {M : Type 1} (𝓤 : URA M) (H : Heap 𝓤) (A : Atoms 𝓤) (mem : Mem
     -- a part of what was lent: what it holds
     pub payload : DeterminedAs 𝓤 frames.payload.ended (frames.payload.clauses 𝓤 H A mem run) (λ κs. List ℕ) (λ κs r. now r)
 
+  pub record Senders : Type 1 where
+    pub sender-number : Determined 𝓤 senders.sender_number.ended (senders.sender_number.clauses 𝓤 H A mem run)
+    pub writer-from : Determined 𝓤 senders.writer_from.ended (senders.writer_from.clauses 𝓤 H A mem run)
+
   pub record FrameWriter : Type 1 where
-    pub sender-number : Determined 𝓤 frame_writer.sender_number.ended (frame_writer.sender_number.clauses 𝓤 H A mem run)
     pub plan : Determined 𝓤 frame_writer.plan.ended (frame_writer.plan.clauses 𝓤 H A mem run)
     pub seal : Determined 𝓤 frame_writer.seal.ended (frame_writer.seal.clauses 𝓤 H A mem run)
     pub write-frame : Determined 𝓤 frame_writer.write_frame.ended (frame_writer.write_frame.clauses 𝓤 H A mem run)
-    pub sender-from : Determined 𝓤 frame_writer.sender_from.ended (frame_writer.sender_from.clauses 𝓤 H A mem run)
     pub hand-on : Determined 𝓤 frame_writer.hand_on.ended (frame_writer.hand_on.clauses 𝓤 H A mem run)
 
   pub record Flags : Type 1 where

@@ -7,7 +7,7 @@ ghost use Rattle.frame_writer.specs.Writer.{planned, withFrame, sizeLeft};
 ghost use Rattle.row_writer.specs.WriteObsRow.{writeObsRow, obsRowWritten};
 ghost use Rattle.row_writer.specs.WriteRow.{writeRow, rowWritten};
 ghost use Rattle.logs.specs.Log.{log, logged};
-ghost use Rattle.frame_writer.specs.Given.{sentBy};
+ghost use Rattle.senders.specs.Senders.{writerFrom};
 
 // Every message without a tail, from one number for each field: 21 for a type that it does not write, 22 for another number of fields, 23 for a
 // number that its field cannot hold or that is outside its range, 31, 32.
@@ -20,10 +20,10 @@ pub extern "C" fn sbp_write(
     size: &mut u64,
 ) -> u8
     ensures { λ r. ⌜ r ≡ zeroOr (writeRow kind (now (row .entry)) (length (now (out .entry)))) ⌝ }
-    ensures { λ _. ⌜ now (out .exit) ≡ rowWritten kind (sentBy sender) (now (row .entry)) (now (out .entry)) ⌝ }
+    ensures { λ _. ⌜ now (out .exit) ≡ rowWritten kind (writerFrom sender) (now (row .entry)) (now (out .entry)) ⌝ }
     ensures { λ _. ⌜ now (size .exit) ≡ sizeLeft (writeRow kind (now (row .entry)) (length (now (out .entry)))) (now (size .entry)) ⌝ }
 {
-    row_writer::write_row(out, kind, frame_writer::sender_from(sender), row, size)
+    row_writer::write_row(out, kind, senders::writer_from(sender), row, size)
 }
 
 // An OBS, from its header's three numbers and eight for each observation: 21, 22, 23, 31, 32.
@@ -37,17 +37,10 @@ pub extern "C" fn sbp_write_obs(
     size: &mut u64,
 ) -> u8
     ensures { λ r. ⌜ r ≡ zeroOr (writeObsRow kind (now (head .entry)) (now (rows .entry)) (length (now (out .entry)))) ⌝ }
-    ensures { λ _. ⌜ now (out .exit) ≡ obsRowWritten kind (sentBy sender) (now (head .entry)) (now (rows .entry)) (now (out .entry)) ⌝ }
+    ensures { λ _. ⌜ now (out .exit) ≡ obsRowWritten kind (writerFrom sender) (now (head .entry)) (now (rows .entry)) (now (out .entry)) ⌝ }
     ensures { λ _. ⌜ now (size .exit) ≡ sizeLeft (writeObsRow kind (now (head .entry)) (now (rows .entry)) (length (now (out .entry)))) (now (size .entry)) ⌝ }
 {
-    row_writer::write_obs_row(
-        out,
-        kind,
-        frame_writer::sender_from(sender),
-        head,
-        rows,
-        size,
-    )
+    row_writer::write_obs_row(out, kind, senders::writer_from(sender), head, rows, size)
 }
 
 // A LOG: 23 for a zero in the text, 31 for a text and zeros over 254 bytes, then 32.
@@ -61,10 +54,10 @@ pub extern "C" fn sbp_write_log(
     size: &mut u64,
 ) -> u8
     ensures { λ r. ⌜ r ≡ zeroOr (writeAnswer log (logged level (now (text .entry)) padding) (length (now (out .entry)))) ⌝ }
-    ensures { λ _. ⌜ now (out .exit) ≡ writtenAs log (sentBy sender) (logged level (now (text .entry)) padding) (now (out .entry)) ⌝ }
+    ensures { λ _. ⌜ now (out .exit) ≡ writtenAs log (writerFrom sender) (logged level (now (text .entry)) padding) (now (out .entry)) ⌝ }
     ensures { λ _. ⌜ now (size .exit) ≡ sizeLeft (writeAnswer log (logged level (now (text .entry)) padding) (length (now (out .entry)))) (now (size .entry)) ⌝ }
 {
-    let written = logs::write_log(out, frame_writer::sender_from(sender), level, text, padding);
+    let written = logs::write_log(out, senders::writer_from(sender), level, text, padding);
     frame_writer::hand_on(written, size)
 }
 
@@ -78,8 +71,8 @@ pub extern "C" fn sbp_write_frame(
     size: &mut u64,
 ) -> u8
     ensures { λ r. ⌜ r ≡ zeroOr (planned (length (now (payload .entry))) (length (now (out .entry)))) ⌝ }
-    ensures { λ _. ⌜ now (out .exit) ≡ withFrame kind (sentBy sender) (now (payload .entry)) (now (out .entry)) ⌝ }
+    ensures { λ _. ⌜ now (out .exit) ≡ withFrame kind (writerFrom sender) (now (payload .entry)) (now (out .entry)) ⌝ }
     ensures { λ _. ⌜ now (size .exit) ≡ sizeLeft (planned (length (now (payload .entry))) (length (now (out .entry)))) (now (size .entry)) ⌝ }
 {
-    row_writer::send_frame(out, kind, frame_writer::sender_from(sender), payload, size)
+    row_writer::send_frame(out, kind, senders::writer_from(sender), payload, size)
 }

@@ -14,24 +14,25 @@ use Rattle.refusals.specs.Refusals.{refused, given, Answer, leaves}
 use Rattle.layouts.proofs.Layouts.{length-encode-body}
 use Rattle.refusals.proofs.Ordered.{exactly-all}
 use Rattle.layouts.proofs.Descriptions.{writes-back, reads-back, reads-same, exactly-22, exactly-23, read-settled}
-use Rattle.frames.specs.Frame.{frameBytes}
+use Rattle.senders.specs.Senders.{carried, HeldWriter}
+use Rattle.senders.specs.declared.Writer.{Writer}
 use Rattle.frames.specs.Step.{stepAt, payloadIn}
-use Rattle.frame_writer.specs.Writer.{planned, startingWith, sealed, withFrame}
+use Rattle.frame_writer.specs.Writer.{planned, startingWith, framedBy, sealed, withFrame}
 use Rattle.frame_writer.specs.Faithful.{writing, writeAnswer, writtenAs, frameWritten, Faithful}
 use Rattle.frames.specs.declared.step.Step.the-variants.{Found}
 use Rattle.frame_writer.proofs.Written.{writes-body}
 use Rattle.frame_writer.proofs.WrittenRead.{framed-reads-back, framed-payload-back}
 
-module _ {R : Type 0} (d : Description R) (sender : ℕ) (r : R) (buf : List ℕ) where
+module _ {R : Type 0} (d : Description R) (w : Writer) (r : R) (buf : List ℕ) where
   abbrev v : Body (d .layout)
   v = d .row r
 
   -- what a writer answers, and the buffer as it leaves it
   abbrev pub Wrote : Answer ℕ → List ℕ → Type 0
-  Wrote a u = (a ≡ writeAnswer d r (length buf)) × (u ≡ writtenAs d sender r buf)
+  Wrote a u = (a ≡ writeAnswer d r (length buf)) × (u ≡ writtenAs d w r buf)
 
   -- refused: nothing is written
-  pub left-alone : {n : ℕ} → writeAnswer d r (length buf) ≡ refused n → writtenAs d sender r buf ≡ buf
+  pub left-alone : {n : ℕ} → writeAnswer d r (length buf) ≡ refused n → writtenAs d w r buf ≡ buf
   unfolding writtenAs
   left-alone e = rw e
 
@@ -53,10 +54,10 @@ module _ {R : Type 0} (d : Description R) (sender : ℕ) (r : R) (buf : List ℕ
     unfolding writeAnswer planned
     as-planned = rw (e, few)
 
-    pub as-framed : writtenAs d sender r buf ≡ withFrame (d .kind) sender (encodeBody (d .layout) v) buf
+    pub as-framed : writtenAs d w r buf ≡ withFrame (d .kind) w (encodeBody (d .layout) v) buf
     unfolding writtenAs withFrame
     as-framed =
-        ap (λ (a : Answer ℕ). leaves (startingWith (frameBytes (d .kind) sender (encodeBody (d .layout) v))) a buf)
+        ap (λ (a : Answer ℕ). leaves (startingWith (framedBy (d .kind) w (encodeBody (d .layout) v))) a buf)
         (as-planned ∙ ap (λ (n : ℕ). planned n (length buf)) (sym (length-encode-body (d .layout) v)))
 
     module _ {a : Answer ℕ} (plan : a ≡ planned (bodySize (d .layout) v) (length buf)) where
@@ -66,12 +67,12 @@ module _ {R : Type 0} (d : Description R) (sender : ℕ) (r : R) (buf : List ℕ
 
       -- the parts stored one after the other, then sealed
       pub wrote : {n : ℕ} {t u : List ℕ} → planned (bodySize (d .layout) v) (length buf) ≡ given n → t ≡ bodyStored (d .layout) v buf 6
-          → u ≡ sealed (d .kind) sender (bodySize (d .layout) v) t → Wrote a u
-      wrote q p s = (plan ∙ sym as-planned, writes-body (d .kind) sender (d .layout) v buf q p s ∙ sym as-framed)
+          → u ≡ sealed (d .kind) w (bodySize (d .layout) v) t → Wrote a u
+      wrote q p s = (plan ∙ sym as-planned, writes-body (d .kind) w (d .layout) v buf q p s ∙ sym as-framed)
 
   -- ---- through the frame
 
-  module _ {n : ℕ} (k : d .kind < 65536) (s : sender < 65536) (g : writeAnswer d r (length buf) ≡ given n) where
+  module _ {n : ℕ} (k : d .kind < 65536) (held : HeldWriter w) (g : writeAnswer d r (length buf) ≡ given n) where
     -- a writer that answers a length found the record in its ranges, and room for the frame
     passes : (allowedBody (d .layout) v ≡ true) × (fewEnough (d .layout) v ≡ true) × (bodySize (d .layout) v ≤ 255) × (bodySize (d .layout) v + 8 ≤ length buf)
     unfolding writeAnswer
@@ -88,42 +89,42 @@ module _ {R : Type 0} (d : Description R) (sender : ℕ) (r : R) (buf : List ℕ
     room : length bytes + 8 ≤ length buf
     room = rw length-encode-body (passes .3)
 
-    framed : writtenAs d sender r buf ≡ withFrame (d .kind) sender bytes buf
+    framed : writtenAs d w r buf ≡ withFrame (d .kind) w bytes buf
     framed = as-framed (passes .0) (passes .1)
 
     -- a frame written is found where it was written
-    found-through : stepAt (writtenAs d sender r buf) 0 ≡ Found (frameWritten d sender r)
+    found-through : stepAt (writtenAs d w r buf) 0 ≡ Found (frameWritten d w r)
     found-through =
         ap (λ (t : List ℕ). stepAt t 0) framed
-        ∙ framed-reads-back (d .kind) sender bytes buf k s short room
-        ∙ ap (λ (l : ℕ). Found (record { at = 0; kind = d .kind; sender = sender; length = l })) (length-encode-body (d .layout) v)
+        ∙ framed-reads-back (d .kind) w bytes buf k held short room
+        ∙ ap (λ (l : ℕ). Found (record { at = 0; kind = d .kind; sender = carried (d .kind) w; length = l })) (length-encode-body (d .layout) v)
 
-    payload-through : payloadIn (writtenAs d sender r buf) (frameWritten d sender r) ≡ bytes
+    payload-through : payloadIn (writtenAs d w r buf) (frameWritten d w r) ≡ bytes
     payload-through =
-        ap₂ (λ (t : List ℕ) (l : ℕ). payloadIn t (record { at = 0; kind = d .kind; sender = sender; length = l })) framed (sym (length-encode-body (d .layout) v))
-        ∙ framed-payload-back (d .kind) sender bytes buf k s short room
+        ap₂ (λ (t : List ℕ) (l : ℕ). payloadIn t (record { at = 0; kind = d .kind; sender = carried (d .kind) w; length = l })) framed (sym (length-encode-body (d .layout) v))
+        ∙ framed-payload-back (d .kind) w bytes buf k held short room
 
     module _ (sound : Sound (d .layout)) (h : HeldBody (d .layout) v) where
       -- and its payload gives the record back bit for bit
-      reads-through : (q : R) × (readAs d (payloadIn (writtenAs d sender r buf) (frameWritten d sender r)) ≡ given q) × (bodyBits (d .layout) (d .row q) ≡ bodyBits (d .layout) v)
+      reads-through : (q : R) × (readAs d (payloadIn (writtenAs d w r buf) (frameWritten d w r)) ≡ given q) × (bodyBits (d .layout) (d .row q) ≡ bodyBits (d .layout) v)
       reads-through = let back = reads-back d sound r h (passes .0) (passes .1) in (back .0, ap (readAs d) payload-through ∙ back .1, back .2)
 
       -- the very record, where it is such as reading makes
-      reads-through-same : SettledBody (d .layout) v → readAs d (payloadIn (writtenAs d sender r buf) (frameWritten d sender r)) ≡ given r
+      reads-through-same : SettledBody (d .layout) v → readAs d (payloadIn (writtenAs d w r buf) (frameWritten d w r)) ≡ given r
       reads-through-same e = ap (readAs d) payload-through ∙ reads-same d sound r h (passes .0) (passes .1) e
 
   -- an accepted payload written again gives a frame of the same bytes
-  writes-through : (s : List ℕ) → Bytes s → readAs d s ≡ given r → writtenAs d sender r buf ≡ withFrame (d .kind) sender s buf
-  writes-through s h g = let w = writes-back d s r h g in as-framed (w .0) (w .1) ∙ ap (λ (b : List ℕ). withFrame (d .kind) sender b buf) (w .2)
+  writes-through : (s : List ℕ) → Bytes s → readAs d s ≡ given r → writtenAs d w r buf ≡ withFrame (d .kind) w s buf
+  writes-through s h g = let same = writes-back d s r h g in as-framed (same .0) (same .1) ∙ ap (λ (b : List ℕ). withFrame (d .kind) w b buf) (same .2)
 
 -- what every message keeps, once its type number has 16 bits and its rows have some bytes
 pub faithful : {R : Type 0} (d : Description R) → d .kind < 65536 → Sound (d .layout) → Faithful d
 faithful d k sound = record {
-  found = λ sender r buf s g. found-through d sender r buf k s g;
-  back = λ sender r buf s g h. reads-through d sender r buf k s g sound h;
-  same = λ sender r buf s g h e. reads-through-same d sender r buf k s g sound h e;
+  found = λ w r buf s g. found-through d w r buf k s g;
+  back = λ w r buf s g h. reads-through d w r buf k s g sound h;
+  same = λ w r buf s g h e. reads-through-same d w r buf k s g sound h e;
   settled = read-settled d;
-  again = λ sender r buf s h g. writes-through d sender r buf s h g;
+  again = λ w r buf s h g. writes-through d w r buf s h g;
   refused-22 = exactly-22 d;
   refused-23 = exactly-23 d;
 }

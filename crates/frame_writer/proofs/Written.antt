@@ -14,8 +14,10 @@ use Rattle.wire.proofs.Numbers.{length-bytesOf, stored-sets}
 use Rattle.layouts.proofs.Fields.{row-sets}
 use Rattle.layouts.proofs.Layouts.{length-encode-body, body-sets}
 use Rattle.crc.specs.Crc.{crcFrom}
+use Rattle.senders.specs.Senders.{carried}
+use Rattle.senders.specs.declared.Writer.{Writer}
 use Rattle.frames.specs.Frame.{covered, frameBytes}
-use Rattle.frame_writer.specs.Writer.{planned, sealed, withFrame}
+use Rattle.frame_writer.specs.Writer.{planned, framedBy, sealed, withFrame}
 use Rattle.frame_writer.specs.Inner.{head, headRow, headed}
 use Rattle.frame_writer.proofs.WrittenPlan.{planned-given, fits}
 
@@ -51,70 +53,70 @@ length-payload n buf room = length-take-le n (drop 6 buf) (rw length-drop (omega
 payload-split : (n : ℕ) (buf : List ℕ) → drop 6 buf ≡ take n (drop 6 buf) ++ drop (n + 6) buf
 payload-split n buf = sym (take-append-drop n (drop 6 buf)) ∙ ap (λ (t : List ℕ). take n (drop 6 buf) ++ t) (drop-on n 6 (n + 6) buf (omega arith))
 
-module _ (kind sender n : ℕ) (buf : List ℕ) where
-  module _ (room : n + 8 ≤ length buf) where
-    -- the head goes before the payload
-    front : headed kind sender n buf ≡ 0x55 ∷ covered kind sender (take n (drop 6 buf)) ++ drop (n + 6) buf
-    unfolding bytesOf covered
-    front =
-        row-sets head (headRow kind sender n) buf 0 (omega arith)
-        ∙ sets-seam [] buf (encode head (headRow kind sender n)) 0 refl (omega arith)
-        ∙ ap₂ (λ (m : ℕ) (t : List ℕ). encode head (headRow kind sender m) ++ t) (sym (length-payload n buf room)) (payload-split n buf)
+module _ (kind sender n : ℕ) (buf : List ℕ) (room : n + 8 ≤ length buf) where
+  -- the head goes before the payload
+  front : headed kind sender n buf ≡ 0x55 ∷ covered kind sender (take n (drop 6 buf)) ++ drop (n + 6) buf
+  unfolding bytesOf covered
+  front =
+      row-sets head (headRow kind sender n) buf 0 (omega arith)
+      ∙ sets-seam [] buf (encode head (headRow kind sender n)) 0 refl (omega arith)
+      ∙ ap₂ (λ (m : ℕ) (t : List ℕ). encode head (headRow kind sender m) ++ t) (sym (length-payload n buf room)) (payload-split n buf)
 
-    -- the CRC is taken of all between the preamble and the payload's end
-    sum-of-covered : take (n + 6 - 1) (drop 1 (headed kind sender n buf)) ≡ covered kind sender (take n (drop 6 buf))
-    sum-of-covered =
-        ap (λ (t : List ℕ). take (n + 6 - 1) (drop 1 t)) front
-        ∙ take-at (covered kind sender (take n (drop 6 buf))) (drop (n + 6) buf) (n + 6 - 1)
-        (length-covered kind sender (take n (drop 6 buf)) ∙ omega (arith, length-payload n buf room))
+  -- the CRC is taken of all between the preamble and the payload's end
+  sum-of-covered : take (n + 6 - 1) (drop 1 (headed kind sender n buf)) ≡ covered kind sender (take n (drop 6 buf))
+  sum-of-covered =
+      ap (λ (t : List ℕ). take (n + 6 - 1) (drop 1 t)) front
+      ∙ take-at (covered kind sender (take n (drop 6 buf))) (drop (n + 6) buf) (n + 6 - 1)
+      (length-covered kind sender (take n (drop 6 buf)) ∙ omega (arith, length-payload n buf room))
 
-    -- and goes after the payload
-    sealing : storedAt 2 (crcFrom 0 (take (n + 6 - 1) (drop 1 (headed kind sender n buf)))) (headed kind sender n buf) (n + 6)
-        ≡ frameBytes kind sender (take n (drop 6 buf)) ++ drop (n + 8) buf
-    unfolding frameBytes
-    sealing =
-        let p = take n (drop 6 buf) in
-        let sum = crcFrom 0 (covered kind sender p) in
-        let before : length (0x55 ∷ covered kind sender p) ≡ n + 6 = omega (arith, length-covered kind sender p, length-payload n buf room) in
-        let after : length (drop (n + 6) buf) ≡ length buf - (n + 6) = length-drop (n + 6) buf in
-        ap₂ (λ (c : ℕ) (t : List ℕ). storedAt 2 c t (n + 6)) (ap (crcFrom 0) sum-of-covered) front
-        ∙ stored-sets 2 sum (0x55 ∷ covered kind sender p ++ drop (n + 6) buf) (n + 6) (rw length-append (omega arith))
-        ∙ sets-seam (0x55 ∷ covered kind sender p) (drop (n + 6) buf) (bytesOf 2 sum) (n + 6) before (rw length-bytesOf (omega arith))
-        ∙ ap (λ (t : List ℕ). 0x55 ∷ covered kind sender p ++ bytesOf 2 sum ++ t)
-        (drop-on (length (bytesOf 2 sum)) (n + 6) (n + 8) buf (rw length-bytesOf (omega arith)))
+  -- and goes after the payload
+  sealing : storedAt 2 (crcFrom 0 (take (n + 6 - 1) (drop 1 (headed kind sender n buf)))) (headed kind sender n buf) (n + 6)
+      ≡ frameBytes kind sender (take n (drop 6 buf)) ++ drop (n + 8) buf
+  unfolding frameBytes
+  sealing =
+      let p = take n (drop 6 buf) in
+      let sum = crcFrom 0 (covered kind sender p) in
+      let before : length (0x55 ∷ covered kind sender p) ≡ n + 6 = omega (arith, length-covered kind sender p, length-payload n buf room) in
+      let after : length (drop (n + 6) buf) ≡ length buf - (n + 6) = length-drop (n + 6) buf in
+      ap₂ (λ (c : ℕ) (t : List ℕ). storedAt 2 c t (n + 6)) (ap (crcFrom 0) sum-of-covered) front
+      ∙ stored-sets 2 sum (0x55 ∷ covered kind sender p ++ drop (n + 6) buf) (n + 6) (rw length-append (omega arith))
+      ∙ sets-seam (0x55 ∷ covered kind sender p) (drop (n + 6) buf) (bytesOf 2 sum) (n + 6) before (rw length-bytesOf (omega arith))
+      ∙ ap (λ (t : List ℕ). 0x55 ∷ covered kind sender p ++ bytesOf 2 sum ++ t)
+      (drop-on (length (bytesOf 2 sum)) (n + 6) (n + 8) buf (rw length-bytesOf (omega arith)))
 
+module _ (kind : ℕ) (w : Writer) (n : ℕ) (buf : List ℕ) where
   -- what the writer leaves, where the frame fits and where not
-  sealed-fits : n ≤ 255 → n + 8 ≤ length buf → sealed kind sender n buf ≡ frameBytes kind sender (take n (drop 6 buf)) ++ drop (n + 8) buf
+  sealed-fits : n ≤ 255 → n + 8 ≤ length buf → sealed kind w n buf ≡ framedBy kind w (take n (drop 6 buf)) ++ drop (n + 8) buf
   unfolding sealed
   sealed-fits h room = rw (planned-given n (length buf) h room)
 
-  pub sealed-unfit : {k : ℕ} → planned n (length buf) ≡ refused k → sealed kind sender n buf ≡ buf
+  pub sealed-unfit : {k : ℕ} → planned n (length buf) ≡ refused k → sealed kind w n buf ≡ buf
   unfolding sealed
   sealed-unfit r = rw r
 
   -- the stores of `seal`, one after the other
-  pub seals : {m from sum : ℕ} {first last : List ℕ} → planned n (length buf) ≡ given m → from ≡ sender → first ≡ headed kind from n buf
-      → sum ≡ crcFrom 0 (take (n + 6 - 1) (drop 1 first)) → last ≡ storedAt 2 sum first (n + 6) → last ≡ sealed kind sender n buf
+  pub seals : {m from sum : ℕ} {first last : List ℕ} → planned n (length buf) ≡ given m → from ≡ carried kind w → first ≡ headed kind from n buf
+      → sum ≡ crcFrom 0 (take (n + 6 - 1) (drop 1 first)) → last ≡ storedAt 2 sum first (n + 6) → last ≡ sealed kind w n buf
   seals {first} g e p q r =
       let room = fits n (length buf) g in
-      let front : first ≡ headed kind sender n buf = p ∙ ap (λ (s : ℕ). headed kind s n buf) e in
+      let front : first ≡ headed kind (carried kind w) n buf = p ∙ ap (λ (s : ℕ). headed kind s n buf) e in
       r ∙ ap₂ (λ (c : ℕ) (t : List ℕ). storedAt 2 c t (n + 6)) (q ∙ ap (λ (t : List ℕ). crcFrom 0 (take (n + 6 - 1) (drop 1 t))) front) front
-      ∙ sealing (room .1)
+      ∙ sealing kind (carried kind w) n buf (room .1)
       ∙ sym (sealed-fits (room .0) (room .1))
 
 -- ---- the payload, then the seal
 
-module _ (kind sender : ℕ) (payload buf : List ℕ) where
-  pub framed-fits : length payload ≤ 255 → length payload + 8 ≤ length buf → withFrame kind sender payload buf ≡ frameBytes kind sender payload ++ drop (length payload + 8) buf
+module _ (kind : ℕ) (w : Writer) (payload buf : List ℕ) where
+  pub framed-fits : length payload ≤ 255 → length payload + 8 ≤ length buf → withFrame kind w payload buf ≡ framedBy kind w payload ++ drop (length payload + 8) buf
   unfolding withFrame
   framed-fits h room = rw (planned-given (length payload) (length buf) h room)
 
-  pub framed-unfit : {k : ℕ} → planned (length payload) (length buf) ≡ refused k → withFrame kind sender payload buf ≡ buf
+  pub framed-unfit : {k : ℕ} → planned (length payload) (length buf) ≡ refused k → withFrame kind w payload buf ≡ buf
   unfolding withFrame
   framed-unfit r = rw r
 
   -- a payload stored at 6 and sealed is the frame
-  sealed-framed : length payload ≤ 255 → length payload + 8 ≤ length buf → sealed kind sender (length payload) (sets buf 6 payload) ≡ withFrame kind sender payload buf
+  sealed-framed : length payload ≤ 255 → length payload + 8 ≤ length buf → sealed kind w (length payload) (sets buf 6 payload) ≡ withFrame kind w payload buf
   sealed-framed h room =
       let n = length payload in
       let six : length (take 6 buf) ≡ 6 = length-take-le 6 buf (omega arith) in
@@ -126,21 +128,21 @@ module _ (kind sender : ℕ) (payload buf : List ℕ) where
       ∙ ap (drop (n + 2)) stored
       ∙ drop-append-add payload (drop (6 + n) buf) 2
       ∙ drop-on 2 (6 + n) (n + 8) buf (omega arith) in
-      sealed-fits kind sender n (sets buf 6 payload) h (rw length-sets room)
-      ∙ ap₂ (λ (p t : List ℕ). frameBytes kind sender p ++ t) (ap (take n) stored ∙ take-append-seam payload (drop (6 + n) buf)) after
+      sealed-fits kind w n (sets buf 6 payload) h (rw length-sets room)
+      ∙ ap₂ (λ (p t : List ℕ). framedBy kind w p ++ t) (ap (take n) stored ∙ take-append-seam payload (drop (6 + n) buf)) after
       ∙ sym (framed-fits h room)
 
   -- what a writer does where its plan says that the frame fits
   pub writes : {m : ℕ} {first last : List ℕ} → planned (length payload) (length buf) ≡ given m → first ≡ sets buf 6 payload
-      → last ≡ sealed kind sender (length payload) first → last ≡ withFrame kind sender payload buf
+      → last ≡ sealed kind w (length payload) first → last ≡ withFrame kind w payload buf
   writes g p q =
       let room = fits (length payload) (length buf) g in
-      q ∙ ap (sealed kind sender (length payload)) p ∙ sealed-framed (room .0) (room .1)
+      q ∙ ap (sealed kind w (length payload)) p ∙ sealed-framed (room .0) (room .1)
 
 -- the same of a body that is stored part after part, as writers do
-pub writes-body : (kind sender : ℕ) (l : Layout) (v : Body l) (buf : List ℕ) {m : ℕ} {first last : List ℕ} → planned (bodySize l v) (length buf) ≡ given m
-    → first ≡ bodyStored l v buf 6 → last ≡ sealed kind sender (bodySize l v) first → last ≡ withFrame kind sender (encodeBody l v) buf
-writes-body kind sender l v buf {first = first} g p q =
+pub writes-body : (kind : ℕ) (w : Writer) (l : Layout) (v : Body l) (buf : List ℕ) {m : ℕ} {first last : List ℕ} → planned (bodySize l v) (length buf) ≡ given m
+    → first ≡ bodyStored l v buf 6 → last ≡ sealed kind w (bodySize l v) first → last ≡ withFrame kind w (encodeBody l v) buf
+writes-body kind w l v buf {first = first} g p q =
     let room = fits (bodySize l v) (length buf) g in
     let long = length-encode-body l v in
-    writes kind sender (encodeBody l v) buf (ap (λ (n : ℕ). planned n (length buf)) long ∙ g) (p ∙ body-sets l v buf 6 (omega arith)) (q ∙ ap (λ (n : ℕ). sealed kind sender n first) (sym long))
+    writes kind w (encodeBody l v) buf (ap (λ (n : ℕ). planned n (length buf)) long ∙ g) (p ∙ body-sets l v buf 6 (omega arith)) (q ∙ ap (λ (n : ℕ). sealed kind w n first) (sym long))

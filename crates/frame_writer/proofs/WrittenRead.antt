@@ -11,9 +11,13 @@ use Rattle.wire.specs.Number.{little, bytesOf, numberAt}
 use Rattle.wire.proofs.Numbers.{length-bytesOf, little-bytesOf}
 use Rattle.crc.specs.Crc.{crcFrom}
 use Rattle.crc.proofs.Fold.{crcFrom-fits}
+use Rattle.senders.specs.Senders.{carried, HeldWriter}
+use Rattle.senders.specs.declared.Writer.{Writer}
+use Rattle.senders.proofs.Carrying.{carried-small}
 use Rattle.frames.specs.Frame.{covered, frameBytes}
 use Rattle.frames.specs.Step.{stated, frameAt, stepOf, stepAt, payloadIn}
 use Rattle.frame_writer.specs.Writer.{withFrame}
+use Rattle.frames.specs.declared.step.Frame.{Frame}
 use Rattle.frames.specs.declared.step.Step.the-variants.{Found}
 use Rattle.frame_writer.proofs.Written.{length-covered, length-frame-then, framed-fits}
 
@@ -88,12 +92,16 @@ module _ (kind sender : ℕ) (payload rest : List ℕ) where
   unfolding payloadIn
   payload-back-at before = ap (take (length payload)) (drop-append-add before (frameBytes kind sender payload ++ rest) 6) ∙ payload-back
 
--- what a frame writer leaves is read back
-module _ (kind sender : ℕ) (payload buf : List ℕ) (k : kind < 65536) (s : sender < 65536) (n : length payload ≤ 255) (room : length payload + 8 ≤ length buf) where
-  pub framed-reads-back : stepAt (withFrame kind sender payload buf) 0 ≡ Found (record { at = 0; kind = kind; sender = sender; length = length payload })
-  framed-reads-back = ap (stepOf 0) (framed-fits kind sender payload buf n room) ∙ reads-back kind sender payload (drop (length payload + 8) buf) k s n 0
+-- what a frame writer leaves is read back, under the number that the type and the writer say
+module _ (kind : ℕ) (w : Writer) (payload buf : List ℕ) (k : kind < 65536) (h : HeldWriter w) (n : length payload ≤ 255) (room : length payload + 8 ≤ length buf) where
+  abbrev frame : Frame
+  frame = record { at = 0; kind = kind; sender = carried kind w; length = length payload }
 
-  pub framed-payload-back : payloadIn (withFrame kind sender payload buf) (record { at = 0; kind = kind; sender = sender; length = length payload }) ≡ payload
+  pub framed-reads-back : stepAt (withFrame kind w payload buf) 0 ≡ Found frame
+  framed-reads-back =
+      ap (stepOf 0) (framed-fits kind w payload buf n room) ∙ reads-back kind (carried kind w) payload (drop (length payload + 8) buf) k (carried-small kind w h) n 0
+
+  pub framed-payload-back : payloadIn (withFrame kind w payload buf) frame ≡ payload
   framed-payload-back =
-      ap (λ (t : List ℕ). payloadIn t (record { at = 0; kind = kind; sender = sender; length = length payload })) (framed-fits kind sender payload buf n room)
-      ∙ payload-back-at kind sender payload (drop (length payload + 8) buf) []
+      ap (λ (t : List ℕ). payloadIn t frame) (framed-fits kind w payload buf n room)
+      ∙ payload-back-at kind (carried kind w) payload (drop (length payload + 8) buf) []

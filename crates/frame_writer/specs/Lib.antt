@@ -1,4 +1,3 @@
 pub mod Writer
 pub mod Faithful
 pub mod Inner
-pub mod Given

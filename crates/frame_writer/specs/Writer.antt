@@ -4,12 +4,12 @@ use mathlib.Core.List.{List, [], _∷_, _++_}
 use lib.Dec.{leb}
 use lib.ListN.{length, take, drop}
 use Rattle.refusals.specs.Refusals.{refused, given, Answer, Tests, leaves, Call, reply}
+use Rattle.senders.specs.Senders.{carried}
+use Rattle.senders.specs.declared.Writer.{Writer}
 use Rattle.frames.specs.Frame.{frameBytes, Content}
 use Rattle.frames.specs.Reading.{Positioned}
 use Rattle.frames.specs.declared.step.Frame.{Frame}
 use Rattle.frames.specs.declared.step.Step.the-variants.{Found}
-use Rattle.frame_writer.specs.declared.write.Sender.{Sender}
-use Rattle.frame_writer.specs.declared.write.Sender.the-variants.{Named, Unnamed}
 use Rattle.frame_writer.specs.declared.write.Written.{Written}
 use Rattle.frame_writer.specs.declared.write.Written.the-variants.{Bytes, Refused}
 
@@ -17,11 +17,6 @@ use Rattle.frame_writer.specs.declared.write.Written.the-variants.{Bytes
 abbrev pub writtenAnswer : Written → Answer ℕ
 writtenAnswer (Bytes n) = given n
 writtenAnswer (Refused n) = refused n
-
--- a writer that is given no sender uses 0x42
-abbrev pub senderOf : Sender → ℕ
-senderOf (Named n) = n
-senderOf Unnamed = 0x42
 
 -- a payload of n bytes into a buffer of some length: 31 over 255, then 32 for a buffer shorter than N + 8
 abbrev pub writingFrame : ℕ → ℕ → Tests
@@ -41,13 +36,17 @@ sizeLeft a before = leaves (λ n size. n) a before
 abbrev pub startingWith : List ℕ → ℕ → List ℕ → List ℕ
 startingWith bs n buf = bs ++ drop n buf
 
+-- the frame that a writer makes of a payload
+abbrev pub framedBy : ℕ → Writer → List ℕ → List ℕ
+framedBy kind w payload = frameBytes kind (carried kind w) payload
+
 -- the buffer with a frame at its start, the bytes after untouched; as it was where the frame is refused
-unfoldable pub withFrame : ℕ → ℕ → List ℕ → List ℕ → List ℕ
-withFrame kind sender payload buf = leaves (startingWith (frameBytes kind sender payload)) (planned (length payload) (length buf)) buf
+unfoldable pub withFrame : ℕ → Writer → List ℕ → List ℕ → List ℕ
+withFrame kind w payload buf = leaves (startingWith (framedBy kind w payload)) (planned (length payload) (length buf)) buf
 
 -- the same, of the n payload bytes that stand in the buffer at 6
-unfoldable pub sealed : ℕ → ℕ → ℕ → List ℕ → List ℕ
-sealed kind sender n buf = leaves (startingWith (frameBytes kind sender (take n (drop 6 buf)))) (planned n (length buf)) buf
+unfoldable pub sealed : ℕ → Writer → ℕ → List ℕ → List ℕ
+sealed kind w n buf = leaves (startingWith (framedBy kind w (take n (drop 6 buf)))) (planned n (length buf)) buf
 
 -- what a written frame reads back as, at a position
 abbrev pub asRead : ℕ → Content → Frame

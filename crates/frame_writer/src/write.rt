@@ -2,28 +2,14 @@
 ghost use mathlib.Core.Path.{_≡_};
 ghost use lib.ListN.{length};
 ghost use Rattle.refusals.specs.Refusals.{zeroOr};
-ghost use Rattle.frame_writer.specs.Writer.{writtenAnswer, senderOf, planned, sizeLeft, sealed, withFrame};
+ghost use Rattle.frame_writer.specs.Writer.{writtenAnswer, planned, sizeLeft, sealed, withFrame};
 ghost use Rattle.frame_writer.specs.Inner.{headed};
-
-// Who sends: a number, or nobody in particular, which is written as 0x42.
-pub enum Sender {
-    Named(u16),
-    Unnamed,
-}
+use senders::Writer;
 
 // How many bytes were written, or document 01's number of the refusal.
 pub enum Written {
     Bytes(usize),
     Refused(u8),
-}
-
-pub fn sender_number(sender: Sender) -> u16
-    ensures { λ r. ⌜ r ≡ senderOf sender ⌝ }
-{
-    match sender {
-        Sender::Named(n) => n,
-        Sender::Unnamed => 0x42,
-    }
 }
 
 // What was written as C and Rust are told it: 0 with the number of bytes through size, or the refusal's number.
@@ -64,11 +50,11 @@ fn put_head(buf: &mut [u8], kind: u16, sender: u16, n: u8)
 }
 
 // Makes a frame of the n payload bytes that stand at buf[6..]; where the frame does not fit, nothing is changed.
-pub fn seal(buf: &mut [u8], kind: u16, sender: Sender, n: usize)
-    ensures { λ _. ⌜ now (buf .exit) ≡ sealed kind (senderOf sender) n (now (buf .entry)) ⌝ }
+pub fn seal(buf: &mut [u8], kind: u16, writer: Writer, n: usize)
+    ensures { λ _. ⌜ now (buf .exit) ≡ sealed kind writer n (now (buf .entry)) ⌝ }
 {
     if let Written::Bytes(_) = plan(n, buf.len()) {
-        put_head(buf, kind, sender_number(sender), n as u8);
+        put_head(buf, kind, senders::sender_number(kind, writer), n as u8);
         let end = n + 6;
         let sum = crc::crc(0, &buf[1..end]);
         wire::store_u16(buf, end, sum);
@@ -76,15 +62,15 @@ pub fn seal(buf: &mut [u8], kind: u16, sender: Sender, n: usize)
 }
 
 // A frame of any type with any payload.
-pub fn write_frame(buf: &mut [u8], kind: u16, sender: Sender, payload: &[u8]) -> Written
+pub fn write_frame(buf: &mut [u8], kind: u16, writer: Writer, payload: &[u8]) -> Written
     ensures { λ r. ⌜ writtenAnswer r ≡ planned (length (now (payload .entry))) (length (now (buf .entry))) ⌝ }
-    ensures { λ _. ⌜ now (buf .exit) ≡ withFrame kind (senderOf sender) (now (payload .entry)) (now (buf .entry)) ⌝ }
+    ensures { λ _. ⌜ now (buf .exit) ≡ withFrame kind writer (now (payload .entry)) (now (buf .entry)) ⌝ }
 {
     let n = payload.len();
     let answer = plan(n, buf.len());
     if let Written::Bytes(_) = answer {
         wire::store_bytes(buf, 6, payload);
-        seal(buf, kind, sender, n);
+        seal(buf, kind, writer, n);
     }
     answer
 }

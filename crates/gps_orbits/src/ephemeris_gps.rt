@@ -3,7 +3,7 @@ ghost use mathlib.Core.Path.{_≡_};
 ghost use lib.ListN.{length};
 ghost use Rattle.layouts.specs.Inner.{bodyStored};
 ghost use Rattle.layouts.specs.Description.{inside, readAs};
-ghost use Rattle.frame_writer.specs.Writer.{senderOf, writtenAnswer};
+ghost use Rattle.frame_writer.specs.Writer.{writtenAnswer};
 ghost use Rattle.frame_writer.specs.Faithful.{writeAnswer, writtenAs};
 ghost use Rattle.gps_orbits.specs.EphemerisGps.{ephemerisGps, answerOf};
 use crate::clock;
@@ -12,10 +12,10 @@ use crate::elements;
 use crate::elements::Ellipse;
 use crate::elements::Harmonics;
 use crate::elements::Plane;
-use frame_writer::Sender;
 use frame_writer::Written;
 use parts::EphemerisCommon;
 use parts::common;
+use senders::Writer;
 use wire::Double;
 
 pub struct EphemerisGps {
@@ -71,14 +71,14 @@ pub fn read_ephemeris_gps(s: &[u8]) -> EphemerisGpsRead
     EphemerisGpsRead::Record(take_ephemeris_gps(s))
 }
 
-pub fn write_ephemeris_gps(buf: &mut [u8], sender: Sender, r: EphemerisGps) -> Written
+pub fn write_ephemeris_gps(buf: &mut [u8], writer: Writer, r: EphemerisGps) -> Written
     ensures { λ w. ⌜ writtenAnswer w ≡ writeAnswer ephemerisGps r (length (now (buf .entry))) ⌝ }
-    ensures { λ _. ⌜ now (buf .exit) ≡ writtenAs ephemerisGps (senderOf sender) r (now (buf .entry)) ⌝ }
+    ensures { λ _. ⌜ now (buf .exit) ≡ writtenAs ephemerisGps writer r (now (buf .entry)) ⌝ }
 {
     let answer = frame_writer::plan(185, buf.len());
     if let Written::Bytes(_) = answer {
         put(buf, r);
-        frame_writer::seal(buf, 0x0081, sender, 185);
+        frame_writer::seal(buf, 0x0081, writer, 185);
     }
     answer
 }

@@ -11,8 +11,7 @@ use contract.Monad.{Fun}
 use denote.Ref.{now}
 use Rattle.wire.specs.Number.{flagAt}
 use Rattle.crc.specs.Crc.{crcFrom}
-use Rattle.frame_writer.specs.Writer.{senderOf}
-use Rattle.frame_writer.specs.Given.{sentBy}
+use Rattle.senders.specs.Senders.{carried, writerFrom}
 use Rattle.phases.specs.Phase.{phaseOf}
 use Rattle.calls.specs.Gives.{Gives}
 use Rattle.phases.proofs as phases
@@ -41,10 +40,10 @@ module _ {M : Type 1} (𝓤 : URA M) (H : Heap 𝓤) (A : Atoms 𝓤) (mem : Mem
 
   -- frames written; a sender that 16 bits do not hold is none
   pub record Writes : Type 1 where
-    pub sbp-write : Gives 𝓤 exports.sbp_write.ended (exports.sbp_write.clauses 𝓤 H A mem run) (λ κs out kind sender. writeGives out kind (sentBy sender))
-    pub sbp-write-obs : Gives 𝓤 exports.sbp_write_obs.ended (exports.sbp_write_obs.clauses 𝓤 H A mem run) (λ κs out kind sender. writeObsGives out kind (sentBy sender))
-    pub sbp-write-log : Gives 𝓤 exports.sbp_write_log.ended (exports.sbp_write_log.clauses 𝓤 H A mem run) (λ κs out sender. writeLogGives out (sentBy sender))
-    pub sbp-write-frame : Gives 𝓤 exports.sbp_write_frame.ended (exports.sbp_write_frame.clauses 𝓤 H A mem run) (λ κs out kind sender. writeFrameGives out kind (sentBy sender))
+    pub sbp-write : Gives 𝓤 exports.sbp_write.ended (exports.sbp_write.clauses 𝓤 H A mem run) (λ κs out kind sender. writeGives out kind (carried kind (writerFrom sender)))
+    pub sbp-write-obs : Gives 𝓤 exports.sbp_write_obs.ended (exports.sbp_write_obs.clauses 𝓤 H A mem run) (λ κs out kind sender. writeObsGives out kind (carried kind (writerFrom sender)))
+    pub sbp-write-log : Gives 𝓤 exports.sbp_write_log.ended (exports.sbp_write_log.clauses 𝓤 H A mem run) (λ κs out sender. writeLogGives out (carried 0x0401 (writerFrom sender)))
+    pub sbp-write-frame : Gives 𝓤 exports.sbp_write_frame.ended (exports.sbp_write_frame.clauses 𝓤 H A mem run) (λ κs out kind sender. writeFrameGives out kind (carried kind (writerFrom sender)))
 
   -- a collator in the caller's bytes
   pub record Collates : Type 1 where
@@ -72,9 +71,9 @@ module _ {M : Type 1} (𝓤 : URA M) (H : Heap 𝓤) (A : Atoms 𝓤) (mem : Mem
     pub totals-row : Gives 𝓤 frame_rows.totals_row.ended (frame_rows.totals_row.clauses 𝓤 H A mem run) (λ κs. totalsGives)
     pub read-row : Gives 𝓤 row_reader.read_row.ended (row_reader.read_row.clauses 𝓤 H A mem run) (λ κs. readGives)
     pub read-observation-row : Gives 𝓤 row_reader.read_observation_row.ended (row_reader.read_observation_row.clauses 𝓤 H A mem run) (λ κs. observationGives)
-    pub write-row : Gives 𝓤 row_writer.write_row.ended (row_writer.write_row.clauses 𝓤 H A mem run) (λ κs out kind sender. writeGives out kind (senderOf sender))
-    pub write-obs-row : Gives 𝓤 row_writer.write_obs_row.ended (row_writer.write_obs_row.clauses 𝓤 H A mem run) (λ κs out kind sender. writeObsGives out kind (senderOf sender))
-    pub send-frame : Gives 𝓤 row_writer.send_frame.ended (row_writer.send_frame.clauses 𝓤 H A mem run) (λ κs out kind sender. writeFrameGives out kind (senderOf sender))
+    pub write-row : Gives 𝓤 row_writer.write_row.ended (row_writer.write_row.clauses 𝓤 H A mem run) (λ κs out kind writer. writeGives out kind (carried kind writer))
+    pub write-obs-row : Gives 𝓤 row_writer.write_obs_row.ended (row_writer.write_obs_row.clauses 𝓤 H A mem run) (λ κs out kind writer. writeObsGives out kind (carried kind writer))
+    pub send-frame : Gives 𝓤 row_writer.send_frame.ended (row_writer.send_frame.clauses 𝓤 H A mem run) (λ κs out kind writer. writeFrameGives out kind (carried kind writer))
     pub make : Gives 𝓤 states.make.ended (states.make.clauses 𝓤 H A mem run) (λ κs. collatorGives)
     pub grow : Gives 𝓤 states.grow.ended (states.grow.clauses 𝓤 H A mem run) (λ κs. growingGives)
     pub enlist : Gives 𝓤 states.enlist.ended (states.enlist.clauses 𝓤 H A mem run) (λ κs. enlistGives)

@@ -18,6 +18,8 @@ use Rattle.refusals.specs.Refusals.{refused, given, Answer, ordered, FirstFails
 use Rattle.refusals.proofs.Ordered.{exactly-first, exactly-all}
 use Rattle.wire.proofs.Lent.{lentFrom, lent-all}
 use Rattle.padded.proofs.Texts.{before-from, length-split, before-take, from-drop, no-zero-before, split-joined, all-zeros, only-zeros, bytes-zeros}
+use Rattle.senders.specs.Senders.{HeldWriter}
+use Rattle.senders.specs.declared.Writer.{Writer}
 use Rattle.frames.specs.Step.{payloadIn}
 use Rattle.frame_writer.specs.Writer.{planned, sealed, writingFrame, withFrame}
 use Rattle.frame_writer.specs.Faithful.{Faithful, writeAnswer, writtenAs, frameWritten}
@@ -102,30 +104,30 @@ module _ (level : ℕ) (text : List ℕ) (padding : ℕ) where
       by true e = refl
       by false e = sym (planned-31 (1 + length text + padding) room (omega (arith, leb-false (length text + padding) 254 e)))
 
-  module _ (sender : ℕ) (buf : List ℕ) where
+  module _ (w : Writer) (buf : List ℕ) where
     -- the writer's answer, and the buffer as it leaves it
     abbrev Wrote : Answer ℕ → List ℕ → Type 0
-    Wrote = promised.Wrote log sender r buf
+    Wrote = promised.Wrote log w r buf
 
     pub wrote-23 : noZero text ≡ false → Wrote (refused 23) buf
-    wrote-23 e = promised.wrote-23 log sender r buf (as-clean ∙ e)
+    wrote-23 e = promised.wrote-23 log w r buf (as-clean ∙ e)
 
     module _ (clean : noZero text ≡ true) where
       pub wrote-31 : leb (length text + padding) 254 ≡ false → Wrote (refused 31) buf
-      wrote-31 many = promised.wrote-31 log sender r buf (as-clean ∙ clean) (as-few ∙ many)
+      wrote-31 many = promised.wrote-31 log w r buf (as-clean ∙ clean) (as-few ∙ many)
 
       module _ (few : leb (length text + padding) 254 ≡ true) {a : Answer ℕ} (plan : a ≡ planned (1 + length text + padding) (length buf)) where
         as-planned : planned (1 + length text + padding) (length buf) ≡ planned (bodySize (log .layout) (log .row r)) (length buf)
         as-planned = ap (λ (n : ℕ). planned n (length buf)) as-long
 
         pub wrote-nothing : {n : ℕ} → planned (1 + length text + padding) (length buf) ≡ refused n → Wrote a buf
-        wrote-nothing q = promised.wrote-nothing log sender r buf (as-clean ∙ clean) (as-few ∙ few) (plan ∙ as-planned) (sym as-planned ∙ q)
+        wrote-nothing q = promised.wrote-nothing log w r buf (as-clean ∙ clean) (as-few ∙ few) (plan ∙ as-planned) (sym as-planned ∙ q)
 
         pub wrote : {n : ℕ} {t u : List ℕ} → planned (1 + length text + padding) (length buf) ≡ given n → t ≡ bodyStored (log .layout) (log .row r) buf 6
-            → u ≡ sealed (log .kind) sender (1 + length text + padding) t → Wrote a u
+            → u ≡ sealed (log .kind) w (1 + length text + padding) t → Wrote a u
         wrote {n} {t} q p c =
-            promised.wrote log sender r buf (as-clean ∙ clean) (as-few ∙ few) (plan ∙ as-planned) (sym as-planned ∙ q) p
-            (c ∙ ap (λ (n : ℕ). sealed (log .kind) sender n t) as-long)
+            promised.wrote log w r buf (as-clean ∙ clean) (as-few ∙ few) (plan ∙ as-planned) (sym as-planned ∙ q) p
+            (c ∙ ap (λ (n : ℕ). sealed (log .kind) w n t) as-long)
 
 -- ---- its promise
 
@@ -175,11 +177,11 @@ module _ (s : List ℕ) where
       ),
     )
 
-    again-through : (sender : ℕ) (buf : List ℕ) → Bytes s → writtenAs log sender (logged (l .level) (textIn s) (l .padding)) buf ≡ withFrame (log .kind) sender s buf
+    again-through : (w : Writer) (buf : List ℕ) → Bytes s → writtenAs log w (logged (l .level) (textIn s) (l .padding)) buf ≡ withFrame (log .kind) w s buf
     unfolding readAs
-    again-through sender buf h =
-        ap (λ (r : Logged). writtenAs log sender r buf) whole
-        ∙ message .again sender (inside log s) buf s h (exactly-all (inside log s) (reading log s .tests) (inside log s) .1 (accepted .0, refl))
+    again-through w buf h =
+        ap (λ (r : Logged). writtenAs log w r buf) whole
+        ∙ message .again w (inside log s) buf s h (exactly-all (inside log s) (reading log s .tests) (inside log s) .1 (accepted .0, refl))
 
 nonzero : (s : List ℕ) (i j : ℕ) → 0 < i → i < j → getD s i 0 ≡ 0 → (getD s j 0 ≡ 0 → ⊥) → logPadded s ≡ false
 nonzero [] i j p h z n = absurd (n refl)
@@ -187,12 +189,12 @@ nonzero (b ∷ s) zero j p h z n = absurd (omega arith)
 nonzero (b ∷ s) (suc i) zero p h z n = absurd (omega arith)
 nonzero (b ∷ s) (suc i) (suc j) p h z n = zero-before s i j (omega arith) z n
 
-module _ (sender level : ℕ) (text : List ℕ) (padding : ℕ) (buf : List ℕ) {n : ℕ} (s : sender < 65536) (small : level < 256) (held : Bytes text) (g : writeAnswer log (logged level text padding) (length buf) ≡ given n) where
+module _ (w : Writer) (level : ℕ) (text : List ℕ) (padding : ℕ) (buf : List ℕ) {n : ℕ} (s : HeldWriter w) (small : level < 256) (held : Bytes text) (g : writeAnswer log (logged level text padding) (length buf) ≡ given n) where
   abbrev payload : List ℕ
-  payload = payloadIn (writtenAs log sender (logged level text padding) buf) (frameWritten log sender (logged level text padding))
+  payload = payloadIn (writtenAs log w (logged level text padding) buf) (frameWritten log w (logged level text padding))
 
   read-whole : readAs log payload ≡ given (logged level text padding)
-  read-whole = message .same sender (logged level text padding) buf s g ((record { fits = small }, tt), (held, bytes-zeros padding)) ((refl, tt), tt)
+  read-whole = message .same w (logged level text padding) buf s g ((record { fits = small }, tt), (held, bytes-zeros padding)) ((refl, tt), tt)
 
   back-through : (readLog payload ≡ given (record { level = level; length = length text; padding = padding })) × (textIn payload ≡ text)
   unfolding readAs readLog
@@ -208,5 +210,5 @@ log-faithful = record {
   one-split = λ s l g. split s l g;
   written-by = written-by;
   back = back-through;
-  again = λ sender l buf s h g. again-through s l g sender buf h;
+  again = λ w l buf s h g. again-through s l g w buf h;
 }

@@ -9,6 +9,8 @@ use lib.ListN.{length, getD, drop}
 use Rattle.wire.specs.Number.{Bytes}
 use Rattle.padded.specs.Padded.{noZero, zeros}
 use Rattle.refusals.specs.Refusals.{refused, given, ordered}
+use Rattle.senders.specs.Senders.{HeldWriter}
+use Rattle.senders.specs.declared.Writer.{Writer}
 use Rattle.frames.specs.Step.{payloadIn}
 use Rattle.frame_writer.specs.Writer.{writingFrame, withFrame}
 use Rattle.frame_writer.specs.Faithful.{Faithful, writeAnswer, writtenAs, frameWritten}
@@ -30,10 +32,10 @@ pub record LogFaithful : Type 0 where
   pub written-by : (level : ℕ) (text : List ℕ) (padding room : ℕ)
       → writeAnswer log (logged level text padding) room ≡ ordered ((noZero text, 23) ∷ writingFrame (1 + length text + padding) room) (1 + length text + padding + 8)
   -- the frame that is written, which is found as every message's is, has a payload that gives the level, the text and the padding back
-  pub back : (sender level : ℕ) (text : List ℕ) (padding : ℕ) (buf : List ℕ) {n : ℕ} → sender < 65536 → level < 256 → Bytes text
+  pub back : (w : Writer) (level : ℕ) (text : List ℕ) (padding : ℕ) (buf : List ℕ) {n : ℕ} → HeldWriter w → level < 256 → Bytes text
       → writeAnswer log (logged level text padding) (length buf) ≡ given n
-      → let s = payloadIn (writtenAs log sender (logged level text padding) buf) (frameWritten log sender (logged level text padding)) in
+      → let s = payloadIn (writtenAs log w (logged level text padding) buf) (frameWritten log w (logged level text padding)) in
       (readLog s ≡ given (record { level = level; length = length text; padding = padding })) × (textIn s ≡ text)
   -- an accepted payload written again gives a frame of the same bytes: the level and the padding that were read, and the text of the payload
-  pub again : (sender : ℕ) (l : Log) (buf s : List ℕ) → Bytes s → readLog s ≡ given l
-      → writtenAs log sender (logged (l .level) (textIn s) (l .padding)) buf ≡ withFrame (log .kind) sender s buf
+  pub again : (w : Writer) (l : Log) (buf s : List ℕ) → Bytes s → readLog s ≡ given l
+      → writtenAs log w (logged (l .level) (textIn s) (l .padding)) buf ≡ withFrame (log .kind) w s buf

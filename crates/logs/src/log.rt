@@ -3,11 +3,11 @@ ghost use mathlib.Core.Path.{_≡_};
 ghost use lib.ListN.{length, drop};
 ghost use Rattle.layouts.specs.Inner.{bodyStored};
 ghost use Rattle.layouts.specs.Description.{inside};
-ghost use Rattle.frame_writer.specs.Writer.{senderOf, writtenAnswer};
+ghost use Rattle.frame_writer.specs.Writer.{writtenAnswer};
 ghost use Rattle.frame_writer.specs.Faithful.{writeAnswer, writtenAs};
 ghost use Rattle.logs.specs.Log.{log, logged, shown, readLog, logAnswer, textIn, logLength, logPadded};
-use frame_writer::Sender;
 use frame_writer::Written;
+use senders::Writer;
 
 // The text stays in the payload: `log_text` gives it as that part.
 pub struct Log {
@@ -92,9 +92,9 @@ fn put_log(buf: &mut [u8], level: u8, text: &[u8], padding: usize)
 }
 
 // 23 for a zero in the text, 31 for a text and zeros over 254 bytes, then 32.
-pub fn write_log(buf: &mut [u8], sender: Sender, level: u8, text: &[u8], padding: usize) -> Written
+pub fn write_log(buf: &mut [u8], writer: Writer, level: u8, text: &[u8], padding: usize) -> Written
     ensures { λ w. ⌜ writtenAnswer w ≡ writeAnswer log (logged level (now (text .entry)) padding) (length (now (buf .entry))) ⌝ }
-    ensures { λ _. ⌜ now (buf .exit) ≡ writtenAs log (senderOf sender) (logged level (now (text .entry)) padding) (now (buf .entry)) ⌝ }
+    ensures { λ _. ⌜ now (buf .exit) ≡ writtenAs log writer (logged level (now (text .entry)) padding) (now (buf .entry)) ⌝ }
 {
     let clean = padded::no_zero(text);
     let few = wire::room(254, text.len(), padding);
@@ -104,7 +104,7 @@ pub fn write_log(buf: &mut [u8], sender: Sender, level: u8, text: &[u8], padding
             let answer = frame_writer::plan(n, buf.len());
             if let Written::Bytes(_) = answer {
                 put_log(buf, level, text, padding);
-                frame_writer::seal(buf, 0x0401, sender, n);
+                frame_writer::seal(buf, 0x0401, writer, n);
             }
             return answer;
         }

@@ -15,6 +15,8 @@ use Rattle.refusals.specs.Refusals.{given}
 use Rattle.layouts.proofs.Fields.{signed-settled}
 use Rattle.layouts.proofs.Layouts.{allowed-rows}
 use Rattle.layouts.proofs.Descriptions.{reads-same}
+use Rattle.senders.specs.Senders.{HeldWriter}
+use Rattle.senders.specs.declared.Writer.{Writer}
 use Rattle.frames.specs.Step.{stepAt, payloadIn}
 use Rattle.frame_writer.specs.Writer.{withFrame}
 use Rattle.frame_writer.specs.Faithful.{Faithful, writeAnswer, writtenAs}
@@ -46,28 +48,28 @@ pub held-whole : (r : Observed Head Observation) → length (r .observations) �
     → readAs (obs first) (encodeBody (obs first .layout) (obs first .row r)) ≡ given r
 held-whole r few held = reads-same (obs first) (lit≤ tt) r held (allowed-rows (observation .fields) (λ v. refl) (rowsOf observation (r .observations))) (rw (rows-counted first (r .observations)) (le-leb (length (r .observations)) 15 few)) (settled r held)
 
-module _ (sender : ℕ) (o : Obs) (entries : List Observation) (buf : List ℕ) (enough : o .count ≤ length entries) where
-  as-message : bufferAfter sender o entries buf ≡ writtenAs (obs first) sender (written o entries) buf
-  as-message = same-written first sender (headOf o) (o .count) entries buf enough (λ v. refl) (λ v. refl)
+module _ (w : Writer) (o : Obs) (entries : List Observation) (buf : List ℕ) (enough : o .count ≤ length entries) where
+  as-message : bufferAfter w o entries buf ≡ writtenAs (obs first) w (written o entries) buf
+  as-message = same-written first w (headOf o) (o .count) entries buf enough (λ v. refl) (λ v. refl)
 
-  module _ {n : ℕ} (s : sender < 65536) (g : obsWriteAnswer first (o .count) (length buf) ≡ given n) where
+  module _ {n : ℕ} (s : HeldWriter w) (g : obsWriteAnswer first (o .count) (length buf) ≡ given n) where
     answered : writeAnswer (obs first) (written o entries) (length buf) ≡ given n
-    answered = sym (same-answer first sender (headOf o) (o .count) entries buf enough (λ v. refl) (λ v. refl) (length buf)) ∙ g
+    answered = sym (same-answer first w (headOf o) (o .count) entries buf enough (λ v. refl) (λ v. refl) (length buf)) ∙ g
 
-    found-through : stepAt (bufferAfter sender o entries buf) 0 ≡ Found (obsFrame sender o entries)
-    found-through = ap (λ (t : List ℕ). stepAt t 0) as-message ∙ message .found sender (written o entries) buf s answered
+    found-through : stepAt (bufferAfter w o entries buf) 0 ≡ Found (obsFrame w o entries)
+    found-through = ap (λ (t : List ℕ). stepAt t 0) as-message ∙ message .found w (written o entries) buf s answered
 
     module _ (held : HeldBody (obs first .layout) (obs first .row (written o entries))) where
       abbrev payload : List ℕ
-      payload = payloadIn (bufferAfter sender o entries buf) (obsFrame sender o entries)
+      payload = payloadIn (bufferAfter w o entries buf) (obsFrame w o entries)
 
       counted : length (take (o .count) entries) ≡ o .count
       counted = length-take-le (o .count) entries enough
 
       whole : readAs (obs first) payload ≡ given (written o entries)
       whole =
-          ap (λ (t : List ℕ). readAs (obs first) (payloadIn t (obsFrame sender o entries))) as-message
-          ∙ message .same sender (written o entries) buf s answered held (settled (written o entries) held)
+          ap (λ (t : List ℕ). readAs (obs first) (payloadIn t (obsFrame w o entries))) as-message
+          ∙ message .same w (written o entries) buf s answered held (settled (written o entries) held)
 
       back-through : readObs payload ≡ given o
       back-through =
@@ -77,21 +79,21 @@ module _ (sender : ℕ) (o : Obs) (entries : List Observation) (buf : List ℕ) 
       each-through : (i : ℕ) (d : Observation) → i < o .count → readEntry first payload i ≡ given (getD entries i d)
       each-through i d h = each-read first payload (written o entries) whole i d (omega (arith, counted)) ∙ ap given (getD-take (o .count) entries i d h)
 
-again-through : (sender : ℕ) (o : Obs) (buf s : List ℕ) → Bytes s → readObs s ≡ given o
-    → bufferAfter sender o (inside (obs first) s .observations) buf ≡ withFrame (first .kind) sender s buf
-again-through sender o buf s bytes g =
+again-through : (w : Writer) (o : Obs) (buf s : List ℕ) → Bytes s → readObs s ≡ given o
+    → bufferAfter w o (inside (obs first) s .observations) buf ≡ withFrame (first .kind) w s buf
+again-through w o buf s bytes g =
     let r = inside (obs first) s in
     let read = only-shown s o g in
     let all : take (length (r .observations)) (r .observations) ≡ r .observations = take-all (length (r .observations)) (r .observations) (omega arith) in
-    ap (λ (o : Obs). bufferAfter sender o (r .observations) buf) (read .1)
-    ∙ as-message sender (shown r) (r .observations) buf (omega arith)
-    ∙ ap (λ (os : List Observation). writtenAs (obs first) sender (record { header = r .header; observations = os }) buf) all
-    ∙ message .again sender r buf s bytes (read .0)
+    ap (λ (o : Obs). bufferAfter w o (r .observations) buf) (read .1)
+    ∙ as-message w (shown r) (r .observations) buf (omega arith)
+    ∙ ap (λ (os : List Observation). writtenAs (obs first) w (record { header = r .header; observations = os }) buf) all
+    ∙ message .again w r buf s bytes (read .0)
 
 pub obs-faithful : ObsFaithful
 obs-faithful = record {
   message = message;
-  found = λ sender o entries buf s enough g. found-through sender o entries buf enough s g;
-  back = λ sender o entries buf s enough g held. (back-through sender o entries buf enough s g held, each-through sender o entries buf enough s g held);
+  found = λ w o entries buf s enough g. found-through w o entries buf enough s g;
+  back = λ w o entries buf s enough g held. (back-through w o entries buf enough s g held, each-through w o entries buf enough s g held);
   again = again-through;
 }

@@ -7,6 +7,8 @@ use Rattle.wire.specs.Number.{Bytes}
 use Rattle.layouts.specs.Layout.{HeldBody}
 use Rattle.layouts.specs.Description.{inside}
 use Rattle.refusals.specs.Refusals.{given}
+use Rattle.senders.specs.Senders.{HeldWriter}
+use Rattle.senders.specs.declared.Writer.{Writer}
 use Rattle.frames.specs.Step.{stepAt, payloadIn}
 use Rattle.frame_writer.specs.Writer.{withFrame}
 use Rattle.frame_writer.specs.Faithful.{Faithful, frameWritten}
@@ -22,21 +24,21 @@ use Rattle.observation.specs.declared.obs.Obs.{Obs}
 abbrev pub written : Obs → List Observation → Observed Head Observation
 written o entries = observed first (headOf o) (o .count) entries
 
-abbrev pub obsFrame : ℕ → Obs → List Observation → Frame
-obsFrame sender o entries = frameWritten (obs first) sender (written o entries)
+abbrev pub obsFrame : Writer → Obs → List Observation → Frame
+obsFrame w o entries = frameWritten (obs first) w (written o entries)
 
-abbrev pub bufferAfter : ℕ → Obs → List Observation → List ℕ → List ℕ
-bufferAfter sender o entries buf = obsWritten first sender (headOf o) (o .count) entries buf
+abbrev pub bufferAfter : Writer → Obs → List Observation → List ℕ → List ℕ
+bufferAfter w o entries buf = obsWritten first w (headOf o) (o .count) entries buf
 
 pub record ObsFaithful : Type 0 where
   pub message : Faithful (obs first)
   -- written it is found as its frame, whose payload gives the header with the count back, and each observation, at any default
-  pub found : (sender : ℕ) (o : Obs) (entries : List Observation) (buf : List ℕ) {n : ℕ} → sender < 65536 → o .count ≤ length entries
-      → obsWriteAnswer first (o .count) (length buf) ≡ given n → stepAt (bufferAfter sender o entries buf) 0 ≡ Found (obsFrame sender o entries)
-  pub back : (sender : ℕ) (o : Obs) (entries : List Observation) (buf : List ℕ) {n : ℕ} → sender < 65536 → o .count ≤ length entries
+  pub found : (w : Writer) (o : Obs) (entries : List Observation) (buf : List ℕ) {n : ℕ} → HeldWriter w → o .count ≤ length entries
+      → obsWriteAnswer first (o .count) (length buf) ≡ given n → stepAt (bufferAfter w o entries buf) 0 ≡ Found (obsFrame w o entries)
+  pub back : (w : Writer) (o : Obs) (entries : List Observation) (buf : List ℕ) {n : ℕ} → HeldWriter w → o .count ≤ length entries
       → obsWriteAnswer first (o .count) (length buf) ≡ given n → HeldBody (obs first .layout) (obs first .row (written o entries))
-      → (readObs (payloadIn (bufferAfter sender o entries buf) (obsFrame sender o entries)) ≡ given o)
-      × ((i : ℕ) (d : Observation) → i < o .count → readEntry first (payloadIn (bufferAfter sender o entries buf) (obsFrame sender o entries)) i ≡ given (getD entries i d))
+      → (readObs (payloadIn (bufferAfter w o entries buf) (obsFrame w o entries)) ≡ given o)
+      × ((i : ℕ) (d : Observation) → i < o .count → readEntry first (payloadIn (bufferAfter w o entries buf) (obsFrame w o entries)) i ≡ given (getD entries i d))
   -- an accepted payload, with its observations, written again gives a frame of the same bytes
-  pub again : (sender : ℕ) (o : Obs) (buf s : List ℕ) → Bytes s → readObs s ≡ given o
-      → bufferAfter sender o (inside (obs first) s .observations) buf ≡ withFrame (first .kind) sender s buf
+  pub again : (w : Writer) (o : Obs) (buf s : List ℕ) → Bytes s → readObs s ≡ given o
+      → bufferAfter w o (inside (obs first) s .observations) buf ≡ withFrame (first .kind) w s buf

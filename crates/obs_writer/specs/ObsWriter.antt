@@ -5,8 +5,8 @@ use lib.Dec.{leb}
 use lib.ListN.{length, take}
 use Rattle.layouts.specs.Layout.{encodeBody}
 use Rattle.refusals.specs.Refusals.{Answer, leaves, Call, reply}
-use Rattle.frames.specs.Frame.{frameBytes}
-use Rattle.frame_writer.specs.Writer.{writingFrame, startingWith}
+use Rattle.senders.specs.declared.Writer.{Writer}
+use Rattle.frame_writer.specs.Writer.{writingFrame, startingWith, framedBy}
 use Rattle.observation.specs.Edition.{Edition, Observed, obs, startOf, Head}
 use Rattle.observation.specs.declared.obs.Obs.{Obs}
 
@@ -23,9 +23,9 @@ module _ {H O : Type 0} (e : Edition H O) where
   observed h k os = record { header = h; observations = take k os }
 
   -- the buffer after it: the frame and the bytes after it as they were, or all as it was
-  unfoldable pub obsWritten : ℕ → H → ℕ → List O → List ℕ → List ℕ
-  obsWritten sender h k os buf =
-      leaves (startingWith (frameBytes (e .kind) sender (encodeBody (obs e .layout) (obs e .row (observed h k os))))) (obsWriteAnswer k (length buf)) buf
+  unfoldable pub obsWritten : Writer → H → ℕ → List O → List ℕ → List ℕ
+  obsWritten w h k os buf =
+      leaves (startingWith (framedBy (e .kind) w (encodeBody (obs e .layout) (obs e .row (observed h k os))))) (obsWriteAnswer k (length buf)) buf
 
 -- the header that the code's summary has
 abbrev pub headOf : Obs → Head

@@ -5,16 +5,16 @@ ghost use lib.ListN.{length, take};
 ghost use Rattle.layouts.specs.Field.{rowStored};
 ghost use Rattle.layouts.specs.Inner.{rowsStored};
 ghost use Rattle.layouts.specs.Description.{rowsOf};
-ghost use Rattle.frame_writer.specs.Writer.{senderOf, writtenAnswer};
+ghost use Rattle.frame_writer.specs.Writer.{writtenAnswer};
 ghost use Rattle.observation.specs.Edition.{head, observation, first};
 ghost use Rattle.obs_writer.specs.ObsWriter.{headOf, obsWriteAnswer, obsWritten};
-use frame_writer::Sender;
 use frame_writer::Written;
 use observation::EACH;
 use observation::HEAD;
 use observation::MOST;
 use observation::Obs;
 use observation::Observation;
+use senders::Writer;
 
 // Where the observations go in a frame: behind the six bytes before the payload, and the header.
 const ENTRIES: usize = 6 + HEAD;
@@ -58,9 +58,9 @@ fn put_entries(buf: &mut [u8], entries: [Observation; MOST], k: usize)
 }
 
 // A header and the first count of the observations: 31 for over 15, then 32.
-pub fn write_obs(buf: &mut [u8], sender: Sender, obs: Obs, entries: [Observation; MOST]) -> Written
+pub fn write_obs(buf: &mut [u8], writer: Writer, obs: Obs, entries: [Observation; MOST]) -> Written
     ensures { λ w. ⌜ writtenAnswer w ≡ obsWriteAnswer first (obs .count) (length (now (buf .entry))) ⌝ }
-    ensures { λ _. ⌜ now (buf .exit) ≡ obsWritten first (senderOf sender) (headOf obs) (obs .count) entries (now (buf .entry)) ⌝ }
+    ensures { λ _. ⌜ now (buf .exit) ≡ obsWritten first writer (headOf obs) (obs .count) entries (now (buf .entry)) ⌝ }
 {
     let k = obs.count as usize;
     if MOST < k {
@@ -71,7 +71,7 @@ pub fn write_obs(buf: &mut [u8], sender: Sender, obs: Obs, entries: [Observation
     if let Written::Bytes(_) = answer {
         put_head(buf, obs);
         put_entries(buf, entries, k);
-        frame_writer::seal(buf, 0x0049, sender, n);
+        frame_writer::seal(buf, 0x0049, writer, n);
     }
     answer
 }

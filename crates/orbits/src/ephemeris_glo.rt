@@ -3,15 +3,15 @@ ghost use mathlib.Core.Path.{_≡_};
 ghost use lib.ListN.{length};
 ghost use Rattle.layouts.specs.Inner.{bodyStored};
 ghost use Rattle.layouts.specs.Description.{inside, readAs};
-ghost use Rattle.frame_writer.specs.Writer.{senderOf, writtenAnswer};
+ghost use Rattle.frame_writer.specs.Writer.{writtenAnswer};
 ghost use Rattle.frame_writer.specs.Faithful.{writeAnswer, writtenAs};
 ghost use Rattle.orbits.specs.EphemerisGlo.{ephemerisGlo, answerOf};
 use crate::motion;
 use crate::motion::Motion;
-use frame_writer::Sender;
 use frame_writer::Written;
 use parts::EphemerisCommon;
 use parts::common;
+use senders::Writer;
 use wire::Double;
 
 pub struct EphemerisGlo {
@@ -55,14 +55,14 @@ pub fn read_ephemeris_glo(s: &[u8]) -> EphemerisGloRead
     EphemerisGloRead::Record(take_ephemeris_glo(s))
 }
 
-pub fn write_ephemeris_glo(buf: &mut [u8], sender: Sender, r: EphemerisGlo) -> Written
+pub fn write_ephemeris_glo(buf: &mut [u8], writer: Writer, r: EphemerisGlo) -> Written
     ensures { λ w. ⌜ writtenAnswer w ≡ writeAnswer ephemerisGlo r (length (now (buf .entry))) ⌝ }
-    ensures { λ _. ⌜ now (buf .exit) ≡ writtenAs ephemerisGlo (senderOf sender) r (now (buf .entry)) ⌝ }
+    ensures { λ _. ⌜ now (buf .exit) ≡ writtenAs ephemerisGlo writer r (now (buf .entry)) ⌝ }
 {
     let answer = frame_writer::plan(112, buf.len());
     if let Written::Bytes(_) = answer {
         put(buf, r);
-        frame_writer::seal(buf, 0x0083, sender, 112);
+        frame_writer::seal(buf, 0x0083, writer, 112);
     }
     answer
 }

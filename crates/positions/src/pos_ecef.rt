@@ -3,12 +3,12 @@ ghost use mathlib.Core.Path.{_≡_};
 ghost use lib.ListN.{length};
 ghost use Rattle.layouts.specs.Inner.{bodyStored};
 ghost use Rattle.layouts.specs.Description.{inside, readAs};
-ghost use Rattle.frame_writer.specs.Writer.{senderOf, writtenAnswer};
+ghost use Rattle.frame_writer.specs.Writer.{writtenAnswer};
 ghost use Rattle.frame_writer.specs.Faithful.{writeAnswer, writtenAs};
 ghost use Rattle.positions.specs.PosEcef.{posEcef, answerOf};
 use flags::fix_allowed;
-use frame_writer::Sender;
 use frame_writer::Written;
+use senders::Writer;
 use wire::Double;
 
 pub struct PosEcef {
@@ -65,15 +65,15 @@ pub fn read_pos_ecef(s: &[u8]) -> PosEcefRead
     PosEcefRead::Refused(23)
 }
 
-pub fn write_pos_ecef(buf: &mut [u8], sender: Sender, r: PosEcef) -> Written
+pub fn write_pos_ecef(buf: &mut [u8], writer: Writer, r: PosEcef) -> Written
     ensures { λ w. ⌜ writtenAnswer w ≡ writeAnswer posEcef r (length (now (buf .entry))) ⌝ }
-    ensures { λ _. ⌜ now (buf .exit) ≡ writtenAs posEcef (senderOf sender) r (now (buf .entry)) ⌝ }
+    ensures { λ _. ⌜ now (buf .exit) ≡ writtenAs posEcef writer r (now (buf .entry)) ⌝ }
 {
     if fix_allowed(r.flags, 2) {
         let answer = frame_writer::plan(32, buf.len());
         if let Written::Bytes(_) = answer {
             put(buf, r);
-            frame_writer::seal(buf, 0x0200, sender, 32);
+            frame_writer::seal(buf, 0x0200, writer, 32);
         }
         return answer;
     }

@@ -3,12 +3,12 @@ ghost use mathlib.Core.Path.{_≡_};
 ghost use lib.ListN.{length};
 ghost use Rattle.layouts.specs.Inner.{bodyStored};
 ghost use Rattle.layouts.specs.Description.{inside, readAs};
-ghost use Rattle.frame_writer.specs.Writer.{senderOf, writtenAnswer};
+ghost use Rattle.frame_writer.specs.Writer.{writtenAnswer};
 ghost use Rattle.frame_writer.specs.Faithful.{writeAnswer, writtenAs};
 ghost use Rattle.positions.specs.PosLlh.{posLlh, answerOf};
 use flags::fix_allowed;
-use frame_writer::Sender;
 use frame_writer::Written;
+use senders::Writer;
 use wire::Double;
 
 pub struct PosLlh {
@@ -68,15 +68,15 @@ pub fn read_pos_llh(s: &[u8]) -> PosLlhRead
     PosLlhRead::Refused(23)
 }
 
-pub fn write_pos_llh(buf: &mut [u8], sender: Sender, r: PosLlh) -> Written
+pub fn write_pos_llh(buf: &mut [u8], writer: Writer, r: PosLlh) -> Written
     ensures { λ w. ⌜ writtenAnswer w ≡ writeAnswer posLlh r (length (now (buf .entry))) ⌝ }
-    ensures { λ _. ⌜ now (buf .exit) ≡ writtenAs posLlh (senderOf sender) r (now (buf .entry)) ⌝ }
+    ensures { λ _. ⌜ now (buf .exit) ≡ writtenAs posLlh writer r (now (buf .entry)) ⌝ }
 {
     if fix_allowed(r.flags, 2) {
         let answer = frame_writer::plan(34, buf.len());
         if let Written::Bytes(_) = answer {
             put(buf, r);
-            frame_writer::seal(buf, 0x0201, sender, 34);
+            frame_writer::seal(buf, 0x0201, writer, 34);
         }
         return answer;
     }

@@ -10,7 +10,6 @@ mod writing;
 
 use crate::payload::front;
 use crate::payload::mixed;
-use frame_writer::Sender;
 use frame_writer::Written;
 
 fn main() {
@@ -104,7 +103,7 @@ fn again(kind: u16, payload: &[u8]) {
     let mut own = [0xeeu8; 264];
     let mut raw = [0xeeu8; 264];
     let answer = writing::write(&mut own, kind, payload);
-    frame_writer::write_frame(&mut raw, kind, Sender::Named(0x0201), payload);
+    frame_writer::write_frame(&mut raw, kind, senders::writer_from(0x0201), payload);
     written(&own, answer);
     if check::same(&own, &raw) {
         print::word(b" same");

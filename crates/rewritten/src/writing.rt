@@ -1,6 +1,5 @@
 // A payload read as its record, which is written by its message's own writer.
 use crate::walking;
-use frame_writer::Sender;
 use frame_writer::Written;
 use logs::Log;
 use observation::Obs;
@@ -16,7 +15,7 @@ pub fn write(buf: &mut [u8], kind: u16, payload: &[u8]) -> Written {
 
 // The observations of an OBS and the text of a LOG stay in the payload.
 fn by_own(buf: &mut [u8], m: Message, payload: &[u8]) -> Written {
-    let by = Sender::Named(0x0201);
+    let by = senders::writer_from(0x0201);
     match m {
         Message::GpsTime(r) => time_and_dops::write_gps_time(buf, by, r),
         Message::Dops(r) => time_and_dops::write_dops(buf, by, r),
@@ -46,13 +45,18 @@ fn by_own(buf: &mut [u8], m: Message, payload: &[u8]) -> Written {
 }
 
 fn with_observations(buf: &mut [u8], r: Obs, payload: &[u8]) -> Written {
-    obs_writer::write_obs(buf, Sender::Named(0x0201), r, walking::entries(payload))
+    obs_writer::write_obs(
+        buf,
+        senders::writer_from(0x0201),
+        r,
+        walking::entries(payload),
+    )
 }
 
 fn with_text(buf: &mut [u8], r: Log, payload: &[u8]) -> Written {
     logs::write_log(
         buf,
-        Sender::Named(0x0201),
+        senders::writer_from(0x0201),
         r.level,
         logs::log_text(payload),
         r.padding,

@@ -8,6 +8,7 @@ use lib.ListN.{length}
 use borrow.Author.Tests.{eq-eqb, ne-eqb, le-leb, lt-leb, leb-true}
 use Rattle.refusals.specs.Refusals.{zeroOr}
 use Rattle.formats.specs.Wide.{fitsRow, fitsRows}
+use Rattle.senders.specs.declared.Writer.{Writer}
 use Rattle.frame_writer.specs.Writer.{writingFrame, planned, withFrame, sizeLeft}
 use Rattle.observation.specs.Edition.{startOf, head, observation, first, isObs}
 use Rattle.payloads.specs.Inner.{numberBy}
@@ -76,21 +77,21 @@ module _ (kind : ℕ) (hs ns : List ℕ) where
 
 -- ---- what a call leaves
 
-module _ (kind sender : ℕ) (hs ns buf : List ℕ) (size : ℕ) where
+module _ (kind : ℕ) (by : Writer) (hs ns buf : List ℕ) (size : ℕ) where
   abbrev pub Wrote : ℕ → List ℕ → ℕ → Type 0
   Wrote r u s =
-      (r ≡ zeroOr (writeObsRow kind hs ns (length buf))) × ((u ≡ obsRowWritten kind sender hs ns buf) × (s ≡ sizeLeft (writeObsRow kind hs ns (length buf)) size))
+      (r ≡ zeroOr (writeObsRow kind hs ns (length buf))) × ((u ≡ obsRowWritten kind by hs ns buf) × (s ≡ sizeLeft (writeObsRow kind hs ns (length buf)) size))
 
   pub wrote-refused : {n : ℕ} → n ≡ numberBy (testingObsRow kind hs ns) → (n ≡ 0 → ⊥) → Wrote n buf size
   unfolding writeObsRow obsRowWritten
   wrote-refused p h =
       let n = startOf first (k kind hs ns) in
-      left-alone kind sender buf size (payloadOf hs ns) (writeObsRow kind hs ns (length buf)) (stands (testingObsRow kind hs ns) (writingFrame n (length buf)) (n + 8) p h)
+      left-alone kind by buf size (payloadOf hs ns) (writeObsRow kind hs ns (length buf)) (stands (testingObsRow kind hs ns) (writingFrame n (length buf)) (n + 8) p h)
 
   pub wrote-sent : Fitting kind hs ns → {q : List ℕ} {r s : ℕ} {u : List ℕ} → q ≡ payloadOf hs ns
-      → (r ≡ zeroOr (planned (length q) (length buf))) × ((u ≡ withFrame kind sender q buf) × (s ≡ sizeLeft (planned (length q) (length buf)) size)) → Wrote r u s
+      → (r ≡ zeroOr (planned (length q) (length buf))) × ((u ≡ withFrame kind by q buf) × (s ≡ sizeLeft (planned (length q) (length buf)) size)) → Wrote r u s
   unfolding withFrame obsRowWritten
   wrote-sent f e w =
       let p = payloadOf hs ns in
-      left-as kind sender buf size p (planned (length p) (length buf)) (writeObsRow kind hs ns (length buf)) (left-of kind sender buf size p (λ q. planned (length q) (length buf)) e w)
+      left-as kind by buf size p (planned (length p) (length buf)) (writeObsRow kind hs ns (length buf)) (left-of kind by buf size p (λ q. planned (length q) (length buf)) e w)
       (ap (λ (n : ℕ). planned n (length buf)) (payload-long hs ns) ∙ sym (f .on (length buf)))

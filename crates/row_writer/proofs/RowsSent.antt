@@ -17,6 +17,7 @@ use Rattle.formats.specs.Digits.{runStored, frontOf}
 use Rattle.formats.specs.Inner.{formatsIn}
 use Rattle.formats.specs.declared.Shape.{Shape}
 use Rattle.formats.proofs.Narrow.{Words, held-narrow, stored-narrow}
+use Rattle.senders.specs.declared.Writer.{Writer}
 use Rattle.frame_writer.specs.Writer.{writingFrame, sizeLeft}
 use Rattle.payloads.specs.Inner.{numberBy}
 use Rattle.payloads.specs.Payloads.{table, entryFor, layoutFor, knownFor, shapeFor, answerFor}
@@ -138,10 +139,10 @@ module _ (kind : ℕ) (ns : List ℕ) (words : Words ns) (f : Fitting kind ns) w
 
 -- ---- what a call leaves
 
-module _ (kind sender : ℕ) (ns buf : List ℕ) (size : ℕ) where
+module _ (kind : ℕ) (by : Writer) (ns buf : List ℕ) (size : ℕ) where
   abbrev pub Wrote : ℕ → List ℕ → ℕ → Type 0
   Wrote r u s =
-      (r ≡ zeroOr (writeRow kind ns (length buf))) × ((u ≡ rowWritten kind sender ns buf) × (s ≡ sizeLeft (writeRow kind ns (length buf)) size))
+      (r ≡ zeroOr (writeRow kind ns (length buf))) × ((u ≡ rowWritten kind by ns buf) × (s ≡ sizeLeft (writeRow kind ns (length buf)) size))
 
   abbrev payload : List ℕ
   payload = encodeBody (layoutFor kind) (bodyOf (layoutFor kind) ns)
@@ -150,9 +151,9 @@ module _ (kind sender : ℕ) (ns buf : List ℕ) (size : ℕ) where
   unfolding rowWritten
   wrote-refused p h =
       let e = in-parts kind ns (length buf) ∙ stands (testingRow kind ns) (after kind ns (length buf)) (bodySize (layoutFor kind) (bodyOf (layoutFor kind) ns) + 8) p h in
-      left-alone kind sender buf size payload (writeRow kind ns (length buf)) e
+      left-alone kind by buf size payload (writeRow kind ns (length buf)) e
 
-  pub wrote-sent : Words ns → Fitting kind ns → {q : List ℕ} {r s : ℕ} {u : List ℕ} → q ≡ payload → LeftBy kind sender buf size q (sent kind q (length buf)) r u s → Wrote r u s
+  pub wrote-sent : Words ns → Fitting kind ns → {q : List ℕ} {r s : ℕ} {u : List ℕ} → q ≡ payload → LeftBy kind by buf size q (sent kind q (length buf)) r u s → Wrote r u s
   unfolding rowWritten
   wrote-sent words f e w =
-      left-as kind sender buf size payload (sent kind payload (length buf)) (writeRow kind ns (length buf)) (left-of kind sender buf size payload (λ q. sent kind q (length buf)) e w) (sym (as-sent kind ns words f (length buf)))
+      left-as kind by buf size payload (sent kind payload (length buf)) (writeRow kind ns (length buf)) (left-of kind by buf size payload (λ q. sent kind q (length buf)) e w) (sym (as-sent kind ns words f (length buf)))

@@ -12,8 +12,8 @@ use Rattle.layouts.specs.Description.{Description}
 use Rattle.refusals.specs.Refusals.{given, Answer, Tests, ordered, leaves, reply}
 use Rattle.refusals.proofs.Ordered.{exactly-all}
 use Rattle.formats.specs.Wide.{narrowRows, numberCount}
-use Rattle.frames.specs.Frame.{frameBytes}
-use Rattle.frame_writer.specs.Writer.{writingFrame, startingWith}
+use Rattle.senders.specs.declared.Writer.{Writer}
+use Rattle.frame_writer.specs.Writer.{writingFrame, startingWith, framedBy}
 use Rattle.frame_writer.specs.Faithful.{writeAnswer, writtenAs}
 use Rattle.observation.specs.Edition.{obs, startOf, observation, first}
 use Rattle.obs_writer.specs.ObsWriter.{writingObs, obsWriteAnswer}
@@ -54,7 +54,7 @@ opened x rest y p q r = rw (p, q, r)
 
 pub typed : (m : Described) → Found m → WritesTyped m
 unfolding writeRow rowWritten writtenAs
-typed m h sender ns buf only counted fits =
+typed m h by ns buf only counted fits =
     let d = m .description in
     let l = d .layout in
     let v = bodyOf l ns in
@@ -64,13 +64,13 @@ typed m h sender ns buf only counted fits =
     ∙ opened (allowedBody l v) (writingFrame (bodySize l v) room) (bodySize l v + 8) only (eq-eqb (length ns) (numberCount l) counted) fits
     ∙ as-described d ns only room in (
       answer,
-      ap (λ (e : Entry). leaves (startingWith (frameBytes (d .kind) sender (encodeBody (e .layout) (bodyOf (e .layout) ns)))) (writeRow (d .kind) ns room) buf) (h .0)
-          ∙ ap₂ (λ (w : Body l) (a : Answer ℕ). leaves (startingWith (frameBytes (d .kind) sender (encodeBody l w))) a buf) (sym (d .row-make v)) answer,
+      ap (λ (e : Entry). leaves (startingWith (framedBy (d .kind) by (encodeBody (e .layout) (bodyOf (e .layout) ns)))) (writeRow (d .kind) ns room) buf) (h .0)
+          ∙ ap₂ (λ (w : Body l) (a : Answer ℕ). leaves (startingWith (framedBy (d .kind) by (encodeBody l w))) a buf) (sym (d .row-make v)) answer,
     )
 
 -- ---- OBS
 
-module _ (sender : ℕ) (hs ns buf : List ℕ) {n : ℕ} (g : writeObsRow (first .kind) hs ns (length buf) ≡ given n) where
+module _ (by : Writer) (hs ns buf : List ℕ) {n : ℕ} (g : writeObsRow (first .kind) hs ns (length buf) ≡ given n) where
   abbrev k : ℕ
   k = rowsIn (length ns)
 
@@ -93,16 +93,16 @@ module _ (sender : ℕ) (hs ns buf : List ℕ) {n : ℕ} (g : writeObsRow (first
       let h = observedOf hs ns .header in
       let all : take k os ≡ os = take-all k os (omega (arith, many)) in
       ap (λ (o : List Observation). writeAnswer (obs first) (record { header = h; observations = o }) (length buf)) (sym all)
-      ∙ sym (same-answer first sender h k os buf (omega (arith, many)) (λ v. refl) (λ v. refl) (length buf))
+      ∙ sym (same-answer first by h k os buf (omega (arith, many)) (λ v. refl) (λ v. refl) (length buf))
       ∙ as-obs
 
-  obs-left : obsRowWritten (first .kind) sender hs ns buf ≡ writtenAs (obs first) sender (observedOf hs ns) buf
+  obs-left : obsRowWritten (first .kind) by hs ns buf ≡ writtenAs (obs first) by (observedOf hs ns) buf
   unfolding obsRowWritten writtenAs
   obs-left =
-      ap (λ (a : Answer ℕ). leaves (startingWith (frameBytes (first .kind) sender (encodeBody (obs first .layout) (obs first .row (observedOf hs ns))))) a buf) (g ∙ sym obs-answer)
+      ap (λ (a : Answer ℕ). leaves (startingWith (framedBy (first .kind) by (encodeBody (obs first .layout) (obs first .row (observedOf hs ns))))) a buf) (g ∙ sym obs-answer)
 
 pub as-typed : AllWritten
 as-typed = record {
   each = all-of {P = Found} {Q = WritesTyped} typed messages found;
-  obs-written = λ sender hs ns buf g. (obs-answer sender hs ns buf g, obs-left sender hs ns buf g);
+  obs-written = λ by hs ns buf g. (obs-answer by hs ns buf g, obs-left by hs ns buf g);
 }

@@ -8,8 +8,8 @@ use Rattle.refusals.specs.Refusals.{Answer, leaves, Call, reply}
 use Rattle.layouts.specs.Description.{madeOf}
 use Rattle.layouts.specs.Layout.{encodeBody}
 use Rattle.formats.specs.Wide.{narrowRow, fitsRow, narrowRows, fitsRows}
-use Rattle.frames.specs.Frame.{frameBytes}
-use Rattle.frame_writer.specs.Writer.{startingWith}
+use Rattle.senders.specs.declared.Writer.{Writer}
+use Rattle.frame_writer.specs.Writer.{startingWith, framedBy}
 use Rattle.observation.specs.Edition.{Observed, obs, startOf, Head, head, observation, first, isObs}
 use Rattle.obs_writer.specs.ObsWriter.{writingObs}
 use Rattle.observation.specs.declared.entry.Observation.{Observation}
@@ -42,6 +42,6 @@ unfoldable pub writeObsRow : ℕ → List ℕ → List ℕ → ℕ → Answer �
 writeObsRow kind hs ns room = reply (writingObsRow kind hs ns room)
 
 -- the buffer after it
-unfoldable pub obsRowWritten : ℕ → ℕ → List ℕ → List ℕ → List ℕ → List ℕ
-obsRowWritten kind sender hs ns buf =
-    leaves (startingWith (frameBytes kind sender (encodeBody (obs first .layout) (obs first .row (observedOf hs ns))))) (writeObsRow kind hs ns (length buf)) buf
+unfoldable pub obsRowWritten : ℕ → Writer → List ℕ → List ℕ → List ℕ → List ℕ
+obsRowWritten kind w hs ns buf =
+    leaves (startingWith (framedBy kind w (encodeBody (obs first .layout) (obs first .row (observedOf hs ns))))) (writeObsRow kind hs ns (length buf)) buf

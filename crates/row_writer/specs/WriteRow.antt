@@ -8,8 +8,8 @@ use Rattle.refusals.specs.Refusals.{Answer, leaves, Call, reply}
 use Rattle.layouts.specs.Layout.{Layout, run, then, bytes, text, rows, Body, allowedBody, bodySize, encodeBody}
 use Rattle.formats.specs.Wide.{narrowRow, fitsRow, numberCount}
 use Rattle.formats.specs.Digits.{frontOf}
-use Rattle.frames.specs.Frame.{frameBytes}
-use Rattle.frame_writer.specs.Writer.{writingFrame, startingWith}
+use Rattle.senders.specs.declared.Writer.{Writer}
+use Rattle.frame_writer.specs.Writer.{writingFrame, startingWith, framedBy}
 use Rattle.payloads.specs.Payloads.{Entry, table, entryFor, layoutFor}
 
 -- fields and nothing after them
@@ -49,6 +49,6 @@ unfoldable pub writeRow : ℕ → List ℕ → ℕ → Answer ℕ
 writeRow kind ns room = reply (writingRow kind ns room)
 
 -- the buffer after it: the frame and the bytes after it as they were, or all as it was
-unfoldable pub rowWritten : ℕ → ℕ → List ℕ → List ℕ → List ℕ
-rowWritten kind sender ns buf =
-    leaves (startingWith (frameBytes kind sender (encodeBody (layoutFor kind) (bodyOf (layoutFor kind) ns)))) (writeRow kind ns (length buf)) buf
+unfoldable pub rowWritten : ℕ → Writer → List ℕ → List ℕ → List ℕ
+rowWritten kind w ns buf =
+    leaves (startingWith (framedBy kind w (encodeBody (layoutFor kind) (bodyOf (layoutFor kind) ns)))) (writeRow kind ns (length buf)) buf

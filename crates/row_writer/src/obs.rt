@@ -6,13 +6,13 @@ ghost use lib.ListN.{length};
 ghost use Rattle.refusals.specs.Refusals.{zeroOr};
 ghost use Rattle.layouts.specs.Inner.{rowsStored};
 ghost use Rattle.formats.specs.Wide.{narrowRows, fitsRows};
-ghost use Rattle.frame_writer.specs.Writer.{senderOf, sizeLeft};
+ghost use Rattle.frame_writer.specs.Writer.{sizeLeft};
 ghost use Rattle.observation.specs.Edition.{observation};
 ghost use Rattle.payloads.specs.Inner.{numberBy};
 ghost use Rattle.row_writer.specs.WriteObsRow.{writeObsRow, obsRowWritten};
 ghost use Rattle.row_writer.specs.Inner.{testingObsRow};
 use crate::send::send_frame;
-use frame_writer::Sender;
+use senders::Writer;
 
 // The first edition's fields as digits (formats/specs/Digits.antt), how many they are, and how many bytes they take.
 const HEAD: u64 = 0x124;
@@ -91,13 +91,13 @@ fn pack_rows(bytes: &mut [u8], rows: &[u64], k: usize)
 pub fn write_obs_row(
     out: &mut [u8],
     kind: u16,
-    sender: Sender,
+    writer: Writer,
     head: &[u64],
     rows: &[u64],
     size: &mut u64,
 ) -> u8
     ensures { λ r. ⌜ r ≡ zeroOr (writeObsRow kind (now (head .entry)) (now (rows .entry)) (length (now (out .entry)))) ⌝ }
-    ensures { λ _. ⌜ now (out .exit) ≡ obsRowWritten kind (senderOf sender) (now (head .entry)) (now (rows .entry)) (now (out .entry)) ⌝ }
+    ensures { λ _. ⌜ now (out .exit) ≡ obsRowWritten kind writer (now (head .entry)) (now (rows .entry)) (now (out .entry)) ⌝ }
     ensures { λ _. ⌜ now (size .exit) ≡ sizeLeft (writeObsRow kind (now (head .entry)) (now (rows .entry)) (length (now (out .entry)))) (now (size .entry)) ⌝ }
 {
     let number = refusal(kind, head, rows);
@@ -109,5 +109,5 @@ pub fn write_obs_row(
     let mut bytes = [0u8; 255];
     formats::store_run(&mut bytes, head, HEAD);
     pack_rows(&mut bytes, rows, k);
-    send_frame(out, kind, sender, &bytes[..n], size)
+    send_frame(out, kind, writer, &bytes[..n], size)
 }

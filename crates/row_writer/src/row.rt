@@ -6,14 +6,14 @@ ghost use lib.ListN.{length};
 ghost use Rattle.refusals.specs.Refusals.{zeroOr};
 ghost use Rattle.formats.specs.Digits.{formatsBy, sizeOf, runFits, runStored};
 ghost use Rattle.formats.specs.Inner.{formatsIn};
-ghost use Rattle.frame_writer.specs.Writer.{senderOf, sizeLeft};
+ghost use Rattle.frame_writer.specs.Writer.{sizeLeft};
 ghost use Rattle.payloads.specs.Inner.{numberBy};
 ghost use Rattle.payloads.specs.Payloads.{layoutFor, knownFor};
 ghost use Rattle.row_writer.specs.WriteRow.{alone, writeRow, rowWritten};
 ghost use Rattle.row_writer.specs.Inner.{testingRow};
 use crate::send::send;
 use formats::Shape;
-use frame_writer::Sender;
+use senders::Writer;
 
 // Whether a type has a reading, and nothing after its fields.
 fn is_alone(kind: u16) -> bool
@@ -68,9 +68,9 @@ fn pack(bytes: &mut [u8], row: &[u64], shape: Shape)
 }
 
 // 21, 22, 23, 31, 32, or 0 with the frame's size through size. The frame is written once nothing is left to refuse.
-pub fn write_row(out: &mut [u8], kind: u16, sender: Sender, row: &[u64], size: &mut u64) -> u8
+pub fn write_row(out: &mut [u8], kind: u16, writer: Writer, row: &[u64], size: &mut u64) -> u8
     ensures { λ r. ⌜ r ≡ zeroOr (writeRow kind (now (row .entry)) (length (now (out .entry)))) ⌝ }
-    ensures { λ _. ⌜ now (out .exit) ≡ rowWritten kind (senderOf sender) (now (row .entry)) (now (out .entry)) ⌝ }
+    ensures { λ _. ⌜ now (out .exit) ≡ rowWritten kind writer (now (row .entry)) (now (out .entry)) ⌝ }
     ensures { λ _. ⌜ now (size .exit) ≡ sizeLeft (writeRow kind (now (row .entry)) (length (now (out .entry)))) (now (size .entry)) ⌝ }
 {
     let number = refusal(kind, row);
@@ -81,5 +81,5 @@ pub fn write_row(out: &mut [u8], kind: u16, sender: Sender, row: &[u64], size: &
     let n = formats::size(shape.head) + formats::size(shape.more);
     let mut bytes = [0u8; 255];
     pack(&mut bytes, row, shape);
-    send(out, kind, sender, &bytes[..n], size)
+    send(out, kind, writer, &bytes[..n], size)
 }

@@ -60,12 +60,12 @@ module _ (m : Described) (own : Found m) where
       (counted, and-eq-true-iff (fitsRow (frontOf l) ns 0) (allowedBody l (bodyOf l ns)) .0 (all .1 .1 .0) .0)
 
   back : RowsBack m
-  back sender ns buf n only small words g room enough =
+  back by ns buf n only small words g room enough =
       let d = m .description in
       let l = d .layout in
       let r = d .make (bodyOf l ns) in
       let here = fit ns (length buf) g in
-      let own-writer = typed m own sender ns buf only (here .0) (here .1) in
+      let own-writer = typed m own by ns buf only (here .0) (here .1) in
       let kept = faithful d (own .1) (own .2) in
       let written : writeAnswer d r (length buf) ≡ given n = sym (own-writer .0) ∙ g in
       let within : withinAll (frontOf l) ≡ true = subst (λ (e : Entry). withinAll (frontOf (e .layout)) ≡ true) (own .0) (plain-for (d .kind) .0) in
@@ -73,12 +73,12 @@ module _ (m : Described) (own : Found m) where
       = subst⁻¹ (HeldBody l) (d .row-make (bodyOf l ns)) (fields-alone l ns only .held (held-narrow ns words (frontOf l) 0 within (here .1))) in
       let in-fields = settled-narrow ns words (frontOf l) 0 within (here .1) in
       let settled : SettledBody l (d .row r) = subst⁻¹ (SettledBody l) (d .row-make (bodyOf l ns)) (settled-alone ns words l only in-fields) in
-      let read = kept .same sender r buf small written held settled in
+      let read = kept .same by r buf small written held settled in
       let numbers : wideBody l (d .row r) ≡ ns = ap (wideBody l) (d .row-make (bodyOf l ns)) ∙ same-numbers ns words l only (here .0) in
-      let f = frameWritten d sender r in
-      let bytes = rowWritten (d .kind) sender ns buf in (
+      let f = frameWritten d by r in
+      let bytes = rowWritten (d .kind) by ns buf in (
         f,
-        ap (λ (t : List ℕ). stepAt t 0) (own-writer .1) ∙ kept .found sender r buf small written,
+        ap (λ (t : List ℕ). stepAt t 0) (own-writer .1) ∙ kept .found by r buf small written,
         refl,
         ap (λ (t : List ℕ). readRow (d .kind) (payloadIn t f) room) (own-writer .1)
             ∙ reads-typed m own _ room (omega (arith, here .0))

@@ -13,6 +13,8 @@ use Rattle.wire.specs.Number.{bytesOf}
 use Rattle.wire.proofs.Numbers.{number-byte}
 use Rattle.padded.specs.Padded.{noZero, allZero, zeros}
 use Rattle.layouts.specs.Layout.{allowedBody, fewEnough, bodySize, encodeBody}
+use Rattle.senders.specs.Senders.{carried, HeldWriter}
+use Rattle.senders.specs.declared.Writer.{Writer}
 use Rattle.frames.specs.Step.{stepAt, payloadIn}
 use Rattle.frames.specs.declared.step.Step.the-variants.{Found}
 use Rattle.frame_writer.specs.Writer.{withFrame}
@@ -35,7 +37,7 @@ taken level text padding room none few enough =
     log-faithful .written-by level text padding room
     ∙ rw (no-zero text none, le-leb size 255 (omega arith), le-leb (size + 8) room (omega arith)) (ap given all)
 
-module _ (sender level : ℕ) (text : List ℕ) (padding : ℕ) (buf : List ℕ) (n : ℕ) (small : sender < 65536) (byte : level < 256)
+module _ (by : Writer) (level : ℕ) (text : List ℕ) (padding : ℕ) (buf : List ℕ) (n : ℕ) (small : HeldWriter by) (byte : level < 256)
     (g : writeAnswer log (logged level text padding) (length buf) ≡ given n) where
   abbrev r : Logged
   r = logged level text padding
@@ -44,7 +46,7 @@ module _ (sender level : ℕ) (text : List ℕ) (padding : ℕ) (buf : List ℕ)
   s = level ∷ text ++ zeros padding
 
   abbrev bytes : List ℕ
-  bytes = writtenAs log sender r buf
+  bytes = writtenAs log by r buf
 
   encoded : encodeBody (log .layout) (log .row r) ≡ s
   unfolding bytesOf
@@ -78,19 +80,19 @@ module _ (sender level : ℕ) (text : List ℕ) (padding : ℕ) (buf : List ℕ)
   pub sized : n ≡ length s + 8
   sized = tested .sized
 
-  as-frame : bytes ≡ withFrame 0x0401 sender s buf
-  as-frame = as-framed log sender r buf (tested .clean) (tested .few) ∙ ap (λ (p : List ℕ). withFrame 0x0401 sender p buf) encoded
+  as-frame : bytes ≡ withFrame 0x0401 by s buf
+  as-frame = as-framed log by r buf (tested .clean) (tested .few) ∙ ap (λ (p : List ℕ). withFrame 0x0401 by p buf) encoded
 
-  pub found : stepAt bytes 0 ≡ Found (framed 0x0401 sender (length s))
-  found = ap (λ (t : List ℕ). stepAt t 0) as-frame ∙ framed-reads-back 0x0401 sender s buf (lit< tt) small (tested .short) (tested .room)
+  pub found : stepAt bytes 0 ≡ Found (framed 0x0401 (carried 0x0401 by) (length s))
+  found = ap (λ (t : List ℕ). stepAt t 0) as-frame ∙ framed-reads-back 0x0401 by s buf (lit< tt) small (tested .short) (tested .room)
 
-  pub payload : payloadIn bytes (framed 0x0401 sender (length s)) ≡ s
+  pub payload : payloadIn bytes (framed 0x0401 (carried 0x0401 by) (length s)) ≡ s
   payload =
-      ap (λ (t : List ℕ). payloadIn t (framed 0x0401 sender (length s))) as-frame
-      ∙ framed-payload-back 0x0401 sender s buf (lit< tt) small (tested .short) (tested .room)
+      ap (λ (t : List ℕ). payloadIn t (framed 0x0401 (carried 0x0401 by) (length s))) as-frame
+      ∙ framed-payload-back 0x0401 by s buf (lit< tt) small (tested .short) (tested .room)
 
   pub row-back : (room : ℕ) → 3 ≤ room
-      → readRow 0x0401 (payloadIn bytes (framed 0x0401 sender (length s))) room ≡ given (level ∷ length text ∷ padding ∷ [])
+      → readRow 0x0401 (payloadIn bytes (framed 0x0401 (carried 0x0401 by) (length s))) room ≡ given (level ∷ length text ∷ padding ∷ [])
   row-back room enough =
       let clean = and-eq-true-iff (noZero text) (allZero (zeros padding)) .0 (tested .clean) .0 in
       ap (λ (p : List ℕ). readRow 0x0401 p room) payload

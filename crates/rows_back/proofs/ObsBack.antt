@@ -14,6 +14,8 @@ use Rattle.layouts.specs.Layout.{Layout, HeldRows, HeldBody, bodySize}
 use Rattle.layouts.specs.Description.{readAs}
 use Rattle.formats.specs.Wide.{wideRow, wideBody, narrowRow, fitsRow, narrowRows, fitsRows}
 use Rattle.formats.proofs.Narrow.{held-narrow, wide-narrow}
+use Rattle.senders.specs.Senders.{carried, HeldWriter}
+use Rattle.senders.specs.declared.Writer.{Writer}
 use Rattle.frames.specs.Step.{stepAt, payloadIn}
 use Rattle.frames.specs.declared.step.Step.the-variants.{Found}
 use Rattle.observation.specs.Edition.{Observed, obs, startOf, Head, head, observation, first}
@@ -42,7 +44,7 @@ held-rows ns words (suc k) i fits =
     let p = and-eq-true-iff _ _ .0 fits in
     (held-narrow ns words fs i refl (p .0), held-rows ns words k (i + 8) (p .1))
 
-module _ (sender : ℕ) (hs ns buf : List ℕ) (n : ℕ) (small : sender < 65536) (head-words : Words hs) (words : Words ns)
+module _ (by : Writer) (hs ns buf : List ℕ) (n : ℕ) (small : HeldWriter by) (head-words : Words hs) (words : Words ns)
     (g : writeObsRow 0x0049 hs ns (length buf) ≡ given n) where
   abbrev k : ℕ
   k = rowsIn (length ns)
@@ -84,14 +86,14 @@ module _ (sender : ℕ) (hs ns buf : List ℕ) (n : ℕ) (small : sender < 65536
   long = omega (arith, rows-counted first (r .observations), many)
 
   abbrev bytes : List ℕ
-  bytes = obsRowWritten 0x0049 sender hs ns buf
+  bytes = obsRowWritten 0x0049 by hs ns buf
 
-  pub found : stepAt bytes 0 ≡ Found (framed 0x0049 sender (16 * k + 7))
+  pub found : stepAt bytes 0 ≡ Found (framed 0x0049 (carried 0x0049 by) (16 * k + 7))
   found =
-      let w = as-typed .obs-written sender hs ns buf g in
+      let w = as-typed .obs-written by hs ns buf g in
       ap (λ (t : List ℕ). stepAt t 0) (w .1)
-      ∙ obs-faithful .message .found sender r buf small (w .0)
-      ∙ ap (λ (m : ℕ). Found (framed 0x0049 sender m)) long
+      ∙ obs-faithful .message .found by r buf small (w .0)
+      ∙ ap (λ (m : ℕ). Found (framed 0x0049 (carried 0x0049 by) m)) long
 
   -- ---- the record
 
@@ -101,13 +103,13 @@ module _ (sender : ℕ) (hs ns buf : List ℕ) (n : ℕ) (small : sender < 65536
       (held-narrow hs head-words (head .fields) 0 refl (tested .head-fits), held-rows ns words k 0 (tested .rows-fit))
 
   abbrev payload : List ℕ
-  payload = payloadIn bytes (framed 0x0049 sender (16 * k + 7))
+  payload = payloadIn bytes (framed 0x0049 (carried 0x0049 by) (16 * k + 7))
 
   whole : readAs (obs first) payload ≡ given r
   whole =
-      let w = as-typed .obs-written sender hs ns buf g in
-      ap₂ (λ (t : List ℕ) (m : ℕ). readAs (obs first) (payloadIn t (framed 0x0049 sender m))) (w .1) (sym long)
-      ∙ obs-faithful .message .same sender r buf small (w .0) held (settled r held)
+      let w = as-typed .obs-written by hs ns buf g in
+      ap₂ (λ (t : List ℕ) (m : ℕ). readAs (obs first) (payloadIn t (framed 0x0049 (carried 0x0049 by) m))) (w .1) (sym long)
+      ∙ obs-faithful .message .same by r buf small (w .0) held (settled r held)
 
   -- ---- its numbers
 

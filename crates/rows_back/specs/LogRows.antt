@@ -6,6 +6,8 @@ use mathlib.Core.Logic.{_⊎_}
 use lib.ListN.{length, getD, drop, replicate}
 use Rattle.refusals.specs.Refusals.{refused, given}
 use Rattle.wire.specs.Number.{numberAt}
+use Rattle.senders.specs.Senders.{carried, HeldWriter}
+use Rattle.senders.specs.declared.Writer.{Writer}
 use Rattle.frames.specs.Step.{stepAt, payloadIn}
 use Rattle.frames.specs.declared.step.Step.the-variants.{Found}
 use Rattle.frame_writer.specs.Faithful.{writeAnswer, writtenAs}
@@ -38,11 +40,11 @@ pub record LogRows : Type 0 where
   pub taken : (level : ℕ) (text : List ℕ) (padding room : ℕ) → NoZero text → length text + padding ≤ 254 → length text + padding + 9 ≤ room
       → writeAnswer log (logged level text padding) room ≡ given (length text + padding + 9)
   -- what was written: the frame is found, with that payload, which gives it back
-  pub back : (sender level : ℕ) (text : List ℕ) (padding : ℕ) (buf : List ℕ) (n : ℕ) → sender < 65536 → level < 256
+  pub back : (w : Writer) (level : ℕ) (text : List ℕ) (padding : ℕ) (buf : List ℕ) (n : ℕ) → HeldWriter w → level < 256
       → writeAnswer log (logged level text padding) (length buf) ≡ given n
       → let s = level ∷ text ++ replicate padding 0 in
-      let t = writtenAs log sender (logged level text padding) buf in
-      let f = framed 0x0401 sender (length s) in
+      let t = writtenAs log w (logged level text padding) buf in
+      let f = framed 0x0401 (carried 0x0401 w) (length s) in
       (n ≡ length s + 8)
       × (stepAt t 0 ≡ Found f)
       × (payloadIn t f ≡ s)

@@ -8,6 +8,8 @@ use lib.Dec.{ltb}
 use lib.ListN.{length, getD, take, drop}
 use Rattle.refusals.specs.Refusals.{refused, given}
 use Rattle.wire.specs.Number.{Bytes, numberAt}
+use Rattle.senders.specs.Senders.{carried, HeldWriter}
+use Rattle.senders.specs.declared.Writer.{Writer}
 use Rattle.frames.specs.Step.{stepAt, payloadIn}
 use Rattle.frames.specs.declared.step.Step.the-variants.{Found}
 use Rattle.row_reader.specs.ReadRow.{readRow, readOne}
@@ -69,10 +71,10 @@ pub record ObsRows : Type 0 where
   pub taken : (hs ns : List ℕ) (k room : ℕ) → length hs ≡ 3 → InHead hs → length ns ≡ 8 * k → ((i : ℕ) → i < k → InEight (drop (8 * i) ns)) → k ≤ 15
       → 16 * k + 15 ≤ room → writeObsRow 0x0049 hs ns room ≡ given (16 * k + 15)
   -- what was written: the frame is found, and its payload gives the numbers back
-  pub back : (sender : ℕ) (hs ns buf : List ℕ) (n : ℕ) → sender < 65536 → Words hs → Words ns → writeObsRow 0x0049 hs ns (length buf) ≡ given n
+  pub back : (w : Writer) (hs ns buf : List ℕ) (n : ℕ) → HeldWriter w → Words hs → Words ns → writeObsRow 0x0049 hs ns (length buf) ≡ given n
       → let k = length ns / 8 in
-      let t = obsRowWritten 0x0049 sender hs ns buf in
-      let f = framed 0x0049 sender (16 * k + 7) in
+      let t = obsRowWritten 0x0049 w hs ns buf in
+      let f = framed 0x0049 (carried 0x0049 w) (16 * k + 7) in
       let s = payloadIn t f in
       (n ≡ 16 * k + 15)
       × (stepAt t 0 ≡ Found f)

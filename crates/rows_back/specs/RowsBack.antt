@@ -5,6 +5,8 @@ use mathlib.Core.Bool.{true}
 use mathlib.Core.List.{List}
 use lib.ListN.{length, getD}
 use Rattle.refusals.specs.Refusals.{given}
+use Rattle.senders.specs.Senders.{carried, HeldWriter}
+use Rattle.senders.specs.declared.Writer.{Writer}
 use Rattle.frames.specs.Step.{stepAt, payloadIn}
 use Rattle.frames.specs.declared.step.Frame.{Frame}
 use Rattle.frames.specs.declared.step.Step.the-variants.{Found}
@@ -24,10 +26,10 @@ framed kind sender n = record { at = 0; kind = kind; sender = sender; length = n
 abbrev pub RowsBack : Described → Type 0
 RowsBack m =
     let d = m .description in
-    (sender : ℕ) (ns buf : List ℕ) (n : ℕ) → alone (d .layout) ≡ true → sender < 65536 → Words ns → writeRow (d .kind) ns (length buf) ≡ given n
+    (w : Writer) (ns buf : List ℕ) (n : ℕ) → alone (d .layout) ≡ true → HeldWriter w → Words ns → writeRow (d .kind) ns (length buf) ≡ given n
     → (room : ℕ) → length ns ≤ room
-    → (f : Frame) × (stepAt (rowWritten (d .kind) sender ns buf) 0 ≡ Found f) × (f .sender ≡ sender)
-    × (readRow (f .kind) (payloadIn (rowWritten (d .kind) sender ns buf) f) room ≡ given ns)
+    → (f : Frame) × (stepAt (rowWritten (d .kind) w ns buf) 0 ≡ Found f) × (f .sender ≡ carried (d .kind) w)
+    × (readRow (f .kind) (payloadIn (rowWritten (d .kind) w ns buf) f) room ≡ given ns)
 
 abbrev pub AllBack : Type 0
 AllBack = AllOf RowsBack messages

@@ -3,11 +3,11 @@ ghost use Prim.Native.Nat.{ℕ};
 ghost use mathlib.Core.Path.{_≡_};
 ghost use lib.ListN.{length};
 ghost use Rattle.layouts.specs.Description.{readAs};
-ghost use Rattle.frame_writer.specs.Writer.{senderOf, writtenAnswer};
+ghost use Rattle.frame_writer.specs.Writer.{writtenAnswer};
 ghost use Rattle.frame_writer.specs.Faithful.{writeAnswer, writtenAs};
 ghost use Rattle.system.specs.Empty.{empty, settingsSave, readByIndexDone, emptyAnswer};
-use frame_writer::Sender;
 use frame_writer::Written;
+use senders::Writer;
 
 pub enum EmptyRead {
     Empty,
@@ -23,13 +23,13 @@ fn read_empty(s: &[u8]) -> EmptyRead
     EmptyRead::Empty
 }
 
-fn write_empty(buf: &mut [u8], kind: u16, sender: Sender) -> Written
+fn write_empty(buf: &mut [u8], kind: u16, writer: Writer) -> Written
     ensures { λ w. ⌜ writtenAnswer w ≡ writeAnswer (empty kind) tt (length (now (buf .entry))) ⌝ }
-    ensures { λ _. ⌜ now (buf .exit) ≡ writtenAs (empty kind) (senderOf sender) tt (now (buf .entry)) ⌝ }
+    ensures { λ _. ⌜ now (buf .exit) ≡ writtenAs (empty kind) writer tt (now (buf .entry)) ⌝ }
 {
     let answer = frame_writer::plan(0, buf.len());
     if let Written::Bytes(_) = answer {
-        frame_writer::seal(buf, kind, sender, 0);
+        frame_writer::seal(buf, kind, writer, 0);
     }
     answer
 }
@@ -40,11 +40,11 @@ pub fn read_settings_save(s: &[u8]) -> EmptyRead
     read_empty(s)
 }
 
-pub fn write_settings_save(buf: &mut [u8], sender: Sender) -> Written
+pub fn write_settings_save(buf: &mut [u8], writer: Writer) -> Written
     ensures { λ w. ⌜ writtenAnswer w ≡ writeAnswer settingsSave tt (length (now (buf .entry))) ⌝ }
-    ensures { λ _. ⌜ now (buf .exit) ≡ writtenAs settingsSave (senderOf sender) tt (now (buf .entry)) ⌝ }
+    ensures { λ _. ⌜ now (buf .exit) ≡ writtenAs settingsSave writer tt (now (buf .entry)) ⌝ }
 {
-    write_empty(buf, 0x00a1, sender)
+    write_empty(buf, 0x00a1, writer)
 }
 
 pub fn read_read_by_index_done(s: &[u8]) -> EmptyRead
@@ -53,9 +53,9 @@ pub fn read_read_by_index_done(s: &[u8]) -> EmptyRead
     read_empty(s)
 }
 
-pub fn write_read_by_index_done(buf: &mut [u8], sender: Sender) -> Written
+pub fn write_read_by_index_done(buf: &mut [u8], writer: Writer) -> Written
     ensures { λ w. ⌜ writtenAnswer w ≡ writeAnswer readByIndexDone tt (length (now (buf .entry))) ⌝ }
-    ensures { λ _. ⌜ now (buf .exit) ≡ writtenAs readByIndexDone (senderOf sender) tt (now (buf .entry)) ⌝ }
+    ensures { λ _. ⌜ now (buf .exit) ≡ writtenAs readByIndexDone writer tt (now (buf .entry)) ⌝ }
 {
-    write_empty(buf, 0x00a6, sender)
+    write_empty(buf, 0x00a6, writer)
 }

@@ -3,11 +3,11 @@ ghost use mathlib.Core.Path.{_≡_};
 ghost use lib.ListN.{length};
 ghost use Rattle.layouts.specs.Inner.{bodyStored};
 ghost use Rattle.layouts.specs.Description.{inside, readAs};
-ghost use Rattle.frame_writer.specs.Writer.{senderOf, writtenAnswer};
+ghost use Rattle.frame_writer.specs.Writer.{writtenAnswer};
 ghost use Rattle.frame_writer.specs.Faithful.{writeAnswer, writtenAs};
 ghost use Rattle.system.specs.Heartbeat.{heartbeat, answerOf};
-use frame_writer::Sender;
 use frame_writer::Written;
+use senders::Writer;
 
 pub struct Heartbeat {
     pub flags: u32,
@@ -41,14 +41,14 @@ pub fn read_heartbeat(s: &[u8]) -> HeartbeatRead
     HeartbeatRead::Record(take_heartbeat(s))
 }
 
-pub fn write_heartbeat(buf: &mut [u8], sender: Sender, r: Heartbeat) -> Written
+pub fn write_heartbeat(buf: &mut [u8], writer: Writer, r: Heartbeat) -> Written
     ensures { λ w. ⌜ writtenAnswer w ≡ writeAnswer heartbeat r (length (now (buf .entry))) ⌝ }
-    ensures { λ _. ⌜ now (buf .exit) ≡ writtenAs heartbeat (senderOf sender) r (now (buf .entry)) ⌝ }
+    ensures { λ _. ⌜ now (buf .exit) ≡ writtenAs heartbeat writer r (now (buf .entry)) ⌝ }
 {
     let answer = frame_writer::plan(4, buf.len());
     if let Written::Bytes(_) = answer {
         put(buf, r);
-        frame_writer::seal(buf, 0xffff, sender, 4);
+        frame_writer::seal(buf, 0xffff, writer, 4);
     }
     answer
 }

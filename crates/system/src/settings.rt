@@ -3,11 +3,11 @@ ghost use mathlib.Core.Path.{_≡_};
 ghost use lib.ListN.{length};
 ghost use Rattle.layouts.specs.Inner.{bodyStored};
 ghost use Rattle.layouts.specs.Description.{inside, readAs};
-ghost use Rattle.frame_writer.specs.Writer.{senderOf, writtenAnswer};
+ghost use Rattle.frame_writer.specs.Writer.{writtenAnswer};
 ghost use Rattle.frame_writer.specs.Faithful.{writeAnswer, writtenAs};
 ghost use Rattle.system.specs.ReadByIndexReq.{readByIndexReq, answerOf};
-use frame_writer::Sender;
 use frame_writer::Written;
+use senders::Writer;
 
 pub struct ReadByIndexReq {
     pub index: u16,
@@ -41,14 +41,14 @@ pub fn read_read_by_index_req(s: &[u8]) -> ReadByIndexReqRead
     ReadByIndexReqRead::Record(take_read_by_index_req(s))
 }
 
-pub fn write_read_by_index_req(buf: &mut [u8], sender: Sender, r: ReadByIndexReq) -> Written
+pub fn write_read_by_index_req(buf: &mut [u8], writer: Writer, r: ReadByIndexReq) -> Written
     ensures { λ w. ⌜ writtenAnswer w ≡ writeAnswer readByIndexReq r (length (now (buf .entry))) ⌝ }
-    ensures { λ _. ⌜ now (buf .exit) ≡ writtenAs readByIndexReq (senderOf sender) r (now (buf .entry)) ⌝ }
+    ensures { λ _. ⌜ now (buf .exit) ≡ writtenAs readByIndexReq writer r (now (buf .entry)) ⌝ }
 {
     let answer = frame_writer::plan(2, buf.len());
     if let Written::Bytes(_) = answer {
         put(buf, r);
-        frame_writer::seal(buf, 0x00a2, sender, 2);
+        frame_writer::seal(buf, 0x00a2, writer, 2);
     }
     answer
 }

@@ -3,11 +3,11 @@ ghost use mathlib.Core.Path.{_≡_};
 ghost use lib.ListN.{length};
 ghost use Rattle.layouts.specs.Inner.{bodyStored};
 ghost use Rattle.layouts.specs.Description.{inside, readAs};
-ghost use Rattle.frame_writer.specs.Writer.{senderOf, writtenAnswer};
+ghost use Rattle.frame_writer.specs.Writer.{writtenAnswer};
 ghost use Rattle.frame_writer.specs.Faithful.{writeAnswer, writtenAs};
 ghost use Rattle.system.specs.Startup.{startup, answerOf};
-use frame_writer::Sender;
 use frame_writer::Written;
+use senders::Writer;
 
 pub struct Startup {
     pub reserved: u32,
@@ -41,14 +41,14 @@ pub fn read_startup(s: &[u8]) -> StartupRead
     StartupRead::Record(take_startup(s))
 }
 
-pub fn write_startup(buf: &mut [u8], sender: Sender, r: Startup) -> Written
+pub fn write_startup(buf: &mut [u8], writer: Writer, r: Startup) -> Written
     ensures { λ w. ⌜ writtenAnswer w ≡ writeAnswer startup r (length (now (buf .entry))) ⌝ }
-    ensures { λ _. ⌜ now (buf .exit) ≡ writtenAs startup (senderOf sender) r (now (buf .entry)) ⌝ }
+    ensures { λ _. ⌜ now (buf .exit) ≡ writtenAs startup writer r (now (buf .entry)) ⌝ }
 {
     let answer = frame_writer::plan(4, buf.len());
     if let Written::Bytes(_) = answer {
         put(buf, r);
-        frame_writer::seal(buf, 0xff00, sender, 4);
+        frame_writer::seal(buf, 0xff00, writer, 4);
     }
     answer
 }

@@ -3,11 +3,11 @@ ghost use mathlib.Core.Path.{_≡_};
 ghost use lib.ListN.{length};
 ghost use Rattle.layouts.specs.Inner.{bodyStored};
 ghost use Rattle.layouts.specs.Description.{inside, readAs};
-ghost use Rattle.frame_writer.specs.Writer.{senderOf, writtenAnswer};
+ghost use Rattle.frame_writer.specs.Writer.{writtenAnswer};
 ghost use Rattle.frame_writer.specs.Faithful.{writeAnswer, writtenAs};
 ghost use Rattle.time_and_dops.specs.Dops.{dops, answerOf};
-use frame_writer::Sender;
 use frame_writer::Written;
+use senders::Writer;
 
 pub struct Dops {
     pub tow: u32,
@@ -56,14 +56,14 @@ pub fn read_dops(s: &[u8]) -> DopsRead
     DopsRead::Record(take_dops(s))
 }
 
-pub fn write_dops(buf: &mut [u8], sender: Sender, r: Dops) -> Written
+pub fn write_dops(buf: &mut [u8], writer: Writer, r: Dops) -> Written
     ensures { λ w. ⌜ writtenAnswer w ≡ writeAnswer dops r (length (now (buf .entry))) ⌝ }
-    ensures { λ _. ⌜ now (buf .exit) ≡ writtenAs dops (senderOf sender) r (now (buf .entry)) ⌝ }
+    ensures { λ _. ⌜ now (buf .exit) ≡ writtenAs dops writer r (now (buf .entry)) ⌝ }
 {
     let answer = frame_writer::plan(14, buf.len());
     if let Written::Bytes(_) = answer {
         put(buf, r);
-        frame_writer::seal(buf, 0x0206, sender, 14);
+        frame_writer::seal(buf, 0x0206, writer, 14);
     }
     answer
 }

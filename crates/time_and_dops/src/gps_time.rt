@@ -4,12 +4,12 @@ ghost use lib.ListN.{length};
 ghost use Rattle.layouts.specs.Layout.{allowedBody};
 ghost use Rattle.layouts.specs.Inner.{bodyStored};
 ghost use Rattle.layouts.specs.Description.{inside, readAs};
-ghost use Rattle.frame_writer.specs.Writer.{senderOf, writtenAnswer};
+ghost use Rattle.frame_writer.specs.Writer.{writtenAnswer};
 ghost use Rattle.frame_writer.specs.Faithful.{writeAnswer, writtenAs};
 ghost use Rattle.time_and_dops.specs.GpsTime.{gpsTime, answerOf};
 use flags::ns_allowed;
-use frame_writer::Sender;
 use frame_writer::Written;
+use senders::Writer;
 
 pub struct GpsTime {
     pub wn: u16,
@@ -62,15 +62,15 @@ pub fn read_gps_time(s: &[u8]) -> GpsTimeRead
     GpsTimeRead::Refused(23)
 }
 
-pub fn write_gps_time(buf: &mut [u8], sender: Sender, r: GpsTime) -> Written
+pub fn write_gps_time(buf: &mut [u8], writer: Writer, r: GpsTime) -> Written
     ensures { λ w. ⌜ writtenAnswer w ≡ writeAnswer gpsTime r (length (now (buf .entry))) ⌝ }
-    ensures { λ _. ⌜ now (buf .exit) ≡ writtenAs gpsTime (senderOf sender) r (now (buf .entry)) ⌝ }
+    ensures { λ _. ⌜ now (buf .exit) ≡ writtenAs gpsTime writer r (now (buf .entry)) ⌝ }
 {
     if allowed(r) {
         let answer = frame_writer::plan(11, buf.len());
         if let Written::Bytes(_) = answer {
             put(buf, r);
-            frame_writer::seal(buf, 0x0100, sender, 11);
+            frame_writer::seal(buf, 0x0100, writer, 11);
         }
         return answer;
     }

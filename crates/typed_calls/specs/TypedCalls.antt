@@ -15,9 +15,10 @@ use denote.Ref.{RefT, now}
 use Rattle.layouts.specs.Layout.{encodeBody}
 use Rattle.layouts.specs.Description.{Description, reading}
 use Rattle.frames.specs.Frame.{frameBytes}
-use Rattle.frame_writer.specs.Writer.{senderOf, planning}
+use Rattle.senders.specs.Senders.{carried}
+use Rattle.senders.specs.declared.Writer.{Writer}
+use Rattle.frame_writer.specs.Writer.{planning}
 use Rattle.frame_writer.specs.Faithful.{writing}
-use Rattle.frame_writer.specs.declared.write.Sender.{Sender}
 use Rattle.frame_writer.specs.declared.write.Written.{Written}
 use Rattle.frame_writer.specs.declared.write.Written.the-variants as Written
 use Rattle.calls.specs.Replies.{handsBack, puts, hands}
@@ -88,8 +89,8 @@ use Rattle.readings.proofs as readings
 abbrev pub readBy : {R E : Type 0} → Description R → (R → E) → (ℕ → E) → RefT (List ℕ) → E × Unit {0}
 readBy d record-of refusal payload = handsBack record-of refusal (reading d (now payload))
 
-abbrev pub writeBy : {R : Type 0} → Description R → RefT (List ℕ) → Sender → R → Written × (List ℕ × Unit {0})
-writeBy d buf sender r = puts (writing d r (length (now buf))) (frameBytes (d .kind) (senderOf sender) (encodeBody (d .layout) (d .row r))) (now buf)
+abbrev pub writeBy : {R : Type 0} → Description R → RefT (List ℕ) → Writer → R → Written × (List ℕ × Unit {0})
+writeBy d buf writer r = puts (writing d r (length (now buf))) (frameBytes (d .kind) (carried (d .kind) writer) (encodeBody (d .layout) (d .row r))) (now buf)
 
 -- ---- the calls, at every model of the logic, as every contract is stated
 
@@ -145,9 +146,9 @@ module _ {M : Type 1} (𝓤 : URA M) (H : Heap 𝓤) (A : Atoms 𝓤) (mem : Mem
   -- SETTINGS_SAVE and READ_BY_INDEX_DONE have no field
   pub record System : Type 1 where
     pub read-settings-save : Gives 𝓤 system.read_settings_save.ended (system.read_settings_save.clauses 𝓤 H A mem run) (λ κs. readBy settingsSave (λ r. EmptyRead.Empty) EmptyRead.Refused)
-    pub write-settings-save : Gives 𝓤 system.write_settings_save.ended (system.write_settings_save.clauses 𝓤 H A mem run) (λ κs buf sender. writeBy settingsSave buf sender tt)
+    pub write-settings-save : Gives 𝓤 system.write_settings_save.ended (system.write_settings_save.clauses 𝓤 H A mem run) (λ κs buf writer. writeBy settingsSave buf writer tt)
     pub read-read-by-index-done : Gives 𝓤 system.read_read_by_index_done.ended (system.read_read_by_index_done.clauses 𝓤 H A mem run) (λ κs. readBy readByIndexDone (λ r. EmptyRead.Empty) EmptyRead.Refused)
-    pub write-read-by-index-done : Gives 𝓤 system.write_read_by_index_done.ended (system.write_read_by_index_done.clauses 𝓤 H A mem run) (λ κs buf sender. writeBy readByIndexDone buf sender tt)
+    pub write-read-by-index-done : Gives 𝓤 system.write_read_by_index_done.ended (system.write_read_by_index_done.clauses 𝓤 H A mem run) (λ κs buf writer. writeBy readByIndexDone buf writer tt)
     pub read-read-by-index-req : Gives 𝓤 system.read_read_by_index_req.ended (system.read_read_by_index_req.clauses 𝓤 H A mem run) (λ κs. readBy readByIndexReq ReadByIndexReqRead.Record ReadByIndexReqRead.Refused)
     pub write-read-by-index-req : Gives 𝓤 system.write_read_by_index_req.ended (system.write_read_by_index_req.clauses 𝓤 H A mem run) (λ κs. writeBy readByIndexReq)
     pub read-startup : Gives 𝓤 system.read_startup.ended (system.read_startup.clauses 𝓤 H A mem run) (λ κs. readBy startup StartupRead.Record StartupRead.Refused)
@@ -164,14 +165,14 @@ module _ {M : Type 1} (𝓤 : URA M) (H : Heap 𝓤) (A : Atoms 𝓤) (mem : Mem
         (λ κs kind s i. handsBack ObservationRead.Record ObservationRead.Refused (oneOfFrame kind (now s) i))
     -- the first k observations of those handed in
     pub write-obs : Gives 𝓤 obs_writer.write_obs.ended (obs_writer.write_obs.clauses 𝓤 H A mem run)
-        (λ κs buf sender o entries.
+        (λ κs buf writer o entries.
         puts (writingObs first (o .count) (length (now buf)))
-        (frameBytes (first .kind) (senderOf sender) (encodeBody (obs first .layout) (obs first .row (observed first (headOf o) (o .count) entries)))) (now buf))
+        (frameBytes (first .kind) (carried (first .kind) writer) (encodeBody (obs first .layout) (obs first .row (observed first (headOf o) (o .count) entries)))) (now buf))
     pub read-log : Gives 𝓤 logs.read_log.ended (logs.read_log.clauses 𝓤 H A mem run) (λ κs s. handsBack LogRead.Record LogRead.Refused (readingLog (now s)))
     pub log-text : GivesAs 𝓤 logs.log_text.ended (logs.log_text.clauses 𝓤 H A mem run) (λ κs. List ℕ) (λ κs r. now r) (λ κs s. (textIn (now s), tt))
-    pub write-log : Gives 𝓤 logs.write_log.ended (logs.write_log.clauses 𝓤 H A mem run) (λ κs buf sender level text padding. writeBy log buf sender (logged level (now text) padding))
+    pub write-log : Gives 𝓤 logs.write_log.ended (logs.write_log.clauses 𝓤 H A mem run) (λ κs buf writer level text padding. writeBy log buf writer (logged level (now text) padding))
     pub plan : Gives 𝓤 frame_writer.plan.ended (frame_writer.plan.clauses 𝓤 H A mem run) (λ κs n room. handsBack Written.Bytes Written.Refused (planning n room))
     pub write-frame : Gives 𝓤 frame_writer.write_frame.ended (frame_writer.write_frame.clauses 𝓤 H A mem run)
-        (λ κs buf kind sender payload. puts (planning (length (now payload)) (length (now buf))) (frameBytes kind (senderOf sender) (now payload)) (now buf))
+        (λ κs buf kind writer payload. puts (planning (length (now payload)) (length (now buf))) (frameBytes kind (carried kind writer) (now payload)) (now buf))
     pub answer : Gives 𝓤 payloads.answer.ended (payloads.answer.clauses 𝓤 H A mem run) (λ κs kind payload. hands (λ m. 0) (readingAny kind (now payload)))
     pub read : Gives 𝓤 readings.read.ended (readings.read.clauses 𝓤 H A mem run) (λ κs kind payload. handsBack Reading.Record Reading.Refused (readingAny kind (now payload)))

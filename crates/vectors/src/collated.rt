@@ -1,6 +1,5 @@
 // Whole captures collated: two with the same frames for each sender, in order, and shuffled between senders, with noise and an unlisted sender.
 use crate::print;
-use frame_writer::Sender;
 
 // A frame without observations takes 15 bytes.
 pub fn run() {
@@ -31,7 +30,12 @@ fn put(buf: &mut [u8], at: usize, sender: u16, tow: u32, n_obs: u8) {
     wire::store_u16(&mut payload, 4, 1900);
     wire::store_u8(&mut payload, 6, n_obs);
     if at <= buf.len() {
-        frame_writer::write_frame(&mut buf[at..], 0x0049, Sender::Named(sender), &payload);
+        frame_writer::write_frame(
+            &mut buf[at..],
+            0x0049,
+            senders::writer_from(sender as u32),
+            &payload,
+        );
     }
 }
 

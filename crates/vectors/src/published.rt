@@ -5,7 +5,6 @@ use crate::print;
 use crate::readings::show;
 use baselines::EcefVector;
 use baselines::EcefVectorRead;
-use frame_writer::Sender;
 use frame_writer::Written;
 use frames::Step;
 
@@ -90,7 +89,7 @@ fn again(r: EcefVector) {
     print::number(r.n_sats as u64);
     print::number(r.flags as u64);
     let mut buf = [0u8; 28];
-    let w = baselines::write_baseline_ecef(&mut buf, Sender::Named(0x0201), r);
+    let w = baselines::write_baseline_ecef(&mut buf, senders::writer_from(0x0201), r);
     written(&buf, w);
 }
 

@@ -1,7 +1,6 @@
 -- `baselines::ned::write_vel_ned` meets its contract.
 use mathlib.Core.Path.{refl}
 use borrow.Author.Needs.{needs}
-use Rattle.frame_writer.specs.Writer.{senderOf}
 use Rattle.frame_writer.proofs.WrittenPlan.{known}
 use Rattle.frame_writer.proofs.Promised.{wrote, wrote-nothing}
 use Rattle.baselines.specs.Ned.{velNed}
@@ -14,13 +13,13 @@ returns c =
     let at = p .before .before in
     let a = at .before .before .before .before .args in
     let plan = at .before .before .plan .ensures in
-    wrote velNed (senderOf (a .sender)) (a .r) (a .buf .now) refl refl plan (known plan (at .enum-told .given .1)) (p .put .ensures) (c .before .before .seal .ensures)
+    wrote velNed (a .writer) (a .r) (a .buf .now) refl refl plan (known plan (at .enum-told .given .1)) (p .put .ensures) (c .before .before .seal .ensures)
 
 returns-2 : tie.Need-returns-2
 returns-2 c =
     let a = c .before .before .before .before .args in
     let plan = c .before .before .plan .ensures in
-    wrote-nothing velNed (senderOf (a .sender)) (a .r) (a .buf .now) refl refl plan (known plan (c .enum-told2 .given .1))
+    wrote-nothing velNed (a .writer) (a .r) (a .buf .now) refl refl plan (known plan (c .enum-told2 .given .1))
 
 pub write-vel-ned-spec : {M : Type 1} → statement M
 write-vel-ned-spec = tie.close (tie.spec (λ c κs. tt) (λ c. search needs) (λ c κs. tt) (λ c κs. tt) (λ c. search needs) (λ c. search needs) returns returns-2)

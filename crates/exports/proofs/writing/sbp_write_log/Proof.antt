@@ -3,8 +3,8 @@ use mathlib.Core.Path.{ap, _∙_}
 use Prim.Native.Nat.{ℕ}
 use Rattle.refusals.specs.Refusals.{Answer, zeroOr}
 use Rattle.frame_writer.specs.Faithful.{writtenAs}
-use Rattle.frame_writer.specs.Writer.{senderOf, sizeLeft}
-use Rattle.frame_writer.specs.declared.write.Sender.{Sender}
+use Rattle.frame_writer.specs.Writer.{sizeLeft}
+use Rattle.senders.specs.declared.Writer.{Writer}
 use Rattle.logs.specs.Log.{log, logged}
 use borrow.Author.Needs.{needs}
 use Rattle.exports.proofs.writing.sbp_write_log.Statement.{statement}
@@ -17,7 +17,7 @@ returns c =
     let e = wrote .write-log .ensures .0 in (
       c .hand-on .ensures .0 ∙ ap zeroOr e,
       (
-        wrote .write-log .ensures .1 ∙ ap (λ (x : Sender). writtenAs log (senderOf x) (logged (a .level) (a .text .now) (a .padding)) (a .out .now)) (wrote .before .sender-from .ensures),
+        wrote .write-log .ensures .1 ∙ ap (λ (w : Writer). writtenAs log w (logged (a .level) (a .text .now) (a .padding)) (a .out .now)) (wrote .before .writer-from .ensures),
         c .hand-on .ensures .1 ∙ ap (λ (x : Answer ℕ). sizeLeft x (a .size .now)) e,
       ),
     )

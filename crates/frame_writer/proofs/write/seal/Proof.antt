@@ -4,7 +4,6 @@ use Prim.Native.Nat.{_+_, _≤_}
 use native.Mathlib.Omega.{arith}
 use borrow.Author.Needs.{needs}
 use lib.ListN.{length}
-use Rattle.frame_writer.specs.Writer.{senderOf}
 use Rattle.frame_writer.proofs.WrittenPlan.{known, fits}
 use Rattle.frame_writer.proofs.Written.{seals, sealed-unfit}
 use Rattle.frame_writer.proofs.write.seal.Statement.{statement}
@@ -28,7 +27,7 @@ returns : tie.Need-returns
 returns c =
     let a = c .before .before .before .before .before .before .before .before .before .before .before .before .before .before .before .before .args in
     let at = c .before .before .before .before .before .before .before .before .before .before .before .before in
-    seals (a .kind) (senderOf (a .sender)) (a .n) (a .buf .now)
+    seals (a .kind) (a .writer) (a .n) (a .buf .now)
     (known (at .before .before .plan .ensures) (at .enum-told .given .1))
     (c .before .before .before .before .before .before .before .before .before .before .sender-number .ensures)
     (c .before .before .before .before .before .before .before .before .before .put-head .ensures)
@@ -38,7 +37,7 @@ returns c =
 returns-2 : tie.Need-returns-2
 returns-2 c =
     let a = c .before .before .before .before .args in
-    sym (sealed-unfit (a .kind) (senderOf (a .sender)) (a .n) (a .buf .now) (known (c .before .before .plan .ensures) (c .enum-told2 .given .1)))
+    sym (sealed-unfit (a .kind) (a .writer) (a .n) (a .buf .now) (known (c .before .before .plan .ensures) (c .enum-told2 .given .1)))
 
 pub seal-spec : {M : Type 1} → statement M
 seal-spec =

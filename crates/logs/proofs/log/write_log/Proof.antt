@@ -4,7 +4,6 @@ use Prim.Native.Nat.{_+_}
 use native.Mathlib.Omega.{arith}
 use lib.ListN.{length}
 use borrow.Author.Tests.{leb-true}
-use Rattle.frame_writer.specs.Writer.{senderOf}
 use Rattle.frame_writer.proofs.WrittenPlan.{known}
 use Rattle.logs.proofs.Logs.{wrote-23, wrote-31, wrote, wrote-nothing}
 use borrow.Author.Needs.{needs}
@@ -24,26 +23,26 @@ returns c =
     let plan = told .before .before in
     let f = plan .before .before .before in
     let a = f .before .before .before .before .args in
-    wrote (a .level) (a .text .now) (a .padding) (senderOf (a .sender)) (a .buf .now) (sym (f .before .no-zero .ensures) ∙ plan .before .before .if1 .taken) (sym (f .room .ensures) ∙ plan .before .if2 .taken) (plan .plan .ensures) (known (plan .plan .ensures) (told .enum-told .given .1)) (p .put-log .ensures) (c .before .before .seal .ensures)
+    wrote (a .level) (a .text .now) (a .padding) (a .writer) (a .buf .now) (sym (f .before .no-zero .ensures) ∙ plan .before .before .if1 .taken) (sym (f .room .ensures) ∙ plan .before .if2 .taken) (plan .plan .ensures) (known (plan .plan .ensures) (told .enum-told .given .1)) (p .put-log .ensures) (c .before .before .seal .ensures)
 
 returns-2 : tie.Need-returns-2
 returns-2 c =
     let plan = c .before .before in
     let f = plan .before .before .before in
     let a = f .before .before .before .before .args in
-    wrote-nothing (a .level) (a .text .now) (a .padding) (senderOf (a .sender)) (a .buf .now) (sym (f .before .no-zero .ensures) ∙ plan .before .before .if1 .taken) (sym (f .room .ensures) ∙ plan .before .if2 .taken) (plan .plan .ensures) (known (plan .plan .ensures) (c .enum-told2 .given .1))
+    wrote-nothing (a .level) (a .text .now) (a .padding) (a .writer) (a .buf .now) (sym (f .before .no-zero .ensures) ∙ plan .before .before .if1 .taken) (sym (f .room .ensures) ∙ plan .before .if2 .taken) (plan .plan .ensures) (known (plan .plan .ensures) (c .enum-told2 .given .1))
 
 returns-3 : tie.Need-returns-3
 returns-3 c =
     let f = c .before .before in
     let a = f .before .before .before .before .args in
-    wrote-31 (a .level) (a .text .now) (a .padding) (senderOf (a .sender)) (a .buf .now) (sym (f .before .no-zero .ensures) ∙ c .before .if1 .taken) (sym (f .room .ensures) ∙ c .if2 .left)
+    wrote-31 (a .level) (a .text .now) (a .padding) (a .writer) (a .buf .now) (sym (f .before .no-zero .ensures) ∙ c .before .if1 .taken) (sym (f .room .ensures) ∙ c .if2 .left)
 
 returns-4 : tie.Need-returns-4
 returns-4 c =
     let f = c .before in
     let a = f .before .before .before .before .args in
-    wrote-23 (a .level) (a .text .now) (a .padding) (senderOf (a .sender)) (a .buf .now) (sym (f .before .no-zero .ensures) ∙ c .if1 .left)
+    wrote-23 (a .level) (a .text .now) (a .padding) (a .writer) (a .buf .now) (sym (f .before .no-zero .ensures) ∙ c .if1 .left)
 
 pub write-log-spec : {M : Type 1} → statement M
 write-log-spec =

@@ -4,7 +4,6 @@ use Prim.Native.Nat.{_≤_}
 use native.Mathlib.Omega.{arith}
 use lib.ListN.{length}
 use borrow.Author.Needs.{needs}
-use Rattle.frame_writer.specs.Writer.{senderOf}
 use Rattle.frame_writer.proofs.WrittenPlan.{known, fits}
 use Rattle.observation.specs.Edition.{startOf, first}
 use Rattle.obs_writer.specs.ObsWriter.{headOf}
@@ -15,7 +14,7 @@ use Rattle.obs_writer.proofs.obs_write.write_obs.Tie as tie
 returns : tie.Need-returns
 returns c =
     let a = c .before .before .before .args in
-    wrote-31 first (senderOf (a .sender)) (headOf (a .obs)) (a .obs .count) (a .entries) (a .buf .now) (omega arith)
+    wrote-31 first (a .writer) (headOf (a .obs)) (a .obs .count) (a .entries) (a .buf .now) (omega arith)
 
 put-entries-requires : tie.Need-put-entries-requires
 put-entries-requires c κs =
@@ -37,7 +36,7 @@ returns-2 c =
     let start = few .before .before .before in
     let a = start .args in
     let plan = at .before .before .plan .ensures in
-    wrote first (senderOf (a .sender)) (headOf (a .obs)) (a .obs .count) (a .entries) (a .buf .now) (holds start (few .if1 .left)) (λ v. refl) (λ v. refl) (few .if1 .left) plan
+    wrote first (a .writer) (headOf (a .obs)) (a .obs .count) (a .entries) (a .buf .now) (holds start (few .if1 .left)) (λ v. refl) (λ v. refl) (few .if1 .left) plan
     (known plan (at .enum-told .given .1)) (header .put-head .ensures) (put .put-entries .ensures) (c .before .before .seal .ensures)
 
 returns-3 : tie.Need-returns-3
@@ -46,7 +45,7 @@ returns-3 c =
     let start = few .before .before .before in
     let a = start .args in
     let plan = c .before .before .plan .ensures in
-    wrote-nothing first (senderOf (a .sender)) (headOf (a .obs)) (a .obs .count) (a .entries) (a .buf .now) (holds start (few .if1 .left)) (λ v. refl) (λ v. refl) (few .if1 .left) plan
+    wrote-nothing first (a .writer) (headOf (a .obs)) (a .obs .count) (a .entries) (a .buf .now) (holds start (few .if1 .left)) (λ v. refl) (λ v. refl) (few .if1 .left) plan
     (known plan (c .enum-told2 .given .1))
 
 pub write-obs-spec : {M : Type 1} → statement M

@@ -1,7 +1,6 @@
 -- `orbits::ephemeris_glo::write_ephemeris_glo` meets its contract.
 use mathlib.Core.Path.{refl}
 use borrow.Author.Needs.{needs}
-use Rattle.frame_writer.specs.Writer.{senderOf}
 use Rattle.frame_writer.proofs.WrittenPlan.{known}
 use Rattle.frame_writer.proofs.Promised.{wrote, wrote-nothing}
 use Rattle.orbits.specs.EphemerisGlo.{ephemerisGlo}
@@ -14,13 +13,13 @@ returns c =
     let at = p .before .before in
     let a = at .before .before .before .before .args in
     let plan = at .before .before .plan .ensures in
-    wrote ephemerisGlo (senderOf (a .sender)) (a .r) (a .buf .now) refl refl plan (known plan (at .enum-told .given .1)) (p .put .ensures) (c .before .before .seal .ensures)
+    wrote ephemerisGlo (a .writer) (a .r) (a .buf .now) refl refl plan (known plan (at .enum-told .given .1)) (p .put .ensures) (c .before .before .seal .ensures)
 
 returns-2 : tie.Need-returns-2
 returns-2 c =
     let a = c .before .before .before .before .args in
     let plan = c .before .before .plan .ensures in
-    wrote-nothing ephemerisGlo (senderOf (a .sender)) (a .r) (a .buf .now) refl refl plan (known plan (c .enum-told2 .given .1))
+    wrote-nothing ephemerisGlo (a .writer) (a .r) (a .buf .now) refl refl plan (known plan (c .enum-told2 .given .1))
 
 pub write-ephemeris-glo-spec : {M : Type 1} → statement M
 write-ephemeris-glo-spec = tie.close (tie.spec (λ c κs. tt) (λ c. search needs) (λ c κs. search needs) (λ c κs. tt) (λ c. search needs) (λ c. search needs) returns returns-2)

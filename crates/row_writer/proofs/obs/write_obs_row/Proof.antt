@@ -6,7 +6,6 @@ use lib.ListN.{length}
 use lib.Seq.{length-take-le}
 use borrow.Author.Needs.{needs}
 use Rattle.formats.proofs.Narrow.{Words}
-use Rattle.frame_writer.specs.Writer.{senderOf}
 use Rattle.row_writer.proofs.ObsPacked.{payload-packed}
 use Rattle.row_writer.proofs.ObsSent.{Fitting, fitting, few-rows, fitting-rows, wrote-refused, wrote-sent}
 use Rattle.row_writer.proofs.obs.write_obs_row.Statement.{statement}
@@ -15,7 +14,7 @@ use Rattle.row_writer.proofs.obs.write_obs_row.Tie as tie
 returns : tie.Need-returns
 returns c =
     let a = c .before .before .before .before .before .args in
-    wrote-refused (a .kind) (senderOf (a .sender)) (a .head .now) (a .rows .now) (a .out .now) (a .size .now) (c .before .refusal .ensures) (c .if1 .taken)
+    wrote-refused (a .kind) (a .writer) (a .head .now) (a .rows .now) (a .out .now) (a .size .now) (c .before .refusal .ensures) (c .if1 .taken)
 
 -- past the tests every number fits, and there are few
 fit : (c : tie.Else1) → let a = c .before .before .before .before .before .args in Fitting (a .kind) (a .head .now) (a .rows .now)
@@ -50,7 +49,7 @@ returns-2 c =
     let a = known .before .before .args in
     let f = fit past in
     let words : Words (a .head .now) = λ i. known .shared-slice-known .given i .fits in
-    wrote-sent (a .kind) (senderOf (a .sender)) (a .head .now) (a .rows .now) (a .out .now) (a .size .now) f
+    wrote-sent (a .kind) (a .writer) (a .head .now) (a .rows .now) (a .out .now) (a .size .now) f
     (payload-packed (a .head .now) (a .rows .now) words (fitting-rows (a .kind) (a .head .now) (a .rows .now) f .0) _ (store .store-run .ensures) (pack .pack-rows .ensures) (omega (arith, few past)))
     (on .send-frame .ensures)
 

@@ -10,7 +10,6 @@ use Rattle.layouts.specs.Field.{size}
 use Rattle.formats.specs.Wide.{numberCount}
 use Rattle.formats.specs.Digits.{frontOf}
 use Rattle.formats.proofs.Narrow.{Words}
-use Rattle.frame_writer.specs.Writer.{senderOf}
 use Rattle.payloads.specs.Payloads.{layoutFor}
 use Rattle.row_writer.proofs.Alone.{plain-for, size-shaped, counted-as}
 use Rattle.row_writer.proofs.RowsSent.{Fitting, fitting, payload-packed, wrote-refused, wrote-sent}
@@ -20,7 +19,7 @@ use Rattle.row_writer.proofs.row.write_row.Tie as tie
 returns : tie.Need-returns
 returns c =
     let a = c .before .before .before .before .args in
-    wrote-refused (a .kind) (senderOf (a .sender)) (a .row .now) (a .out .now) (a .size .now) (c .before .refusal .ensures) (c .if1 .taken)
+    wrote-refused (a .kind) (a .writer) (a .row .now) (a .out .now) (a .size .now) (c .before .refusal .ensures) (c .if1 .taken)
 
 -- past the tests every number fits
 fit : (c : tie.After-shape-of) → Fitting (c .before .before .before .before .before .args .kind) (c .before .before .before .before .before .args .row .now)
@@ -60,7 +59,7 @@ returns-2 c =
     let a = known .before .before .args in
     let words : Words (a .row .now) = λ i. known .shared-slice-known .given i .fits in
     let f = fit shape in
-    wrote-sent (a .kind) (senderOf (a .sender)) (a .row .now) (a .out .now) (a .size .now) words f
+    wrote-sent (a .kind) (a .writer) (a .row .now) (a .out .now) (a .size .now) words f
     (payload-packed (a .kind) (a .row .now) words f _ (shape .shape-of .ensures) (sized two) (pack .pack .ensures) (omega arith))
     (on .send .ensures)
 
