@@ -13,7 +13,9 @@ use Rattle.frames.specs.Decides.{Decides}
 use Rattle.frames.proofs.Steps.{only, decided}
 use Rattle.frames.proofs.Frames.{found-bytes}
 use Rattle.frames.proofs.Tiling.{closed-tiled, only-closed, open-closed, each-once, adds-up}
-use Rattle.frame_writer.proofs.WrittenRead.{reads-back-at}
+use Rattle.senders.proofs.Carrying.{carries}
+use Rattle.frame_writer.proofs.WrittenPlan.{fits}
+use Rattle.frame_writer.proofs.WrittenRead.{reads-back-at, framed-reads-back, framed-payload-back}
 use Rattle.frame_writer.proofs.WrittenStream.{closed-stream, stream-payloads}
 use Rattle.obs_writer.proofs.ObsThrough.{obs-faithful}
 use lib.IntN.{ℤ, pos, negsuc}
@@ -86,6 +88,8 @@ read-and-written = record {
   obs-read = obs-read;
   log = log-faithful;
   log-read = log-read;
+  senders = carries;
+  any-frame = λ kind w payload buf n k h g. let room = fits (length payload) (length buf) g in (framed-reads-back kind w payload buf k h (room .0) (room .1), framed-payload-back kind w payload buf k h (room .0) (room .1));
   obs-asked = asked-times;
   obs-walk = whole-walk;
   phase-read = phase-read;

@@ -1,8 +1,7 @@
 -- The demands hold of the functions that C and Rust link, all of it by citations.
 use mathlib.Core.Path.{_≡_, refl, sym, ap, _∙_}
 use mathlib.Core.List.{List}
-use borrow.Author.Tests.{lt-ltb, le-ltb}
-use Rattle.senders.specs.Senders.{carried}
+use Rattle.senders.proofs.Carrying.{carries-linked}
 use Rattle.row_reader.proofs.EachRead.{all-read}
 use Rattle.row_writer.proofs.WrittenTyped.{as-typed}
 use Rattle.epochs.specs.Epoch.{reportsIn, reportsOf}
@@ -25,7 +24,6 @@ use Rattle.demands.proofs.StatesLeft.{other-bytes}
 use Rattle.demands.proofs.ReportsLeft.{report-alone, report-kept}
 
 pub exported : Exported
-unfolding carried
 exported = record {
   frames-told = frames-told;
   rows-follow = rows-follow;
@@ -41,8 +39,7 @@ exported = record {
   same-state = λ roster s t report other xs ys f g same.
       stands roster s report xs f ∙ same-state roster (seated roster (f .taken)) xs ys same ∙ sym (stands roster t other ys g);
   growing = grows;
-  sender-given = λ kind n h. rw (lt-ltb n 65536 h);
-  sender-none = λ kind n h. rw (le-ltb n 65536 h);
+  senders = carries-linked;
   rows-read = all-read;
   field-rows = field-rows;
   rows-stored = rows-stored;

@@ -15,7 +15,10 @@ use Rattle.refusals.specs.Refusals.{given}
 use Rattle.frames.specs.Frame.{frameBytes, Content, Sendable, AllSendable, frameOf, stream}
 use Rattle.frames.specs.Step.{stepAt, payloadIn}
 use Rattle.frames.specs.Reading.{Positioned, closedSteps, openSteps, Tiled, holding, beforeShort, framesOf}
-use Rattle.frame_writer.specs.Writer.{asRead, foundFrom}
+use Rattle.senders.specs.Senders.{carried, HeldWriter}
+use Rattle.senders.specs.Carries.{Carries}
+use Rattle.senders.specs.declared.Writer.{Writer}
+use Rattle.frame_writer.specs.Writer.{planned, withFrame, asRead, foundFrom}
 use Rattle.frames.specs.Decides.{Decides}
 use Rattle.frames.specs.declared.step.Frame.{Frame}
 use Rattle.frames.specs.declared.step.Step.{Step}
@@ -86,6 +89,12 @@ pub record ReadAndWritten : Type 0 where
   pub obs-read : Typed (first .kind) (λ r. M.Obs r) readObs
   pub log : LogFaithful
   pub log-read : Typed (system.log .kind) (λ r. M.Log r) readLog
+  -- the sender that reading shows is the number that the type and the writer say (document 02, P6), of a frame of any type with any payload as of
+  -- every message, so that a type means the same through either door
+  pub senders : Carries
+  pub any-frame : (kind : ℕ) (w : Writer) (payload buf : List ℕ) (n : ℕ) → kind < 65536 → HeldWriter w → planned (length payload) (length buf) ≡ given n
+      → let f : Frame = record { at = 0; kind = kind; sender = carried kind w; length = length payload } in
+      (stepAt (withFrame kind w payload buf) 0 ≡ Found f) × (payloadIn (withFrame kind w payload buf) f ≡ payload)
   -- "a reader that keeps the lent payload and its place": asked n times it keeps its payload and stands where n questions lead
   pub obs-asked : (n : ℕ) (r : ObsReader) → askedTimes n r ≡ record { kind = r .kind; payload = r .payload; at = standing n (r .kind) (now (r .payload)) (r .at) }
   -- from the start they are answered by the payload's observations in order, each once, and by a refusal from then on

@@ -15,7 +15,7 @@ use Rattle.epochs.specs.Search.{names}
 use Rattle.epochs.specs.Epoch.{reportsIn, reportsOf, SameFrames, EndsEpoch, Epochs}
 use Rattle.epochs.specs.declared.collating.Report.{Report}
 use Rattle.epochs.specs.declared.collating.Happened.the-variants as H
-use Rattle.senders.specs.Senders.{carried, writerFrom}
+use Rattle.senders.specs.Carries.{CarriesLinked}
 use Rattle.flag_numbers.specs.Flagged.{fixAnswer, availableAnswer, repairedAnswer, aboveSeaAnswer}
 use Rattle.places.specs.State.{stateIn}
 use Rattle.states.specs.Feed.{madeStored, fedIn, afterIn}
@@ -90,9 +90,8 @@ pub record Exported : Type 0 where
       → stateIn (afterIn (madeStored roster s) report xs) ≡ stateIn (afterIn (madeStored roster t) other ys)
   -- a roster that grows: frame by frame the bytes tell what a collator tells that was made of the first eight senders
   pub growing : Grows
-  -- a sender of 16 bits is written as it is, 0 too, and any number above stands for none, which is 0x42
-  pub sender-given : (kind n : ℕ) → n < 65536 → carried kind (writerFrom n) ≡ n
-  pub sender-none : (kind n : ℕ) → 65536 ≤ n → carried kind (writerFrom n) ≡ 0x42
+  -- who sends: a sender of 16 bits is written as it is, 0 too; any number above stands for none
+  pub senders : CarriesLinked
   -- messages as numbers: each is read as the fields of the typed record and written as the typed writer writes it, and what was written comes back;
   -- OBS and LOG number by number
   pub rows-read : AllRead

@@ -6,6 +6,7 @@ pub mod Exported
 pub mod InParts
 pub mod Swallowed
 pub mod RowsStay
+pub mod WhoSends
 pub mod Stays
 pub mod Indexes
 pub mod Handed

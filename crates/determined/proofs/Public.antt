@@ -110,6 +110,8 @@ module _ {M : Type 1} (𝓤 : URA M) (H : Heap 𝓤) (A : Atoms 𝓤) (mem : Mem
     pub payload : DeterminedAs 𝓤 frames.payload.ended (frames.payload.clauses 𝓤 H A mem run) (λ κs. List ℕ) (λ κs r. now r)
 
   pub record Senders : Type 1 where
+    pub made : Determined 𝓤 senders.Writer.made.ended (senders.Writer.made.clauses 𝓤 H A mem run)
+    pub named : Determined 𝓤 senders.Writer.named.ended (senders.Writer.named.clauses 𝓤 H A mem run)
     pub sender-number : Determined 𝓤 senders.sender_number.ended (senders.sender_number.clauses 𝓤 H A mem run)
     pub writer-from : Determined 𝓤 senders.writer_from.ended (senders.writer_from.clauses 𝓤 H A mem run)
 

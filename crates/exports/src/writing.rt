@@ -15,15 +15,16 @@ ghost use Rattle.senders.specs.Senders.{writerFrom};
 pub extern "C" fn sbp_write(
     out: &mut [u8],
     kind: u16,
+    own: u16,
     sender: u32,
     row: &[u64],
     size: &mut u64,
 ) -> u8
     ensures { λ r. ⌜ r ≡ zeroOr (writeRow kind (now (row .entry)) (length (now (out .entry)))) ⌝ }
-    ensures { λ _. ⌜ now (out .exit) ≡ rowWritten kind (writerFrom sender) (now (row .entry)) (now (out .entry)) ⌝ }
+    ensures { λ _. ⌜ now (out .exit) ≡ rowWritten kind (writerFrom own sender) (now (row .entry)) (now (out .entry)) ⌝ }
     ensures { λ _. ⌜ now (size .exit) ≡ sizeLeft (writeRow kind (now (row .entry)) (length (now (out .entry)))) (now (size .entry)) ⌝ }
 {
-    row_writer::write_row(out, kind, senders::writer_from(sender), row, size)
+    row_writer::write_row(out, kind, senders::writer_from(own, sender), row, size)
 }
 
 // An OBS, from its header's three numbers and eight for each observation: 21, 22, 23, 31, 32.
@@ -31,22 +32,31 @@ pub extern "C" fn sbp_write(
 pub extern "C" fn sbp_write_obs(
     out: &mut [u8],
     kind: u16,
+    own: u16,
     sender: u32,
     head: &[u64],
     rows: &[u64],
     size: &mut u64,
 ) -> u8
     ensures { λ r. ⌜ r ≡ zeroOr (writeObsRow kind (now (head .entry)) (now (rows .entry)) (length (now (out .entry)))) ⌝ }
-    ensures { λ _. ⌜ now (out .exit) ≡ obsRowWritten kind (writerFrom sender) (now (head .entry)) (now (rows .entry)) (now (out .entry)) ⌝ }
+    ensures { λ _. ⌜ now (out .exit) ≡ obsRowWritten kind (writerFrom own sender) (now (head .entry)) (now (rows .entry)) (now (out .entry)) ⌝ }
     ensures { λ _. ⌜ now (size .exit) ≡ sizeLeft (writeObsRow kind (now (head .entry)) (now (rows .entry)) (length (now (out .entry)))) (now (size .entry)) ⌝ }
 {
-    row_writer::write_obs_row(out, kind, senders::writer_from(sender), head, rows, size)
+    row_writer::write_obs_row(
+        out,
+        kind,
+        senders::writer_from(own, sender),
+        head,
+        rows,
+        size,
+    )
 }
 
 // A LOG: 23 for a zero in the text, 31 for a text and zeros over 254 bytes, then 32.
 #[no_mangle]
 pub extern "C" fn sbp_write_log(
     out: &mut [u8],
+    own: u16,
     sender: u32,
     level: u8,
     text: &[u8],
@@ -54,10 +64,10 @@ pub extern "C" fn sbp_write_log(
     size: &mut u64,
 ) -> u8
     ensures { λ r. ⌜ r ≡ zeroOr (writeAnswer log (logged level (now (text .entry)) padding) (length (now (out .entry)))) ⌝ }
-    ensures { λ _. ⌜ now (out .exit) ≡ writtenAs log (writerFrom sender) (logged level (now (text .entry)) padding) (now (out .entry)) ⌝ }
+    ensures { λ _. ⌜ now (out .exit) ≡ writtenAs log (writerFrom own sender) (logged level (now (text .entry)) padding) (now (out .entry)) ⌝ }
     ensures { λ _. ⌜ now (size .exit) ≡ sizeLeft (writeAnswer log (logged level (now (text .entry)) padding) (length (now (out .entry)))) (now (size .entry)) ⌝ }
 {
-    let written = logs::write_log(out, senders::writer_from(sender), level, text, padding);
+    let written = logs::write_log(out, senders::writer_from(own, sender), level, text, padding);
     frame_writer::hand_on(written, size)
 }
 
@@ -66,13 +76,14 @@ pub extern "C" fn sbp_write_log(
 pub extern "C" fn sbp_write_frame(
     out: &mut [u8],
     kind: u16,
+    own: u16,
     sender: u32,
     payload: &[u8],
     size: &mut u64,
 ) -> u8
     ensures { λ r. ⌜ r ≡ zeroOr (planned (length (now (payload .entry))) (length (now (out .entry)))) ⌝ }
-    ensures { λ _. ⌜ now (out .exit) ≡ withFrame kind (writerFrom sender) (now (payload .entry)) (now (out .entry)) ⌝ }
+    ensures { λ _. ⌜ now (out .exit) ≡ withFrame kind (writerFrom own sender) (now (payload .entry)) (now (out .entry)) ⌝ }
     ensures { λ _. ⌜ now (size .exit) ≡ sizeLeft (planned (length (now (payload .entry))) (length (now (out .entry)))) (now (size .entry)) ⌝ }
 {
-    row_writer::send_frame(out, kind, senders::writer_from(sender), payload, size)
+    row_writer::send_frame(out, kind, senders::writer_from(own, sender), payload, size)
 }

@@ -35,15 +35,15 @@ module _ {M : Type 1} (𝓤 : URA M) (H : Heap 𝓤) (A : Atoms 𝓤) (mem : Mem
     pub sbp-answer : Gives 𝓤 exports.sbp_answer.ended (exports.sbp_answer.clauses 𝓤 H A mem run) (λ κs. answerGives)
     pub sbp-read : Gives 𝓤 exports.sbp_read.ended (exports.sbp_read.clauses 𝓤 H A mem run) (λ κs. readGives)
     pub sbp-observation : Gives 𝓤 exports.sbp_observation.ended (exports.sbp_observation.clauses 𝓤 H A mem run) (λ κs. observationGives)
-    -- 0.12.0
-    pub sbp-version : Gives 𝓤 exports.sbp_version.ended (exports.sbp_version.clauses 𝓤 H A mem run) (λ κs. (1200, tt))
+    -- 0.13.0
+    pub sbp-version : Gives 𝓤 exports.sbp_version.ended (exports.sbp_version.clauses 𝓤 H A mem run) (λ κs. (1300, tt))
 
   -- frames written; a sender that 16 bits do not hold is none
   pub record Writes : Type 1 where
-    pub sbp-write : Gives 𝓤 exports.sbp_write.ended (exports.sbp_write.clauses 𝓤 H A mem run) (λ κs out kind sender. writeGives out kind (carried kind (writerFrom sender)))
-    pub sbp-write-obs : Gives 𝓤 exports.sbp_write_obs.ended (exports.sbp_write_obs.clauses 𝓤 H A mem run) (λ κs out kind sender. writeObsGives out kind (carried kind (writerFrom sender)))
-    pub sbp-write-log : Gives 𝓤 exports.sbp_write_log.ended (exports.sbp_write_log.clauses 𝓤 H A mem run) (λ κs out sender. writeLogGives out (carried 0x0401 (writerFrom sender)))
-    pub sbp-write-frame : Gives 𝓤 exports.sbp_write_frame.ended (exports.sbp_write_frame.clauses 𝓤 H A mem run) (λ κs out kind sender. writeFrameGives out kind (carried kind (writerFrom sender)))
+    pub sbp-write : Gives 𝓤 exports.sbp_write.ended (exports.sbp_write.clauses 𝓤 H A mem run) (λ κs out kind own sender. writeGives out kind (carried kind (writerFrom own sender)))
+    pub sbp-write-obs : Gives 𝓤 exports.sbp_write_obs.ended (exports.sbp_write_obs.clauses 𝓤 H A mem run) (λ κs out kind own sender. writeObsGives out kind (carried kind (writerFrom own sender)))
+    pub sbp-write-log : Gives 𝓤 exports.sbp_write_log.ended (exports.sbp_write_log.clauses 𝓤 H A mem run) (λ κs out own sender. writeLogGives out (carried 0x0401 (writerFrom own sender)))
+    pub sbp-write-frame : Gives 𝓤 exports.sbp_write_frame.ended (exports.sbp_write_frame.clauses 𝓤 H A mem run) (λ κs out kind own sender. writeFrameGives out kind (carried kind (writerFrom own sender)))
 
   -- a collator in the caller's bytes
   pub record Collates : Type 1 where

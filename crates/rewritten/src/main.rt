@@ -103,7 +103,7 @@ fn again(kind: u16, payload: &[u8]) {
     let mut own = [0xeeu8; 264];
     let mut raw = [0xeeu8; 264];
     let answer = writing::write(&mut own, kind, payload);
-    frame_writer::write_frame(&mut raw, kind, senders::writer_from(0x0201), payload);
+    frame_writer::write_frame(&mut raw, kind, writing::recorder(), payload);
     written(&own, answer);
     if check::same(&own, &raw) {
         print::word(b" same");

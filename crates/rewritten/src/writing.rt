@@ -5,6 +5,7 @@ use logs::Log;
 use observation::Obs;
 use payloads::Message;
 use payloads::Reading;
+use senders::Writer;
 
 pub fn write(buf: &mut [u8], kind: u16, payload: &[u8]) -> Written {
     match readings::read(kind, payload) {
@@ -13,9 +14,14 @@ pub fn write(buf: &mut [u8], kind: u16, payload: &[u8]) -> Written {
     }
 }
 
+// Given no sender: the raw frame beside it goes out under the same number, SETTINGS_SAVE and READ_BY_INDEX_REQ as 0x42.
+pub fn recorder() -> Writer {
+    Writer::made(0x0201)
+}
+
 // The observations of an OBS and the text of a LOG stay in the payload.
 fn by_own(buf: &mut [u8], m: Message, payload: &[u8]) -> Written {
-    let by = senders::writer_from(0x0201);
+    let by = recorder();
     match m {
         Message::GpsTime(r) => time_and_dops::write_gps_time(buf, by, r),
         Message::Dops(r) => time_and_dops::write_dops(buf, by, r),
@@ -45,20 +51,9 @@ fn by_own(buf: &mut [u8], m: Message, payload: &[u8]) -> Written {
 }
 
 fn with_observations(buf: &mut [u8], r: Obs, payload: &[u8]) -> Written {
-    obs_writer::write_obs(
-        buf,
-        senders::writer_from(0x0201),
-        r,
-        walking::entries(payload),
-    )
+    obs_writer::write_obs(buf, recorder(), r, walking::entries(payload))
 }
 
 fn with_text(buf: &mut [u8], r: Log, payload: &[u8]) -> Written {
-    logs::write_log(
-        buf,
-        senders::writer_from(0x0201),
-        r.level,
-        logs::log_text(payload),
-        r.padding,
-    )
+    logs::write_log(buf, recorder(), r.level, logs::log_text(payload), r.padding)
 }

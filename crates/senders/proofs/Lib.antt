@@ -1,1 +1,2 @@
 pub mod Carrying
+pub mod Calls

@@ -1,1 +1,3 @@
 pub mod Senders
+pub mod Carries
+pub mod Calls

@@ -1,5 +1,6 @@
 // Whole captures collated: two with the same frames for each sender, in order, and shuffled between senders, with noise and an unlisted sender.
 use crate::print;
+use senders::Writer;
 
 // A frame without observations takes 15 bytes.
 pub fn run() {
@@ -33,7 +34,7 @@ fn put(buf: &mut [u8], at: usize, sender: u16, tow: u32, n_obs: u8) {
         frame_writer::write_frame(
             &mut buf[at..],
             0x0049,
-            senders::writer_from(sender as u32),
+            Writer::made(0x42).named(sender),
             &payload,
         );
     }

@@ -7,6 +7,7 @@ use baselines::EcefVector;
 use baselines::EcefVectorRead;
 use frame_writer::Written;
 use frames::Step;
+use senders::Writer;
 
 // The example frame of 003, section 4.
 const EXAMPLE: [u8; 28] = [
@@ -89,7 +90,7 @@ fn again(r: EcefVector) {
     print::number(r.n_sats as u64);
     print::number(r.flags as u64);
     let mut buf = [0u8; 28];
-    let w = baselines::write_baseline_ecef(&mut buf, senders::writer_from(0x0201), r);
+    let w = baselines::write_baseline_ecef(&mut buf, Writer::made(0x0201), r);
     written(&buf, w);
 }
 
