@@ -31,7 +31,7 @@ struct rust_collator *rust_collator(const uint16_t *roster, size_t n);
 void rust_collator_free(struct rust_collator *collator);
 uint8_t rust_feed(struct rust_collator *collator, uint16_t type, uint16_t sender, const uint8_t *payload, size_t n, struct sbp_report *report);
 uint8_t rust_read(uint16_t kind, const uint8_t *payload, size_t n, uint64_t *row, size_t room);
-uint8_t rust_write(uint8_t *out, size_t room, uint16_t kind, uint32_t sender, const uint64_t *row, size_t fields, uint64_t *size);
+uint8_t rust_write(uint8_t *out, size_t room, uint16_t kind, uint16_t own, uint32_t sender, const uint64_t *row, size_t fields, uint64_t *size);
 const uint8_t *rust_list(const uint8_t *capture, size_t n, uint64_t *size);
 
 enum { ROUNDS_MAX = 99, ROOM = 8 * SBP_INPUT_MAX + 32 };
@@ -167,7 +167,8 @@ static void rusts_listing(void) { text = rust_list(capture, length, told); }
 
 /* ---- rows: payloads of a clean capture read, and some rows written again and again */
 
-enum { KEPT_MOST = 4096 };
+/* OWN is the writing recorder's number; each row is written with its frame's sender. */
+enum { KEPT_MOST = 4096, OWN = 1229 };
 
 static struct kept {
     uint64_t row[SBP_FIELDS_MOST];
@@ -188,7 +189,7 @@ static void keep_rows(void) {
         twin_read(k->kind, f + 6, f[5], k->row, SBP_FIELDS_MOST);
         /* the number of fields is the one that it is written with */
         for (k->fields = 0; k->fields <= SBP_FIELDS_MOST; k->fields++) {
-            if (twin_write(out, sizeof out, k->kind, k->sender, k->row, k->fields, &size) == 0) {
+            if (twin_write(out, sizeof out, k->kind, OWN, k->sender, k->row, k->fields, &size) == 0) {
                 kept_count++;
                 break;
             }
@@ -197,7 +198,8 @@ static void keep_rows(void) {
 }
 
 typedef uint8_t (*reader)(uint16_t kind, const uint8_t *payload, size_t n, uint64_t *row, size_t room);
-typedef uint8_t (*writer)(uint8_t *out, size_t room, uint16_t kind, uint32_t sender, const uint64_t *row, size_t fields, uint64_t *size);
+typedef uint8_t (*writer)(uint8_t *out, size_t room, uint16_t kind, uint16_t own, uint32_t sender, const uint64_t *row, size_t fields,
+                          uint64_t *size);
 
 /* The sum of all answers, and sums of the first eight numbers: same_rows has compared the rest. */
 static inline void read_all(reader read) {
@@ -238,7 +240,7 @@ static inline void write_all(writer write) {
     for (size_t i = 0; at + FRAME_MOST <= writing_room; i = i + 1 < kept_count ? i + 1 : 0) {
         const struct kept *k = &kept[i];
         uint64_t size = 0;
-        if (write(capture + at, writing_room - at, k->kind, k->sender, k->row, k->fields, &size) != 0) {
+        if (write(capture + at, writing_room - at, k->kind, OWN, k->sender, k->row, k->fields, &size) != 0) {
             break;
         }
         at += size;

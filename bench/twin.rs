@@ -7,6 +7,7 @@ use twin::fast::{
     closed, crc_sliced, crc_table, listing_into, read_row, write_row, Collator, Counts, Entry,
     Index,
 };
+use twin::frames::Writer;
 
 /// The listing last made; it grows once and is used again.
 static TEXT: Mutex<Vec<u8>> = Mutex::new(Vec::new());
@@ -141,6 +142,7 @@ pub unsafe extern "C" fn rust_write(
     out: *mut u8,
     room: usize,
     msg_type: u16,
+    own: u16,
     sender: u32,
     row: *const u64,
     fields: usize,
@@ -148,7 +150,8 @@ pub unsafe extern "C" fn rust_write(
 ) -> u8 {
     let out = unsafe { slice::from_raw_parts_mut(out, room) };
     let row = unsafe { slice::from_raw_parts(row, fields) };
-    match write_row(crc_table, out, msg_type, u16::try_from(sender).ok(), row) {
+    let given = u16::try_from(sender).ok();
+    match write_row(crc_table, out, msg_type, Writer { own, given }, row) {
         Ok(written) => {
             unsafe { *size = written as u64 }
             0

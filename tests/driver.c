@@ -142,32 +142,33 @@ static void observation(void) {
 }
 
 static void write_row(void) {
-    uint16_t kind = (uint16_t)number(2);
+    uint16_t kind = (uint16_t)number(2), own = (uint16_t)number(2);
     uint32_t sender = (uint32_t)number(4);
     struct block *out = room_for(1), *size = filled(8), *row = given(8);
-    reply(sbp_write(out->at, out->n, kind, sender, numbers(row), row->n / 8, numbers(size)), 1);
+    reply(sbp_write(out->at, out->n, kind, own, sender, numbers(row), row->n / 8, numbers(size)), 1);
 }
 
 static void write_obs(void) {
-    uint16_t kind = (uint16_t)number(2);
+    uint16_t kind = (uint16_t)number(2), own = (uint16_t)number(2);
     uint32_t sender = (uint32_t)number(4);
     struct block *out = room_for(1), *size = filled(8), *head = given(8), *rows = given(8);
-    reply(sbp_write_obs(out->at, out->n, kind, sender, numbers(head), head->n / 8, numbers(rows), rows->n / 8, numbers(size)), 1);
+    reply(sbp_write_obs(out->at, out->n, kind, own, sender, numbers(head), head->n / 8, numbers(rows), rows->n / 8, numbers(size)), 1);
 }
 
 static void write_log(void) {
+    uint16_t own = (uint16_t)number(2);
     uint32_t sender = (uint32_t)number(4);
     uint8_t level = (uint8_t)number(1);
     size_t padding = number(8);
     struct block *out = room_for(1), *size = filled(8), *words = given(1);
-    reply(sbp_write_log(out->at, out->n, sender, level, words->at, words->n, padding, numbers(size)), 1);
+    reply(sbp_write_log(out->at, out->n, own, sender, level, words->at, words->n, padding, numbers(size)), 1);
 }
 
 static void write_frame(void) {
-    uint16_t kind = (uint16_t)number(2);
+    uint16_t kind = (uint16_t)number(2), own = (uint16_t)number(2);
     uint32_t sender = (uint32_t)number(4);
     struct block *out = room_for(1), *size = filled(8), *payload = given(1);
-    reply(sbp_write_frame(out->at, out->n, kind, sender, payload->at, payload->n, numbers(size)), 1);
+    reply(sbp_write_frame(out->at, out->n, kind, own, sender, payload->at, payload->n, numbers(size)), 1);
 }
 
 /* ---- flags and phase */

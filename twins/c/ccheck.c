@@ -1,14 +1,18 @@
 /* Checks what clist and cindex do not show: the published CRC values, that a
  * message's fields fill its length, a LOG longer than any frame's, the
- * collator's making and refusals, an index's refusals, and the counts of closed
- * reading. */
+ * collator's making and refusals, an index's refusals, the counts of closed
+ * reading, and who a frame goes out as. */
 #include "fast.h"
 
+#include <stdbool.h>
 #include <stdio.h>
 #include <string.h>
 
 #include "index.h"
 #include "messages.h"
+#include "rows.h"
+
+enum { FRAME_MOST = 263 };
 
 static int failed;
 
@@ -105,11 +109,108 @@ static void check_index(void)
     check(twin_count(index, room, 0x0401, &count) == 0 && count == 0, "count");
 }
 
+/* A way to write a frame: raw or by its message's own writer, which for one
+ * without a tail takes so many numbers. */
+struct way {
+    const char *name;
+    uint16_t kind;
+    bool raw;
+    size_t fields;
+    bool as_client; /* given no sender it goes out as 0x42 */
+};
+
+static uint8_t write_by(const struct way *w, uint8_t *out, uint16_t own,
+                        uint32_t sender, uint64_t *size)
+{
+    static const uint64_t row[8];
+    static const uint8_t text[] = "ab";
+    if (w->raw)
+        return twin_write_frame(out, FRAME_MOST, w->kind, own, sender, text, 2,
+                                size);
+    switch (w->kind) {
+    case 0x0049:
+        return twin_write_obs(out, FRAME_MOST, w->kind, own, sender, row, 3,
+                              row, 8, size);
+    case 0x0401:
+        return twin_write_log(out, FRAME_MOST, own, sender, 6, text, 2, 1,
+                              size);
+    default:
+        return twin_write(out, FRAME_MOST, w->kind, own, sender, row, w->fields,
+                          size);
+    }
+}
+
+/* One whole frame, of that sender. */
+static void check_sender(const struct way *w, uint16_t own, uint32_t sender,
+                         uint16_t expected)
+{
+    uint8_t out[FRAME_MOST];
+    uint64_t size = 0;
+    struct sbp_counts counts;
+    check(write_by(w, out, own, sender, &size) == 0, w->name);
+    check(sbp_read_closed(out, size, &counts) == 1, w->name);
+    check(counts.frame_bytes == size, w->name);
+    check((out[1] | out[2] << 8) == w->kind, w->name);
+    check((out[3] | out[4] << 8) == expected, w->name);
+}
+
+static void check_senders(void)
+{
+    static const struct way ways[] = {
+        {"READ_BY_INDEX_REQ's sender", 0x00A2, false, 1, true},
+        {"SETTINGS_SAVE's sender", 0x00A1, false, 0, true},
+        {"LOG's sender", 0x0401, false, 0, false},
+        {"POS_ECEF's sender", 0x0200, false, 7, false},
+        {"OBS's sender", 0x0049, false, 0, false},
+        {"raw 0x00A1's sender", 0x00A1, true, 0, true},
+        {"raw 0x00A2's sender", 0x00A2, true, 0, true},
+        {"raw 0x00A0's sender", 0x00A0, true, 0, false},
+        {"raw 0x0800's sender", 0x0800, true, 0, false},
+    };
+    static const uint16_t owns[] = {0, 0x42, 1228, 65535};
+    static const uint16_t given[] = {0, 0x42, 7, 65535};
+    static const uint32_t none[] = {65536, 65536 + 7, UINT32_MAX};
+    for (size_t w = 0; w < sizeof ways / sizeof *ways; w++)
+        for (size_t o = 0; o < 4; o++) {
+            for (size_t g = 0; g < 4; g++)
+                check_sender(&ways[w], owns[o], given[g], given[g]);
+            for (size_t n = 0; n < 3; n++)
+                check_sender(&ways[w], owns[o], none[n],
+                             ways[w].as_client ? 0x42 : owns[o]);
+        }
+}
+
+/* Two recorders by turns on one line, with packets of one time: as one sender's
+ * they would be no epochs of two. */
+static void check_recorders(void)
+{
+    static char text[SBP_LIST_MAX];
+    static const char expected[] = "F 0 73 1228 7 0\nF 15 73 1229 7 0\n"
+                                   "F 30 73 1228 7 0\nE 1228 1900 1000 2 0\n"
+                                   "F 45 73 1229 7 0\nE 1229 1900 1000 2 0\n"
+                                   "T 60 60 0 0 0\n";
+    uint8_t line[60];
+    uint64_t at = 0, size = 0;
+    for (uint64_t packet = 0x20; packet <= 0x21; packet++)
+        for (uint16_t own = 1228; own <= 1229; own++) {
+            const uint64_t head[] = {1000, 1900, packet};
+            check(twin_write_obs(line + at, sizeof line - at, 0x0049, own,
+                                 65536, head, 3, NULL, 0, &size) == 0,
+                  "a recorder's packet");
+            at += size;
+        }
+    check(sbp_list(line, at, text) == sizeof expected - 1 &&
+              memcmp(text, expected, sizeof expected - 1) == 0,
+          "two recorders told apart");
+}
+
 int main(void)
 {
     check_lengths();
     check_crc();
     check_index();
+    check_senders();
+    check_recorders();
 
     /* A letter after zeros. */
     uint8_t log[256] = {0};

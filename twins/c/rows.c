@@ -5,7 +5,8 @@
 #include "fast.h"
 #include "messages.h"
 
-enum { PREAMBLE = 0x55, HEADER = 6, AROUND = 8, NO_SENDER = 0x42 };
+enum { PREAMBLE = 0x55, HEADER = 6, AROUND = 8 };
+enum { CLIENT = 0x42, SETTINGS_SAVE = 0x00A1, READ_BY_INDEX_REQ = 0x00A2 };
 enum { OBS = 0x0049, OBS_HEAD = 7, OBS_EACH = 16, OBS_MAX = 15 };
 enum { LOG = 0x0401, LOG_TEXT_MAX = 254 };
 enum { GPS_TIME_NS = 2 };
@@ -225,13 +226,22 @@ uint8_t twin_observation(uint16_t kind, const uint8_t *payload, size_t n,
     return 0;
 }
 
+/* The number that a frame goes out under. Devices obey settings from 0x42
+ * alone. */
+static uint16_t sent_as(uint16_t kind, uint16_t own, uint32_t sender)
+{
+    if (sender <= UINT16_MAX)
+        return (uint16_t)sender;
+    return kind == SETTINGS_SAVE || kind == READ_BY_INDEX_REQ ? CLIENT : own;
+}
+
 /* The six bytes before a payload; gives the place after them. */
-static uint8_t *put_header(uint8_t *out, uint16_t kind, uint32_t sender,
-                           size_t n)
+static uint8_t *put_header(uint8_t *out, uint16_t kind, uint16_t own,
+                           uint32_t sender, size_t n)
 {
     out[0] = PREAMBLE;
     put(out + 1, kind, 2);
-    put(out + 3, sender > UINT16_MAX ? NO_SENDER : sender, 2);
+    put(out + 3, sent_as(kind, own, sender), 2);
     out[5] = (uint8_t)n;
     return out + HEADER;
 }
@@ -244,8 +254,9 @@ static uint8_t seal(uint8_t *out, size_t n, uint64_t *size)
     return 0;
 }
 
-uint8_t twin_write(uint8_t *out, size_t room, uint16_t kind, uint32_t sender,
-                   const uint64_t *row, size_t fields, uint64_t *size)
+uint8_t twin_write(uint8_t *out, size_t room, uint16_t kind, uint16_t own,
+                   uint32_t sender, const uint64_t *row, size_t fields,
+                   uint64_t *size)
 {
     const struct format *f = format_of(kind);
     if (f == NULL)
@@ -256,11 +267,11 @@ uint8_t twin_write(uint8_t *out, size_t room, uint16_t kind, uint32_t sender,
         return 23;
     if (room < (size_t)f->length + AROUND)
         return 32;
-    put_fields(f->letters, row, put_header(out, kind, sender, f->length));
+    put_fields(f->letters, row, put_header(out, kind, own, sender, f->length));
     return seal(out, f->length, size);
 }
 
-uint8_t twin_write_obs(uint8_t *out, size_t room, uint16_t kind,
+uint8_t twin_write_obs(uint8_t *out, size_t room, uint16_t kind, uint16_t own,
                        uint32_t sender, const uint64_t *head, size_t fields,
                        const uint64_t *rows, size_t numbers, uint64_t *size)
 {
@@ -279,14 +290,14 @@ uint8_t twin_write_obs(uint8_t *out, size_t room, uint16_t kind,
     size_t n = OBS_HEAD + OBS_EACH * (numbers / each);
     if (room < n + AROUND)
         return 32;
-    uint8_t *p = put_header(out, kind, sender, n);
+    uint8_t *p = put_header(out, kind, own, sender, n);
     p = put_fields(obs_head.letters, head, p);
     for (size_t i = 0; i < numbers; i += each)
         p = put_fields(observation.letters, rows + i, p);
     return seal(out, n, size);
 }
 
-uint8_t twin_write_log(uint8_t *out, size_t room, uint32_t sender,
+uint8_t twin_write_log(uint8_t *out, size_t room, uint16_t own, uint32_t sender,
                        uint8_t level, const uint8_t *text, size_t n,
                        size_t padding, uint64_t *size)
 {
@@ -298,7 +309,7 @@ uint8_t twin_write_log(uint8_t *out, size_t room, uint32_t sender,
     size_t length = 1 + n + padding;
     if (room < length + AROUND)
         return 32;
-    uint8_t *p = put_header(out, LOG, sender, length);
+    uint8_t *p = put_header(out, LOG, own, sender, length);
     *p++ = level;
     if (n > 0)
         memcpy(p, text, n);
@@ -306,7 +317,7 @@ uint8_t twin_write_log(uint8_t *out, size_t room, uint32_t sender,
     return seal(out, length, size);
 }
 
-uint8_t twin_write_frame(uint8_t *out, size_t room, uint16_t kind,
+uint8_t twin_write_frame(uint8_t *out, size_t room, uint16_t kind, uint16_t own,
                          uint32_t sender, const uint8_t *payload, size_t n,
                          uint64_t *size)
 {
@@ -314,7 +325,7 @@ uint8_t twin_write_frame(uint8_t *out, size_t room, uint16_t kind,
         return 31;
     if (room < n + AROUND)
         return 32;
-    uint8_t *p = put_header(out, kind, sender, n);
+    uint8_t *p = put_header(out, kind, own, sender, n);
     if (n > 0)
         memcpy(p, payload, n);
     return seal(out, n, size);

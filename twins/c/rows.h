@@ -21,24 +21,26 @@ uint8_t twin_read(uint16_t kind, const uint8_t *payload, size_t n,
 uint8_t twin_observation(uint16_t kind, const uint8_t *payload, size_t n,
                          size_t index, uint64_t *row, size_t room);
 
-/* The frame of a message without a tail: 21, 22, 23, 32. A sender above 65535
- * is none given, here and below. */
-uint8_t twin_write(uint8_t *out, size_t room, uint16_t kind, uint32_t sender,
-                   const uint64_t *row, size_t fields, uint64_t *size);
+/* The frame of a message without a tail: 21, 22, 23, 32. Here and below a
+ * sender above 65535 is none given: the frame then goes out under the
+ * recorder's own number, or as 0x42 where its type is 0x00A1 or 0x00A2. */
+uint8_t twin_write(uint8_t *out, size_t room, uint16_t kind, uint16_t own,
+                   uint32_t sender, const uint64_t *row, size_t fields,
+                   uint64_t *size);
 
 /* tow, wn and n_obs, then eight numbers an observation: 21, 22, 23, 31, 32. */
-uint8_t twin_write_obs(uint8_t *out, size_t room, uint16_t kind,
+uint8_t twin_write_obs(uint8_t *out, size_t room, uint16_t kind, uint16_t own,
                        uint32_t sender, const uint64_t *head, size_t fields,
                        const uint64_t *rows, size_t numbers, uint64_t *size);
 
 /* n bytes of text, then the padding's zeros: 23 for a zero in the text, 31,
  * 32. */
-uint8_t twin_write_log(uint8_t *out, size_t room, uint32_t sender,
+uint8_t twin_write_log(uint8_t *out, size_t room, uint16_t own, uint32_t sender,
                        uint8_t level, const uint8_t *text, size_t n,
                        size_t padding, uint64_t *size);
 
 /* 31, 32. */
-uint8_t twin_write_frame(uint8_t *out, size_t room, uint16_t kind,
+uint8_t twin_write_frame(uint8_t *out, size_t room, uint16_t kind, uint16_t own,
                          uint32_t sender, const uint8_t *payload, size_t n,
                          uint64_t *size);
 

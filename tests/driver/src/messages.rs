@@ -54,33 +54,33 @@ fn unasked() -> io::Error {
 
 pub fn write(request: &mut Request<impl Read>, reply: &mut Reply) -> io::Result<()> {
     let kind = request.u16()?;
-    let (sender, room) = (request.sender()?, request.count()?);
+    let (writer, room) = (request.writer()?, request.count()?);
     let message = of_row(kind, &request.numbers()?).ok_or_else(unasked)?;
     written(
         reply,
         room,
-        |out| message.write(sender, out),
-        || message.frame(sender),
+        |out| message.write(writer, out),
+        || message.frame(writer),
     );
     Ok(())
 }
 
 pub fn write_obs(request: &mut Request<impl Read>, reply: &mut Reply) -> io::Result<()> {
     request.u16()?;
-    let (sender, room) = (request.sender()?, request.count()?);
+    let (writer, room) = (request.writer()?, request.count()?);
     let (head, rows) = (request.numbers()?, request.numbers()?);
     let obs = obs_of(&head, &rows).ok_or_else(unasked)?;
     written(
         reply,
         room,
-        |out| obs.write(sender, out),
-        || obs.frame(sender),
+        |out| obs.write(writer, out),
+        || obs.frame(writer),
     );
     Ok(())
 }
 
 pub fn write_log(request: &mut Request<impl Read>, reply: &mut Reply) -> io::Result<()> {
-    let sender = request.sender()?;
+    let writer = request.writer()?;
     let level = request.u8()?;
     let padding = request.u64()? as usize;
     let room = request.count()?;
@@ -93,26 +93,26 @@ pub fn write_log(request: &mut Request<impl Read>, reply: &mut Reply) -> io::Res
     written(
         reply,
         room,
-        |out| log.write(sender, out),
-        || log.frame(sender),
+        |out| log.write(writer, out),
+        || log.frame(writer),
     );
     Ok(())
 }
 
 pub fn write_frame(request: &mut Request<impl Read>, reply: &mut Reply) -> io::Result<()> {
     let kind = request.u16()?;
-    let (sender, room) = (request.sender()?, request.count()?);
+    let (writer, room) = (request.writer()?, request.count()?);
     let payload = request.bytes()?;
     let again = || {
         let mut out = vec![0; LONGEST_FRAME];
-        let size = yaqtumeer::write_frame(&mut out, kind, sender, &payload)?;
+        let size = yaqtumeer::write_frame(&mut out, kind, writer, &payload)?;
         out.truncate(size);
         Ok(out)
     };
     written(
         reply,
         room,
-        |out| yaqtumeer::write_frame(out, kind, sender, &payload),
+        |out| yaqtumeer::write_frame(out, kind, writer, &payload),
         again,
     );
     Ok(())

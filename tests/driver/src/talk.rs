@@ -2,7 +2,7 @@
 
 use std::io::{self, Read};
 
-use yaqtumeer::Refusal;
+use yaqtumeer::{Refusal, Writer};
 
 /// What a lent buffer holds before a call, and what stands around it.
 const FILL: u8 = 0xEE;
@@ -60,9 +60,11 @@ impl<R: Read> Request<R> {
         (0..self.count()?).map(|_| self.u64()).collect()
     }
 
-    /// Above 65535 none is given.
-    pub fn sender(&mut self) -> io::Result<Option<u16>> {
-        Ok(u16::try_from(self.u32()?).ok())
+    /// The recorder's own number and the sender; above 65535 none is given.
+    pub fn writer(&mut self) -> io::Result<Writer> {
+        let recorder = Writer::new(self.u16()?);
+        let given = u16::try_from(self.u32()?);
+        Ok(given.map_or(recorder, |sender| recorder.named(sender)))
     }
 }
 

@@ -2,8 +2,11 @@
 //! both round trips, and lengths one off.
 
 use twin::fast::{crc_table, read_row, write_row};
+use twin::frames::Writer;
 use twin::gen::{valid, Rng, RETIRED};
 use twin::messages::*;
+
+const OURS: Writer = Writer::new(513);
 
 /// What stands at an offset, as a field of 003's format and as its number.
 macro_rules! formats {
@@ -44,14 +47,14 @@ fn round_trips<T: Fixed + PartialEq + std::fmt::Debug>(payload: &[u8], row: &[u6
     assert_eq!(T::of_row(row).as_ref(), Ok(&record));
     let (mut out, mut fast, mut numbers) = ([0; 263], [0; 263], [7; 33]);
     let size = payload.len() + 8;
-    assert_eq!(record.write(Some(513), &mut out), Ok(size));
+    assert_eq!(record.write(OURS, &mut out), Ok(size));
     assert_eq!(out[6..size - 2], *payload);
     assert_eq!(T::read(&out[6..size - 2]), Ok(record));
 
     assert_eq!(read_row(T::TYPE, payload, &mut numbers), 0);
     assert_eq!(numbers[..row.len()], *row);
     assert_eq!(
-        write_row(crc_table, &mut fast, T::TYPE, Some(513), row),
+        write_row(crc_table, &mut fast, T::TYPE, OURS, row),
         Ok(size)
     );
     assert_eq!(fast, out);
@@ -68,12 +71,12 @@ fn one_off<T: Fixed + PartialEq + std::fmt::Debug>(payload: &[u8], row: &[u64]) 
     let more = [row, &[0]].concat();
     for wrong in [&row[1..], &more, &[]] {
         assert_eq!(T::of_row(wrong), Err(22));
-        assert_eq!(write_row(crc_table, &mut [], T::TYPE, None, wrong), Err(22));
+        assert_eq!(write_row(crc_table, &mut [], T::TYPE, OURS, wrong), Err(22));
     }
     let mut short = vec![0xA7; payload.len() + 7];
-    assert_eq!(T::read(payload).unwrap().write(None, &mut short), Err(32));
+    assert_eq!(T::read(payload).unwrap().write(OURS, &mut short), Err(32));
     assert_eq!(
-        write_row(crc_table, &mut short, T::TYPE, None, row),
+        write_row(crc_table, &mut short, T::TYPE, OURS, row),
         Err(32)
     );
     assert!(short.iter().all(|&b| b == 0xA7));
@@ -218,7 +221,7 @@ fn group_delays_are_signed() {
     }
     for tgd in [32768, -32769, 65535, 65536, i64::MIN, i64::MAX] {
         assert_eq!(GroupDelay::of_row(&row_of(tgd)), Err(23));
-        let written = write_row(crc_table, &mut [0; 22], 0x0092, None, &row_of(tgd));
+        let written = write_row(crc_table, &mut [0; 22], 0x0092, OURS, &row_of(tgd));
         assert_eq!(written, Err(23));
     }
 }

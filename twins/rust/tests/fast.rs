@@ -3,6 +3,7 @@
 use twin::crc::crc;
 use twin::epochs::Outcome;
 use twin::fast::{closed, crc_sliced, crc_table, listing_into, read_row, write_row};
+use twin::frames::Writer;
 use twin::gen::{self, broken_range, off_length, valid, Rng};
 use twin::listing::listing;
 use twin::messages::{EphemerisGps, Field, Message};
@@ -158,11 +159,14 @@ fn rows_agree() {
             let at = rng.below(numbers.len());
             numbers[at] = rng.word() >> rng.below(64);
         }
-        let sender = rng.chance(1, 2).then(|| rng.word() as u16);
+        let writer = Writer {
+            own: rng.word() as u16,
+            given: rng.chance(1, 2).then(|| rng.word() as u16),
+        };
         let mut ours = vec![0; rng.pick(&[20, 40, 120, 200]) + rng.below(3)];
         let mut fast = ours.clone();
-        let written = Message::of_row(msg_type, &numbers).and_then(|m| m.write(sender, &mut ours));
-        let theirs = write_row(crc_table, &mut fast, msg_type, sender, &numbers);
+        let written = Message::of_row(msg_type, &numbers).and_then(|m| m.write(writer, &mut ours));
+        let theirs = write_row(crc_table, &mut fast, msg_type, writer, &numbers);
         assert_eq!((written, ours), (theirs, fast), "{msg_type} {numbers:x?}");
     }
 }

@@ -1,6 +1,6 @@
 //! Finding, resuming and writing frames.
 
-use twin::frames::{closed, open, step, write, Step};
+use twin::frames::{closed, open, step, write, Step, Writer};
 use twin::gen;
 
 #[test]
@@ -64,13 +64,13 @@ fn short_says_what_is_needed() {
 #[test]
 fn a_true_frame_inside_a_bad_one_is_found() {
     let mut inner = [0; 20];
-    let inner_size = write(0xFFFF, Some(7), &[1, 2, 3, 4], &mut inner).unwrap();
+    let inner_size = write(0xFFFF, Writer::new(7), &[1, 2, 3, 4], &mut inner).unwrap();
     let mut outer = [0; 40];
-    let size = write(0x0800, None, &inner[..inner_size], &mut outer).unwrap();
+    let size = write(0x0800, Writer::new(8), &inner[..inner_size], &mut outer).unwrap();
     // Whole, the outer one alone is a frame.
     let reading = closed(&outer[..size]);
     assert_eq!(reading.frames.len(), 1);
-    assert_eq!(reading.frames[0].sender, 0x42);
+    assert_eq!(reading.frames[0].sender, 8);
     // Damaged, it is passed by one byte and the inner one is found.
     outer[size - 1] ^= 1;
     let reading = closed(&outer[..size]);
@@ -91,7 +91,7 @@ fn writer_refusals_leave_the_buffer() {
         (4, 20, Ok(12)),
     ] {
         let mut out = vec![0xA7; room];
-        let got = write(0x0800, Some(1), &payload[..length], &mut out);
+        let got = write(0x0800, Writer::new(1), &payload[..length], &mut out);
         assert_eq!(got, expected);
         let untouched = got.unwrap_or(0);
         assert!(out[untouched..].iter().all(|&b| b == 0xA7));

@@ -1,7 +1,7 @@
 //! An index beside a capture: made afresh, extended, asked.
 
 use twin::fast;
-use twin::frames::{open, write};
+use twin::frames::{open, write, Writer};
 use twin::gen::{self, Rng};
 use twin::index::{Entry, Index, COUNTED};
 
@@ -15,7 +15,7 @@ const OTHER: Entry = Entry {
 
 fn frame(msg_type: u16, sender: u16, payload: &[u8]) -> Vec<u8> {
     let mut out = [0; 263];
-    let size = write(msg_type, Some(sender), payload, &mut out).unwrap();
+    let size = write(msg_type, Writer::new(0).named(sender), payload, &mut out).unwrap();
     out[..size].to_vec()
 }
 

@@ -1,9 +1,11 @@
 //! Reading and writing of every message.
 
-use twin::frames::{closed, write};
+use twin::frames::{closed, write, Writer};
 use twin::gen::{broken_range, off_length, valid, Rng, TYPES};
 use twin::messages::flags::*;
 use twin::messages::*;
+
+const OURS: Writer = Writer::new(1228);
 
 /// Payload to record to frame gives the frame of that payload, bit for bit.
 #[test]
@@ -14,19 +16,15 @@ fn round_trips() {
             let payload = valid(&mut rng, msg_type);
             assert_eq!(answer(msg_type, &payload), 0);
             let message = Message::read(msg_type, &payload).unwrap();
-            let sender = rng.word() as u16;
+            let writer = OURS.named(rng.word() as u16);
             let size = payload.len() + 8;
 
             let mut raw = vec![0; size];
-            assert_eq!(write(msg_type, Some(sender), &payload, &mut raw), Ok(size));
+            assert_eq!(write(msg_type, writer, &payload, &mut raw), Ok(size));
             let mut out = vec![0xA7; size + 3];
-            assert_eq!(message.write(Some(sender), &mut out), Ok(size));
+            assert_eq!(message.write(writer, &mut out), Ok(size));
             assert_eq!(out[..size], raw);
             assert_eq!(out[size..], [0xA7; 3]);
-
-            // No sender given: 0x42.
-            assert_eq!(message.write(None, &mut out), Ok(size));
-            assert_eq!(out[3..5], [0x42, 0]);
             let reading = closed(&out[..size]);
             assert_eq!(reading.frames.len(), 1);
             assert_eq!(
@@ -36,7 +34,7 @@ fn round_trips() {
 
             // One byte too few: 32, and nothing written.
             let mut small = vec![0xA7; size - 1];
-            assert_eq!(message.write(None, &mut small), Err(32));
+            assert_eq!(message.write(OURS, &mut small), Err(32));
             assert!(small.iter().all(|&b| b == 0xA7));
         }
     }
@@ -140,21 +138,21 @@ fn writing_out_of_range() {
         ns: 500_001,
         flags: 0,
     };
-    assert_eq!(time.write(None, &mut out), Err(23));
-    assert_eq!(time.write(None, &mut []), Err(23));
+    assert_eq!(time.write(OURS, &mut out), Err(23));
+    assert_eq!(time.write(OURS, &mut []), Err(23));
     let heading = BaselineHeading {
         tow: 0,
         heading: 0,
         n_sats: 0,
         flags: 2,
     };
-    assert_eq!(heading.write(None, &mut []), Err(23));
+    assert_eq!(heading.write(OURS, &mut []), Err(23));
     assert_eq!(
         BaselineHeading {
             flags: 1,
             ..heading
         }
-        .write(None, &mut []),
+        .write(OURS, &mut []),
         Err(32)
     );
     assert!(out.iter().all(|&b| b == 0xA7));
@@ -177,7 +175,7 @@ fn doubles_keep_their_bits() {
             z: double,
         };
         let mut out = [0; 32];
-        record.write(None, &mut out).unwrap();
+        record.write(OURS, &mut out).unwrap();
         assert_eq!(out[6..14], bits.to_le_bytes());
         assert_eq!(BasePosEcef::read(&out[6..30]), Ok(record));
     }
@@ -201,14 +199,14 @@ fn observations() {
         reserved: 13,
     };
     let mut out = [0xA7; 300];
-    assert_eq!(write_obs(&header, &[one; 16], None, &mut out), Err(31));
-    assert_eq!(write_obs(&header, &[one; 16], None, &mut []), Err(31));
+    assert_eq!(write_obs(&header, &[one; 16], OURS, &mut out), Err(31));
+    assert_eq!(write_obs(&header, &[one; 16], OURS, &mut []), Err(31));
     assert_eq!(
-        write_obs(&header, &[one; 15], None, &mut out[..254]),
+        write_obs(&header, &[one; 15], OURS, &mut out[..254]),
         Err(32)
     );
     assert!(out.iter().all(|&b| b == 0xA7));
-    assert_eq!(write_obs(&header, &[one; 2], None, &mut out), Ok(47));
+    assert_eq!(write_obs(&header, &[one; 2], OURS, &mut out), Ok(47));
     let payload = &out[6..45];
     assert_eq!(
         payload[7..23],
@@ -240,7 +238,7 @@ fn log(level: u8, text: &[u8], padding: usize) -> Log<'_> {
 /// What a LOG answers when it is written with much room; no refusal writes.
 fn log_written(text: &[u8], padding: usize) -> Result<usize, u8> {
     let mut out = [0xA7; 300];
-    let written = log(6, text, padding).write(None, &mut out);
+    let written = log(6, text, padding).write(OURS, &mut out);
     assert!(out[written.unwrap_or(0)..].iter().all(|&b| b == 0xA7));
     written
 }
@@ -272,7 +270,7 @@ fn log_read() {
         assert_eq!(row[3], 7);
 
         let mut out = [0; 263];
-        let size = expected.write(None, &mut out).unwrap();
+        let size = expected.write(OURS, &mut out).unwrap();
         assert_eq!(&out[6..size - 2], payload);
     }
 }
@@ -307,7 +305,7 @@ fn log_text_with_a_zero() {
         for padding in [0, 1, 254, usize::MAX] {
             assert_eq!(log_written(text, padding), Err(23), "{text:x?}");
         }
-        assert_eq!(log(6, text, 0).write(None, &mut []), Err(23));
+        assert_eq!(log(6, text, 0).write(OURS, &mut []), Err(23));
     }
     for at in [0, 150, 299] {
         let mut long = [b'x'; 300];
@@ -328,13 +326,13 @@ fn log_room() {
             assert_eq!(log_written(text, padding), Err(31), "{length} {padding}");
         }
         // 31 comes before 32.
-        assert_eq!(log(6, text, left + 1).write(None, &mut []), Err(31));
-        assert_eq!(log(6, text, left).write(None, &mut [0; 262]), Err(32));
+        assert_eq!(log(6, text, left + 1).write(OURS, &mut []), Err(31));
+        assert_eq!(log(6, text, left).write(OURS, &mut [0; 262]), Err(32));
     }
     assert_eq!(log_written(&text, 0), Err(31));
     assert_eq!(log_written(b"", 0), Ok(9));
     assert_eq!(log_written(b"ab", 3), Ok(14));
-    assert_eq!(log(6, b"ab", 3).write(None, &mut [0; 13]), Err(32));
+    assert_eq!(log(6, b"ab", 3).write(OURS, &mut [0; 13]), Err(32));
 }
 
 #[test]

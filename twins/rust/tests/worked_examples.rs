@@ -2,7 +2,7 @@
 
 use twin::crc::{crc, frame_crc};
 use twin::epochs::{Collator, Epoch, Outcome};
-use twin::frames::{closed, open, step, Counts, Step};
+use twin::frames::{closed, open, step, Counts, Step, Writer};
 use twin::messages::*;
 
 /// 003 section 4.
@@ -51,7 +51,7 @@ fn example_frame() {
     };
     assert_eq!(BaselineEcef::read(frame.payload), Ok(record));
     let mut out = [0; 28];
-    assert_eq!(record.write(Some(1228), &mut out), Ok(28));
+    assert_eq!(record.write(Writer::new(1228), &mut out), Ok(28));
     assert_eq!(out, EXAMPLE);
 }
 

@@ -1,5 +1,6 @@
 //! The same answers, written for speed: for benchmarks, and as a check on
-//! the plain modules. No code is shared with them.
+//! the plain modules. No code is shared with them; `Writer` is two numbers to
+//! both.
 
 mod answer;
 mod collate;

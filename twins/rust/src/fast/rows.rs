@@ -3,10 +3,11 @@
 use super::answer::{log_text, obs_length};
 use super::formats::Field::{self, Double, S16, S32, U16, U32, U8};
 use super::formats::{format_of, Format, OBS_HEAD};
+use crate::frames::Writer;
 
 const HEADER: usize = 6;
 const AROUND: usize = 8;
-const NO_SENDER: u16 = 0x42;
+const CLIENT: u16 = 0x42;
 
 impl Format {
     /// The numbers of a payload that is long enough, at the start of `row`.
@@ -114,13 +115,24 @@ fn read_log(payload: &[u8], row: &mut [u64]) -> Result<(), u8> {
     Ok(())
 }
 
+/// The number that a frame goes out under.
+#[inline]
+fn sender(msg_type: u16, writer: Writer) -> u16 {
+    match (writer.given, msg_type) {
+        (Some(given), _) => given,
+        (None, 0x00A1 | 0x00A2) => CLIENT,
+        (None, _) => writer.own,
+    }
+}
+
 /// The frame of a row at the start of `out`, and its size; or 21, 22, 23, 32.
 /// `crc` is `crc_table` or `crc_sliced`.
+#[inline]
 pub fn write_row(
     crc: impl Fn(u16, &[u8]) -> u16,
     out: &mut [u8],
     msg_type: u16,
-    sender: Option<u16>,
+    writer: Writer,
     row: &[u64],
 ) -> Result<usize, u8> {
     let format = format_of(msg_type).ok_or(21)?;
@@ -135,7 +147,7 @@ pub fn write_row(
     let out = out.get_mut(..size).ok_or(32)?;
     out[0] = 0x55;
     out[1..3].copy_from_slice(&msg_type.to_le_bytes());
-    out[3..5].copy_from_slice(&sender.unwrap_or(NO_SENDER).to_le_bytes());
+    out[3..5].copy_from_slice(&sender(msg_type, writer).to_le_bytes());
     out[5] = format.length as u8;
     let mut at = HEADER;
     for (&number, field) in row.iter().zip(format.fields) {

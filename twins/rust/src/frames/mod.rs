@@ -4,12 +4,14 @@ mod closed;
 mod open;
 mod step;
 mod write;
+mod writer;
 
 pub use closed::{closed, Closed};
 pub use open::{open, Open};
 use step::PREAMBLE;
 pub use step::{step, Frame, Step};
 pub use write::write;
+pub use writer::Writer;
 
 /// Header of 6 bytes and CRC of 2 around every payload.
 const AROUND: usize = 8;

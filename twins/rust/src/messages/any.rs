@@ -2,6 +2,7 @@
 //! that C and Rust exchange for it.
 
 use super::*;
+use crate::frames::Writer;
 use crate::numbers::{No, TYPE_UNKNOWN};
 
 /// The messages of fixed length, by the name of their record, among the two
@@ -27,13 +28,13 @@ macro_rules! messages {
             }
 
             /// Writes the whole frame; 23, 31, 32 in that order.
-            pub fn write(&self, sender: Option<u16>, out: &mut [u8]) -> Result<usize, No> {
+            pub fn write(&self, writer: Writer, out: &mut [u8]) -> Result<usize, No> {
                 match self {
-                    $(Message::$fixed(m) => m.write(sender, out),)*
+                    $(Message::$fixed(m) => m.write(writer, out),)*
                     Message::Obs(header, observations) => {
-                        write_obs(header, observations, sender, out)
+                        write_obs(header, observations, writer, out)
                     }
-                    Message::Log(m) => m.write(sender, out),
+                    Message::Log(m) => m.write(writer, out),
                 }
             }
 

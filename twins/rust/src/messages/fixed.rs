@@ -1,7 +1,7 @@
 //! A message of fixed length is a list of fields in order, and a range.
 
 use super::Field;
-use crate::frames;
+use crate::frames::{self, Writer};
 use crate::numbers::{No, LENGTH_WRONG, OUT_OF_RANGE};
 
 pub trait Fixed: Field {
@@ -24,13 +24,13 @@ pub trait Fixed: Field {
 
     /// Writes the whole frame at the start of `out` and gives its size: 23,
     /// 31, 32.
-    fn write(&self, sender: Option<u16>, out: &mut [u8]) -> Result<usize, No> {
+    fn write(&self, writer: Writer, out: &mut [u8]) -> Result<usize, No> {
         if !self.in_range() {
             return Err(OUT_OF_RANGE);
         }
         let mut payload = Vec::with_capacity(Self::SIZE);
         self.put(&mut payload);
-        frames::write(Self::TYPE, sender, &payload, out)
+        frames::write(Self::TYPE, writer, &payload, out)
     }
 }
 

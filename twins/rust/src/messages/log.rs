@@ -1,7 +1,7 @@
 //! LOG, as request P1 has it: a level, a text that ends before the first zero,
 //! and zeros alone after it.
 
-use crate::frames;
+use crate::frames::{self, Writer};
 use crate::numbers::{No, LENGTH_WRONG, OUT_OF_RANGE, PAYLOAD_TOO_LONG};
 
 /// The text is bytes (003 says string), none of them zero. The padding counts
@@ -37,7 +37,7 @@ impl<'a> Log<'a> {
     }
 
     /// 23 for a zero in the text, however long that is; then 31, 32.
-    pub fn write(&self, sender: Option<u16>, out: &mut [u8]) -> Result<usize, No> {
+    pub fn write(&self, writer: Writer, out: &mut [u8]) -> Result<usize, No> {
         if self.text.contains(&0) {
             return Err(OUT_OF_RANGE);
         }
@@ -48,6 +48,6 @@ impl<'a> Log<'a> {
         let mut payload = vec![self.level];
         payload.extend_from_slice(self.text);
         payload.resize(length, 0);
-        frames::write(Self::TYPE, sender, &payload, out)
+        frames::write(Self::TYPE, writer, &payload, out)
     }
 }

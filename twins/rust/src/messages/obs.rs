@@ -2,7 +2,7 @@
 
 use super::group::group;
 use super::Field;
-use crate::frames;
+use crate::frames::{self, Writer};
 use crate::numbers::{No, LENGTH_WRONG, NO_SUCH_OBSERVATION, PAYLOAD_TOO_LONG};
 
 pub const OBS_TYPE: u16 = 0x0049;
@@ -85,7 +85,7 @@ pub fn observation(payload: &[u8], index: usize) -> Result<Observation, No> {
 pub fn write_obs(
     header: &ObsHeader,
     observations: &[Observation],
-    sender: Option<u16>,
+    writer: Writer,
     out: &mut [u8],
 ) -> Result<usize, No> {
     if observations.len() > MAX_OBSERVATIONS {
@@ -94,7 +94,7 @@ pub fn write_obs(
     let mut payload = Vec::new();
     header.put(&mut payload);
     observations.iter().for_each(|each| each.put(&mut payload));
-    frames::write(OBS_TYPE, sender, &payload, out)
+    frames::write(OBS_TYPE, writer, &payload, out)
 }
 
 /// Steps through a payload's observations.

@@ -5,6 +5,8 @@ use std::collections::BTreeMap;
 use std::io::{Read, Write};
 use std::process::{exit, Child, ChildStdin, ChildStdout, Command, Stdio};
 
+use crate::senders::{Source, Who};
+
 /// What a lent buffer holds before a call.
 pub const FILL: u8 = 0xEE;
 
@@ -20,6 +22,7 @@ pub enum Side {
 pub struct Question {
     name: &'static str,
     kind: Option<u16>,
+    who: Option<Who>,
     bytes: Vec<u8>,
 }
 
@@ -28,6 +31,7 @@ impl Question {
         Question {
             name,
             kind: None,
+            who: None,
             bytes: vec![letter],
         }
     }
@@ -36,6 +40,12 @@ impl Question {
     pub fn of(mut self, kind: u16) -> Question {
         self.kind = Some(kind);
         self.put(&kind.to_le_bytes())
+    }
+
+    /// Puts who writes, by which the frame is counted too.
+    pub fn by(mut self, who: Who) -> Question {
+        self.who = Some(who);
+        self.put(&who.bytes())
     }
 
     pub fn put(mut self, bytes: &[u8]) -> Question {
@@ -90,6 +100,8 @@ pub struct Asked {
     pub side: Side,
     pub times: BTreeMap<(&'static str, u8), u64>,
     pub times_of: BTreeMap<(u16, &'static str, u8), u64>,
+    /// Of frames written, by where their number comes from.
+    pub times_sent: BTreeMap<(&'static str, Source), u64>,
     pub calls: u64,
     pub failed: u64,
     child: Child,
@@ -109,6 +121,7 @@ impl Asked {
             side,
             times: BTreeMap::new(),
             times_of: BTreeMap::new(),
+            times_sent: BTreeMap::new(),
             calls: 0,
             failed: 0,
             to: child.stdin.take().expect("it has an input"),
@@ -129,6 +142,10 @@ impl Asked {
         if let Some(kind) = question.kind {
             let of = (kind, question.name, answer);
             *self.times_of.entry(of).or_default() += 1;
+        }
+        if let (Some(who), 0) = (question.who, answer) {
+            let sent = (question.name, who.source(question.kind));
+            *self.times_sent.entry(sent).or_default() += 1;
         }
         self.calls += 1;
         let mut reply = vec![0; size];

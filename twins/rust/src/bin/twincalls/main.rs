@@ -5,9 +5,11 @@
 //! A request is a letter and its arguments, little-endian; what is lent to be
 //! read comes as a count and its contents, what is lent to be written as a
 //! count, and it is filled with 0xEE first (an index to be extended and its
-//! list come with their contents). A reply is the answer, a byte that is 1
-//! where nothing else was touched, and the FNV-1a hash of all bytes of each
-//! buffer lent to be written; where nothing is lent, the answer alone.
+//! list come with their contents). Who writes comes as the recorder's own number
+//! in 2 bytes, then the sender in 4 (above 65535 none is given). A reply is the
+//! answer, a byte that is 1 where nothing else was touched, and the FNV-1a hash
+//! of all bytes of each buffer lent to be written; where nothing is lent, the
+//! answer alone.
 //!
 //! usage: twincalls SEED COUNT c|rust COMMAND [WORD..]
 
@@ -18,6 +20,7 @@ mod feeding;
 mod indexes;
 mod meanings;
 mod reading;
+mod senders;
 mod states;
 mod values;
 mod wanted;

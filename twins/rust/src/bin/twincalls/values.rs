@@ -1,4 +1,4 @@
-//! Types, senders, rooms, payloads and numbers to ask with.
+//! Types, rooms, payloads and numbers to ask with.
 
 use twin::gen::{broken_range, off_length, valid, Rng, TYPES};
 use twin::messages::Message;
@@ -75,15 +75,6 @@ pub fn kind_near(rng: &mut Rng, kind: u16) -> u16 {
         4 => rng.word() as u16,
         5 => rng.pick(&TYPES),
         _ => kind,
-    }
-}
-
-/// Above 65535 none is given.
-pub fn sender(rng: &mut Rng) -> u32 {
-    match rng.below(4) {
-        0 => u32::from(rng.word() as u16),
-        1 => rng.word() as u32,
-        _ => rng.pick(&[0, 0x42, 1228, 65535, 65536, u32::MAX]),
     }
 }
 

@@ -7,6 +7,7 @@ use twin::gen::TYPES;
 use twin::messages::{Log, OBS_TYPE};
 
 use crate::asked::{Asked, Side};
+use crate::senders::Source::{self, Client, Given, Own};
 
 type Wanted = (&'static str, &'static [u8]);
 
@@ -66,6 +67,14 @@ const OF_RUST: [Wanted; 16] = [
     ("count", &[0, 21]),
 ];
 
+/// What writes, and whose numbers its frames are to go out under.
+const SENT: [(&str, &[Source]); 4] = [
+    ("write", &[Given, Own, Client]),
+    ("write_obs", &[Given, Own]),
+    ("write_log", &[Given, Own]),
+    ("write_frame", &[Given, Own, Client]),
+];
+
 const RANGED: [u16; 6] = [0x0100, 0x0200, 0x0201, 0x0202, 0x0203, 0x0207];
 const WITHOUT_FIELDS: [u16; 2] = [0x00A1, 0x00A6];
 /// Doubles, which take any number.
@@ -100,6 +109,9 @@ pub fn report(asked: &Asked) {
         }
     }
     line("refusals", &refusals);
+    for ((name, source), times) in &asked.times_sent {
+        println!("{name} as {}: {times} frames", source.name());
+    }
 }
 
 /// The answers that a message is to give, read and written.
@@ -140,6 +152,14 @@ pub fn missing(asked: &Asked) -> u64 {
         for number in *numbers {
             if !asked.times.contains_key(&(name, *number)) {
                 println!("not reached: {name} {number}");
+                missing += 1;
+            }
+        }
+    }
+    for (name, sources) in SENT {
+        for &source in sources {
+            if !asked.times_sent.contains_key(&(name, source)) {
+                println!("not reached: {name} as {}", source.name());
                 missing += 1;
             }
         }

@@ -7,20 +7,36 @@ use twin::numbers::{No, TYPE_UNKNOWN};
 
 use crate::asked::{as_bytes, told, Asked, Question, Side, FILL};
 use crate::reading::{ask_back, ask_observation_back};
-use crate::values::{exchange, kind_near, miscount, payload, room, row, sender};
+use crate::senders::{Who, AS_CLIENT};
+use crate::values::{exchange, kind_near, miscount, payload, room, row};
 
 /// More than any frame takes.
 const MOST: usize = 300;
 
 pub fn ask(asked: &mut Asked, rng: &mut Rng) {
     for known in TYPES {
-        ask_write(asked, rng, known);
+        let who = Who::any(rng);
+        ask_write(asked, rng, known, who);
     }
     for _ in 0..8 {
         ask_write_obs(asked, rng);
         ask_write_log(asked, rng);
-        ask_write_frame(asked, rng);
+        let (known, who) = (rng.pick(&TYPES), Who::any(rng));
+        ask_write_frame(asked, rng, known, who);
     }
+    ask_unnamed(asked, rng);
+}
+
+/// The types that go out as 0x42, by both ways to write them, and the others of
+/// settings and files, which go out as any does.
+fn ask_unnamed(asked: &mut Asked, rng: &mut Rng) {
+    for known in AS_CLIENT {
+        let who = Who::unnamed(rng);
+        ask_write(asked, rng, known, who);
+        ask_write_frame(asked, rng, known, who);
+    }
+    let (known, who) = (rng.pick(&[0x00A0, 0x00A4, 0x00A8]), Who::unnamed(rng));
+    ask_write_frame(asked, rng, known, who);
 }
 
 /// What a writer answers, and leaves in a buffer of that room and in the size.
@@ -61,22 +77,17 @@ impl Written {
     }
 }
 
-fn given(sender: u32) -> Option<u16> {
-    u16::try_from(sender).ok()
-}
-
-fn ask_write(asked: &mut Asked, rng: &mut Rng, known: u16) {
+fn ask_write(asked: &mut Asked, rng: &mut Rng, known: u16, who: Who) {
     let mut numbers = row(rng, known);
     miscount(rng, &mut numbers);
     let kind = kind_near(rng, known);
-    let sender = sender(rng);
     let message = Message::of_row(kind, &numbers);
     if asked.side == Side::Rust && message.is_err() {
         return;
     }
-    let written = Written::by(rng, |out| message.clone()?.write(given(sender), out));
-    let question = Question::new("write", b'w').of(kind);
-    let question = question.put(&sender.to_le_bytes()).count(written.out.len());
+    let written = Written::by(rng, |out| message.clone()?.write(who.writer(), out));
+    let question = Question::new("write", b'w').of(kind).by(who);
+    let question = question.count(written.out.len());
     written.asked(asked, question.numbers(&numbers));
     if let Some(frame) = written.frame() {
         ask_back(asked, kind, frame, &numbers);
@@ -106,8 +117,7 @@ fn ask_write_obs(asked: &mut Asked, rng: &mut Rng) {
     let (mut head, mut rows) = obs_rows(rng);
     miscount(rng, &mut head);
     miscount(rng, &mut rows);
-    let kind = kind_near(rng, OBS_TYPE);
-    let sender = sender(rng);
+    let (kind, who) = (kind_near(rng, OBS_TYPE), Who::any(rng));
     let obs = match kind {
         OBS_TYPE => obs_of_rows(&head, &rows),
         _ => Err(TYPE_UNKNOWN),
@@ -117,10 +127,10 @@ fn ask_write_obs(asked: &mut Asked, rng: &mut Rng) {
     }
     let written = Written::by(rng, |out| {
         let (header, observations) = obs.clone()?;
-        write_obs(&header, &observations, given(sender), out)
+        write_obs(&header, &observations, who.writer(), out)
     });
-    let question = Question::new("write_obs", b'W').of(kind);
-    let question = question.put(&sender.to_le_bytes()).count(written.out.len());
+    let question = Question::new("write_obs", b'W').of(kind).by(who);
+    let question = question.count(written.out.len());
     written.asked(asked, question.numbers(&head).numbers(&rows));
     let Some(frame) = written.frame() else {
         return;
@@ -162,16 +172,15 @@ fn log_padding(rng: &mut Rng, text: usize) -> usize {
 fn ask_write_log(asked: &mut Asked, rng: &mut Rng) {
     let any = rng.byte();
     let level = rng.pick(&[0, any, any, any]);
-    let (text, sender) = (log_text(rng), sender(rng));
+    let (text, who) = (log_text(rng), Who::any(rng));
     let padding = log_padding(rng, text.len());
     let log = Log {
         level,
         text: &text,
         padding,
     };
-    let written = Written::by(rng, |out| log.write(given(sender), out));
-    let question = Question::new("write_log", b'L');
-    let question = question.put(&sender.to_le_bytes()).put(&[level]);
+    let written = Written::by(rng, |out| log.write(who.writer(), out));
+    let question = Question::new("write_log", b'L').by(who).put(&[level]);
     let question = question.put(&(padding as u64).to_le_bytes());
     let question = question.count(written.out.len()).bytes(&text);
     written.asked(asked, question);
@@ -184,12 +193,11 @@ fn ask_write_log(asked: &mut Asked, rng: &mut Rng) {
     }
 }
 
-fn ask_write_frame(asked: &mut Asked, rng: &mut Rng) {
-    let known = rng.pick(&TYPES);
+fn ask_write_frame(asked: &mut Asked, rng: &mut Rng, known: u16, who: Who) {
     let kind = kind_near(rng, known);
-    let (bytes, sender) = (payload(rng, known), sender(rng));
-    let written = Written::by(rng, |out| frames::write(kind, given(sender), &bytes, out));
-    let question = Question::new("write_frame", b'F').of(kind);
-    let question = question.put(&sender.to_le_bytes()).count(written.out.len());
+    let bytes = payload(rng, known);
+    let written = Written::by(rng, |out| frames::write(kind, who.writer(), &bytes, out));
+    let question = Question::new("write_frame", b'F').of(kind).by(who);
+    let question = question.count(written.out.len());
     written.asked(asked, question.bytes(&bytes));
 }
