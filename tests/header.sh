@@ -174,8 +174,9 @@ here = llh(416300400, 37.7749, -122.4194, 21.5, 1)
 seen = [(1052512345, -110000003, 128, 168, 900, 5, 0, 0), (1101122334, 121641107, 65, 181, 901, 31, 0, 0)]
 observations = struct.pack("<IHB", 416300400, 1900, 0x10) + b"".join(struct.pack("<IiBBHHBB", *one) for one in seen)
 keep("written", b"".join([
-    frame(0x0100, 1228, struct.pack("<HIiB", 1900, 416300400, -250, 0)), frame(0x0201, 0, here), frame(0x0201, 0x42, here),
-    frame(0x0049, 1228, observations), frame(0x0401, 1228, b"\x06started"), frame(0x0800, 1228, bytes([1, 2, 3, 4]))]))
+    frame(0x0100, 1228, struct.pack("<HIiB", 1900, 416300400, -250, 0)), frame(0x0201, 0, here), frame(0x0201, 1228, here),
+    frame(0x0049, 1228, observations), frame(0x0401, 1228, b"\x06started"), frame(0x00A2, 0x42, bytes([7, 0])),
+    frame(0x0800, 1228, bytes([1, 2, 3, 4]))]))
 PYTHON
 }
 
@@ -235,12 +236,13 @@ writes() {
     cat >"$work/lines" <<'LINES'
 F 0 256 1228 11 0
 F 19 513 0 34 0
-F 61 513 66 34 0
+F 61 513 1228 34 0
 F 103 73 1228 39 0
 E 1228 1900 416300400 1 2
 F 150 1025 1228 8 0
-F 166 2048 1228 4 21
-T 178 178 0 0 0
+F 166 162 66 2 0
+F 176 2048 1228 4 21
+T 188 188 0 0 0
 LINES
     listed "$work/out" FET >"$work/listing"
     same "the listing of what is written" "$work/lines" "$work/listing"

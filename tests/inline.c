@@ -7,6 +7,8 @@
 
 #include "sbp.h"
 
+#define OWN 1228 /* the own number of the recorder that writes */
+
 static unsigned passed, failed;
 
 static void same(const char *where, const char *what, uint64_t got, uint64_t wanted) {
@@ -567,10 +569,10 @@ static void fields(void) {
 
 static void version(void) {
     NAME(SBP_VERSION_MAJOR, 0);
-    NAME(SBP_VERSION_MINOR, 12);
+    NAME(SBP_VERSION_MINOR, 13);
     NAME(SBP_VERSION_PATCH, 0);
-    NAME(SBP_VERSION, 1200);
-    SAME("sbp_version()", sbp_version(), 1200);
+    NAME(SBP_VERSION, 1300);
+    SAME("sbp_version()", sbp_version(), 1300);
 }
 
 static const struct {
@@ -709,13 +711,14 @@ static void frames_have_room(void) {
     const uint64_t head[SBP_OBS_HEAD] = {0}, rows[(SBP_OBSERVATIONS_MOST + 1) * SBP_OBSERVATION_FIELDS] = {0};
     const size_t all = SBP_OBSERVATIONS_MOST * SBP_OBSERVATION_FIELDS;
     uint64_t size = 0;
-    SAME("sbp_write_frame", sbp_write_frame(out, SBP_FRAME_MOST, 1, SBP_NO_SENDER, bytes, SBP_PAYLOAD_MOST, &size), SBP_OK);
+    SAME("sbp_write_frame", sbp_write_frame(out, SBP_FRAME_MOST, 1, OWN, SBP_NO_SENDER, bytes, SBP_PAYLOAD_MOST, &size), SBP_OK);
     SAME("its size", size, SBP_FRAME_MOST);
-    SAME("with less room", sbp_write_frame(out, SBP_FRAME_MOST - 1, 1, SBP_NO_SENDER, bytes, SBP_PAYLOAD_MOST, &size), SBP_NO_ROOM);
-    SAME("with more", sbp_write_frame(out, SBP_FRAME_MOST, 1, SBP_NO_SENDER, bytes, SBP_PAYLOAD_MOST + 1, &size), SBP_TOO_MUCH);
-    SAME("sbp_write_obs", sbp_write_obs(out, SBP_FRAME_MOST, SBP_MSG_OBS, SBP_NO_SENDER, head, SBP_OBS_HEAD, rows, all, &size), SBP_OK);
+    SAME("with less room", sbp_write_frame(out, SBP_FRAME_MOST - 1, 1, OWN, SBP_NO_SENDER, bytes, SBP_PAYLOAD_MOST, &size), SBP_NO_ROOM);
+    SAME("with more", sbp_write_frame(out, SBP_FRAME_MOST, 1, OWN, SBP_NO_SENDER, bytes, SBP_PAYLOAD_MOST + 1, &size), SBP_TOO_MUCH);
+    SAME("sbp_write_obs", sbp_write_obs(out, SBP_FRAME_MOST, SBP_MSG_OBS, OWN, SBP_NO_SENDER, head, SBP_OBS_HEAD, rows, all, &size), SBP_OK);
     SAME("with one observation more",
-         sbp_write_obs(out, SBP_FRAME_MOST, SBP_MSG_OBS, SBP_NO_SENDER, head, SBP_OBS_HEAD, rows, all + SBP_OBSERVATION_FIELDS, &size), SBP_TOO_MUCH);
+         sbp_write_obs(out, SBP_FRAME_MOST, SBP_MSG_OBS, OWN, SBP_NO_SENDER, head, SBP_OBS_HEAD, rows, all + SBP_OBSERVATION_FIELDS, &size),
+         SBP_TOO_MUCH);
 }
 
 /* ---- LOG: its text ends before the first zero after the level, and all bytes from there on are zeros */
@@ -783,14 +786,14 @@ static void logs_written(void) {
         if (texts[i].zero < n) {
             text[texts[i].zero] = 0;
         }
-        SAME("sbp_write_log", sbp_write_log(out, sizeof out, 1228, level, text, n, padding, &size), told);
+        SAME("sbp_write_log", sbp_write_log(out, sizeof out, OWN, SBP_NO_SENDER, level, text, n, padding, &size), told);
         if (told == SBP_OK) {
             log_back(out, size, level, n, padding);
-            SAME("with less room", sbp_write_log(out, 8 + n + padding, 1228, level, text, n, padding, &size), SBP_NO_ROOM);
+            SAME("with less room", sbp_write_log(out, 8 + n + padding, OWN, SBP_NO_SENDER, level, text, n, padding, &size), SBP_NO_ROOM);
         } else {
             SAME("a refusal's size", size, 77);
             SAME("a refusal's frame", all_are(out, sizeof out, 0xEE), true);
-            SAME("without room", sbp_write_log(out, 0, 1228, level, text, n, padding, &size), told);
+            SAME("without room", sbp_write_log(out, 0, OWN, SBP_NO_SENDER, level, text, n, padding, &size), told);
         }
     }
 }
@@ -846,7 +849,7 @@ static size_t capture_of_three(uint8_t capture[64]) {
     memset(capture, 0, 64);
     for (size_t i = 0; i < 3; i++) {
         uint64_t size = 0;
-        SAME("a frame", sbp_write_frame(capture + n, 64 - n, three[i].kind, three[i].sender, payload, three[i].length, &size), SBP_OK);
+        SAME("a frame", sbp_write_frame(capture + n, 64 - n, three[i].kind, OWN, three[i].sender, payload, three[i].length, &size), SBP_OK);
         SAME("its place", n, three[i].offset);
         n += (size_t)size;
     }

@@ -30,8 +30,8 @@ static size_t numbers(uint64_t *row, size_t most) {
     return n;
 }
 
-/* Numbers of a line: those before LOG's text, and the most of a text; a payload has fewer. */
-enum { LOG_HEAD = 2, MOST = LOG_HEAD + SBP_TEXT_MOST };
+/* Numbers of a line: those before LOG's text, and the most of a text; a payload has fewer. OWN goes into no frame, since each has its sender. */
+enum { LOG_HEAD = 2, MOST = LOG_HEAD + SBP_TEXT_MOST, OWN = 1228 };
 
 int main(void) {
     uint64_t row[MOST], rows[SBP_OBSERVATIONS_MOST * SBP_OBSERVATION_FIELDS], size = 0;
@@ -46,14 +46,14 @@ int main(void) {
         }
         uint8_t told = SBP_UNKNOWN_TYPE;
         if (letter == 'W') {
-            told = sbp_write(frame, sizeof frame, kind, sender, row, n, &size);
+            told = sbp_write(frame, sizeof frame, kind, OWN, sender, row, n, &size);
         } else if (letter == 'O') {
             const size_t m = numbers(rows, sizeof rows / sizeof *rows);
-            told = sbp_write_obs(frame, sizeof frame, kind, sender, row, n, rows, m, &size);
+            told = sbp_write_obs(frame, sizeof frame, kind, OWN, sender, row, n, rows, m, &size);
         } else if (letter == 'L' && n >= LOG_HEAD) {
-            told = sbp_write_log(frame, sizeof frame, sender, bytes[0], bytes + LOG_HEAD, n - LOG_HEAD, row[1], &size);
+            told = sbp_write_log(frame, sizeof frame, OWN, sender, bytes[0], bytes + LOG_HEAD, n - LOG_HEAD, row[1], &size);
         } else if (letter == 'F') {
-            told = sbp_write_frame(frame, sizeof frame, kind, sender, bytes, n, &size);
+            told = sbp_write_frame(frame, sizeof frame, kind, OWN, sender, bytes, n, &size);
         }
         if (told != SBP_OK || fwrite(frame, 1, (size_t)size, stdout) != size) {
             fprintf(stderr, "rewrite: %c %u: %u\n", letter, (unsigned)kind, (unsigned)told);

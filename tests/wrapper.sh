@@ -120,12 +120,13 @@ END
 
     cat >"$work/written" <<'END'
 F 0 256 1228 11 0
-F 19 513 1228 34 0
+F 19 513 0 34 0
 F 61 73 1228 39 0
 E 1228 1900 416300400 1 2
-F 108 1025 66 11 0
-F 127 2048 1228 3 21
-T 138 138 0 0 0
+F 108 1025 1228 10 0
+F 126 162 66 2 0
+F 136 2048 1228 3 21
+T 147 147 0 0 0
 END
     check "writing's frames as sbplist lists them" prints "$work/written" written
     check "writing to a full disk" ends 1 sh -c "'$bin/writing' >/dev/full"

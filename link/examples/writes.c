@@ -5,8 +5,8 @@
 
 #include "sbp.h"
 
-#define BASE 1228
-#define ROVER 0 /* an ordinary sender */
+#define OWN 1228 /* this recorder's own number: its frames go out under it where they are given no sender */
+#define ROVER 0  /* an ordinary sender, whose positions are passed on */
 
 static uint8_t frame[SBP_FRAME_MOST];
 static uint64_t size;
@@ -27,7 +27,7 @@ static void put_time(void) {
     const struct sbp_gps_time m = {1900, 416300400, -250, 0};
     uint64_t row[SBP_GPS_TIME_FIELDS];
     sbp_gps_time_row(&m, row);
-    put("GPS_TIME", sbp_write(frame, sizeof frame, SBP_MSG_GPS_TIME, BASE, row, SBP_GPS_TIME_FIELDS, &size));
+    put("GPS_TIME", sbp_write(frame, sizeof frame, SBP_MSG_GPS_TIME, OWN, SBP_NO_SENDER, row, SBP_GPS_TIME_FIELDS, &size));
 }
 
 /* In POS_LLH the low bits of flags are 1 for a fixed solution. */
@@ -35,7 +35,7 @@ static void put_position(uint32_t sender) {
     const struct sbp_pos_llh m = {416300400, 37.7749, -122.4194, 21.5, 15, 25, 9, 1};
     uint64_t row[SBP_POS_LLH_FIELDS];
     sbp_pos_llh_row(&m, row);
-    put("POS_LLH", sbp_write(frame, sizeof frame, SBP_MSG_POS_LLH, sender, row, SBP_POS_LLH_FIELDS, &size));
+    put("POS_LLH", sbp_write(frame, sizeof frame, SBP_MSG_POS_LLH, OWN, sender, row, SBP_POS_LLH_FIELDS, &size));
 }
 
 /* Packet 0 of 1, so a whole epoch, with two observations; their carrier phases are given in 1/256 cycle. */
@@ -52,18 +52,27 @@ static void put_observations(void) {
         }
         sbp_observation_row_row(&seen[i], rows + i * SBP_OBSERVATION_FIELDS);
     }
-    put("OBS", sbp_write_obs(frame, sizeof frame, SBP_MSG_OBS, BASE, head, SBP_OBS_HEAD, rows, 2 * SBP_OBSERVATION_FIELDS, &size));
+    put("OBS", sbp_write_obs(frame, sizeof frame, SBP_MSG_OBS, OWN, SBP_NO_SENDER, head, SBP_OBS_HEAD, rows, 2 * SBP_OBSERVATION_FIELDS, &size));
 }
 
 static void put_log(void) {
     const uint8_t text[] = {'s', 't', 'a', 'r', 't', 'e', 'd'};
-    put("LOG", sbp_write_log(frame, sizeof frame, BASE, 6, text, sizeof text, 0, &size)); /* no zeros after it */
+    put("LOG", sbp_write_log(frame, sizeof frame, OWN, SBP_NO_SENDER, 6, text, sizeof text, 0, &size)); /* no zeros after it */
 }
 
-/* A type of one's own: it has no reading, and is a frame all the same. */
-static void put_own(void) {
+/* Asks a device for a setting: given no sender it goes out as 0x42, which devices answer. */
+static void put_request(void) {
+    const struct sbp_read_by_index_req m = {7};
+    uint64_t row[SBP_READ_BY_INDEX_REQ_FIELDS];
+    sbp_read_by_index_req_row(&m, row);
+    put("READ_BY_INDEX_REQ",
+        sbp_write(frame, sizeof frame, SBP_MSG_SETTINGS_READ_BY_INDEX_REQ, OWN, SBP_NO_SENDER, row, SBP_READ_BY_INDEX_REQ_FIELDS, &size));
+}
+
+/* A type that has no reading is a frame all the same. */
+static void put_any(void) {
     const uint8_t payload[] = {1, 2, 3, 4};
-    put("a frame", sbp_write_frame(frame, sizeof frame, 0x0800, BASE, payload, sizeof payload, &size));
+    put("a frame", sbp_write_frame(frame, sizeof frame, 0x0800, OWN, SBP_NO_SENDER, payload, sizeof payload, &size));
 }
 
 int main(int argc, char **argv) {
@@ -77,7 +86,8 @@ int main(int argc, char **argv) {
     put_position(SBP_NO_SENDER);
     put_observations();
     put_log();
-    put_own();
+    put_request();
+    put_any();
     if (fflush(stdout) != 0) {
         perror("writes: standard output");
         return 1;

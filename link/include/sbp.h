@@ -31,7 +31,7 @@ extern "C" {
 
 /* This header's version; sbp_version tells the library's in the same form. */
 #define SBP_VERSION_MAJOR 0
-#define SBP_VERSION_MINOR 12
+#define SBP_VERSION_MINOR 13
 #define SBP_VERSION_PATCH 0
 #define SBP_VERSION (10000 * SBP_VERSION_MAJOR + 100 * SBP_VERSION_MINOR + SBP_VERSION_PATCH)
 
@@ -61,7 +61,7 @@ extern "C" {
 #define SBP_MSG_STARTUP 0xFF00
 #define SBP_MSG_HEARTBEAT 0xFFFF
 
-/* Given to a writer for a sender, this (as any number above 65535) means that none is given: 0x42 is written. */
+/* For the sender of a frame to write, this (as any number above 65535) means that none is given. */
 #define SBP_NO_SENDER 0x10000
 
 /* Done; of sbp_next: a frame, the end, more bytes are needed; of sbp_feed: taken, and taken with an epoch ended; of
@@ -228,33 +228,40 @@ int64_t sbp_carrier_phase(int32_t l_i, uint8_t l_f);
  * The caller keeps: l_i points to an aligned int32_t and l_f to a byte that is no part of it. */
 uint8_t sbp_phase_parts(int64_t phase, int32_t *l_i, uint8_t *l_f);
 
-/* ---- frames written, from out[0] on; what stands after the frame is left as it was. SBP_FRAME_MOST bytes have room for every frame. */
+/* ---- frames written, from out[0] on; what stands after the frame is left as it was. SBP_FRAME_MOST bytes have room for every frame.
+ *
+ * Who sends: own is the number of the recorder that writes, which may be any. Where no sender is given (SBP_NO_SENDER) the frame goes out under
+ * own; but one of type SETTINGS_READ_BY_INDEX_REQ or SETTINGS_SAVE goes out as 0x42 then, whichever function writes it, for devices obey settings
+ * from there alone. A sender that is given is used as it is, whatever the type, 0 and 0x42 too. Other types that devices obey from 0x42 alone, as
+ * a settings write (0x00A0), need it given. */
 
-/* A message that has neither text nor observations, from a row as sbp_read gives it: SBP_OK, and the frame's length in *size; or
+/* A message without text or observations, from a row as sbp_read gives it, under own or sender: SBP_OK, and the frame's length in *size; or
  * SBP_UNKNOWN_TYPE: no such type, or OBS or LOG, SBP_WRONG_LENGTH: fields is not the type's number of fields, SBP_OUT_OF_RANGE, SBP_NO_ROOM.
  * Ranges: GPS_TIME's ns from -500000 to 500000; the low three bits of flags at most 2 in POS_ECEF and POS_LLH, at most 1 in BASELINE_ECEF,
  * BASELINE_NED and BASELINE_HEADING. Other fields take all that they can hold.
  * The caller keeps: room bytes to write are at out, fields aligned uint64_t at row, and size points to an aligned uint64_t; none overlaps
  * another. */
-uint8_t sbp_write(uint8_t *out, size_t room, uint16_t kind, uint32_t sender, const uint64_t *row, size_t fields, uint64_t *size);
+uint8_t sbp_write(uint8_t *out, size_t room, uint16_t kind, uint16_t own, uint32_t sender, const uint64_t *row, size_t fields, uint64_t *size);
 
-/* OBS: tow, wn and n_obs at head (fields is SBP_OBS_HEAD), and at rows SBP_OBSERVATION_FIELDS numbers for each observation (numbers counts them
- * all): SBP_OK, and the frame's length in *size; or SBP_UNKNOWN_TYPE: kind is not OBS, SBP_WRONG_LENGTH: one of the two counts,
+/* OBS under own or sender: tow, wn and n_obs at head (fields is SBP_OBS_HEAD), and at rows SBP_OBSERVATION_FIELDS numbers for each observation
+ * (numbers counts them all): SBP_OK, and the frame's length in *size; or SBP_UNKNOWN_TYPE: kind is not OBS, SBP_WRONG_LENGTH: one of the two counts,
  * SBP_OUT_OF_RANGE, SBP_TOO_MUCH: over 15 observations, SBP_NO_ROOM.
  * The caller keeps: room bytes to write are at out, so many aligned uint64_t at head and rows, and size points to an aligned uint64_t; what is
  * written overlaps nothing else. */
-uint8_t sbp_write_obs(uint8_t *out, size_t room, uint16_t kind, uint32_t sender, const uint64_t *head, size_t fields, const uint64_t *rows,
-                      size_t numbers, uint64_t *size);
+uint8_t sbp_write_obs(uint8_t *out, size_t room, uint16_t kind, uint16_t own, uint32_t sender, const uint64_t *head, size_t fields,
+                      const uint64_t *rows, size_t numbers, uint64_t *size);
 
-/* LOG with n bytes of text and so many zeros after it as padding says: SBP_OK, and the frame's length in *size; or SBP_OUT_OF_RANGE: a zero in
- * the text, SBP_TOO_MUCH: n + padding is over SBP_TEXT_MOST, SBP_NO_ROOM.
+/* LOG under own or sender, with n bytes of text and so many zeros after it as padding says: SBP_OK, and the frame's length in *size; or
+ * SBP_OUT_OF_RANGE: a zero in the text, SBP_TOO_MUCH: n + padding is over SBP_TEXT_MOST, SBP_NO_ROOM.
  * The caller keeps: room bytes to write are at out, n bytes at text, and size points to an aligned uint64_t; none overlaps another. padding may
  * be any number. */
-uint8_t sbp_write_log(uint8_t *out, size_t room, uint32_t sender, uint8_t level, const uint8_t *text, size_t n, size_t padding, uint64_t *size);
+uint8_t sbp_write_log(uint8_t *out, size_t room, uint16_t own, uint32_t sender, uint8_t level, const uint8_t *text, size_t n, size_t padding,
+                      uint64_t *size);
 
-/* A frame of any type with any payload: SBP_OK, and the frame's length in *size; or SBP_TOO_MUCH: n is over SBP_PAYLOAD_MOST, SBP_NO_ROOM.
+/* A frame of any type with any payload, under own or sender: SBP_OK, and the frame's length in *size; or SBP_TOO_MUCH: n is over SBP_PAYLOAD_MOST,
+ * SBP_NO_ROOM.
  * The caller keeps: room bytes to write are at out, n bytes at payload, and size points to an aligned uint64_t; none overlaps another. */
-uint8_t sbp_write_frame(uint8_t *out, size_t room, uint16_t kind, uint32_t sender, const uint8_t *payload, size_t n, uint64_t *size);
+uint8_t sbp_write_frame(uint8_t *out, size_t room, uint16_t kind, uint16_t own, uint32_t sender, const uint8_t *payload, size_t n, uint64_t *size);
 
 /* ---- epochs. The upper four bits of n_obs are the number n of an epoch's packets, the lower four a packet's counter i. An epoch of a sender is a
  * run of n packets, with nothing but frames of other senders, of other types or refused ones between them, all with the same tow, wn and n,

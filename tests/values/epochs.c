@@ -68,11 +68,6 @@ static uint8_t feed_frame(const struct frame *f, uint8_t report[SBP_REPORT]) {
     return feed(f->kind, f->sender, payload, f->size, report);
 }
 
-static void say_epoch(const uint8_t report[SBP_REPORT]) {
-    const struct sbp_report r = sbp_report_of(report);
-    printf(" epoch %d %d %" PRIu32 " %d %d", r.sender, r.wn, r.tow, r.n, r.observations);
-}
-
 static void say_fed(const struct frame *f) {
     uint8_t report[SBP_REPORT];
     const uint8_t answer = feed_frame(f, report);
@@ -215,7 +210,7 @@ static size_t put_frames(uint8_t *out, size_t room, const struct frame *const *f
         uint8_t payload[LONGEST];
         uint64_t size = 0;
         put_payload(payload, f);
-        sbp_write_frame(out + at, room - at, f->kind, f->sender, payload, f->size, &size);
+        sbp_write_frame(out + at, room - at, f->kind, OWN, f->sender, payload, f->size, &size);
         at += size;
     }
     return at;

@@ -143,7 +143,7 @@ static void say_length(size_t n) {
     mix(payload, n, n, 3);
     fill(&out, sizeof out);
     printf("length %zu", n);
-    say_outcome(sbp_write_frame(out.bytes, OUT, 0x1234, 0x5678, payload, n, &out.size), &out);
+    say_outcome(sbp_write_frame(out.bytes, OUT, 0x1234, OWN, 0x5678, payload, n, &out.size), &out);
     printf(" %04x %02x", (unsigned)sbp_number(out.bytes + n + 6, 2), out.bytes[n + 8]);
     const uint8_t answer = sbp_next(out.bytes, OUT, 0, false, row, sizeof row);
     const struct sbp_found f = sbp_found_of(row);
@@ -174,7 +174,7 @@ static void say_all_cuts(void) {
     mix(payload, sizeof payload, 255, 3);
     fill(&out, sizeof out);
     printf("write 255-into-263");
-    say_outcome(sbp_write_frame(out.bytes, SBP_FRAME_MOST, 0x1234, SBP_NO_SENDER, payload, sizeof payload, &out.size), &out);
+    say_outcome(sbp_write_frame(out.bytes, SBP_FRAME_MOST, 0x1234, OWN, SBP_NO_SENDER, payload, sizeof payload, &out.size), &out);
     putchar('\n');
     for (size_t n = 0; n <= SBP_FRAME_MOST; n++) {
         say_cut(out.bytes, n);
@@ -188,7 +188,7 @@ static void say_written(size_t n) {
     mix(payload, n, 7, 3);
     fill(&out, sizeof out);
     printf("write %zu-into-12", n);
-    say_outcome(sbp_write_frame(out.bytes, 12, 0x0102, SBP_NO_SENDER, payload, n, &out.size), &out);
+    say_outcome(sbp_write_frame(out.bytes, 12, 0x0102, OWN, SBP_NO_SENDER, payload, n, &out.size), &out);
     say_bytes(out.bytes, 12);
     putchar('\n');
 }

@@ -36,7 +36,7 @@ static size_t make_capture(uint8_t capture[CAPTURE]) {
     memcpy(capture, START, sizeof START);
     for (size_t i = 0; i < COUNT(FRAMES); i++) {
         uint64_t size = 0;
-        sbp_write_frame(capture + at, CAPTURE - at, FRAMES[i].kind, FRAMES[i].sender, payload, FRAMES[i].n, &size);
+        sbp_write_frame(capture + at, CAPTURE - at, FRAMES[i].kind, OWN, FRAMES[i].sender, payload, FRAMES[i].n, &size);
         at += size;
     }
     return at - 1;

@@ -7,6 +7,7 @@ int main(void) {
     sums();
     captures();
     written();
+    senders();
     each();
     orbits();
     flags();

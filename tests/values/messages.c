@@ -62,7 +62,7 @@ static void say(const struct message *m, const uint8_t *payload, size_t n) {
     const uint8_t refusal = sbp_read(m->kind, payload, n, row, SBP_FIELDS_MOST);
     say_row(refusal, m->fields, row);
     if (!refusal) {
-        say_frame(sbp_write(out.bytes, OUT, m->kind, 0x0201, row, strlen(m->fields), &out.size), &out);
+        say_frame(sbp_write(out.bytes, OUT, m->kind, OWN, 0x0201, row, strlen(m->fields), &out.size), &out);
     }
     putchar('\n');
 }

@@ -34,7 +34,7 @@ static void say_rewritten(const uint8_t *payload, size_t n, size_t count) {
         sbp_observation(SBP_MSG_OBS, payload, n, i, rows + i * SBP_OBSERVATION_FIELDS, SBP_OBSERVATION_FIELDS);
     }
     printf("write-obs");
-    say_frame(sbp_write_obs(out.bytes, OUT, SBP_MSG_OBS, 0, head, SBP_OBS_HEAD, rows, count * SBP_OBSERVATION_FIELDS, &out.size), &out);
+    say_frame(sbp_write_obs(out.bytes, OUT, SBP_MSG_OBS, OWN, 0, head, SBP_OBS_HEAD, rows, count * SBP_OBSERVATION_FIELDS, &out.size), &out);
     putchar('\n');
 }
 
@@ -120,7 +120,7 @@ static void say_log_written(const struct log_written *log) {
     text[log->zero] = 0;
     fill(&out, sizeof out);
     printf("write-log %zu %zu", log->n, log->padding);
-    say_outcome(sbp_write_log(out.bytes, log->room, SBP_NO_SENDER, 6, text, log->n, log->padding, &out.size), &out);
+    say_outcome(sbp_write_log(out.bytes, log->room, OWN, SBP_NO_SENDER, 6, text, log->n, log->padding, &out.size), &out);
     say_bytes(out.bytes, log->room);
     putchar('\n');
 }

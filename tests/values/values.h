@@ -11,7 +11,8 @@
 
 #define COUNT(array) (sizeof(array) / sizeof *(array))
 
-enum { FILLED = 0xEE, OUT = 300 };
+/* OWN is the own number of the recorder that writes. */
+enum { FILLED = 0xEE, OUT = 300, OWN = 1228 };
 
 /* What is lent to a writer: more bytes than any frame takes. */
 struct out {
@@ -25,6 +26,7 @@ void published(void);
 void sums(void);
 void captures(void);
 void written(void);
+void senders(void);
 void each(void);
 void orbits(void);
 void flags(void);
@@ -98,6 +100,11 @@ static inline void say_row(uint8_t refusal, const char *letters, const uint64_t 
         say_field(letters[i], row[i]);
     }
     expect_filled(row + count, (SBP_FIELDS_MOST - count) * sizeof *row);
+}
+
+static inline void say_epoch(const uint8_t report[SBP_REPORT]) {
+    const struct sbp_report r = sbp_report_of(report);
+    printf(" epoch %d %d %" PRIu32 " %d %d", r.sender, r.wn, r.tow, r.n, r.observations);
 }
 
 /* Of what a writer was lent: a refusal left all as it was, and a frame what stands after it. */

@@ -10,7 +10,9 @@ import binascii
 import struct
 import sys
 
-from twin import FIX_MODES, FLAGS, HEARTBEAT_FLAGS, MESSAGES, NAMES, OBS, Index, Sorter, answer, frame, is_obs, log_answer, made, obs, reading, row
+from twin import (
+    FIX_MODES, FLAGS, HEARTBEAT_FLAGS, MESSAGES, NAMES, OBS, Index, Sorter, answer, frame, is_obs, log_answer, made, obs, reading, row, sent_by)
+from twin import collated as read_and_collated
 
 # type through payload of the example frame of 003, section 4, and the fields that table 4.0.2 reads in it
 EXAMPLE = bytes.fromhex("0202cc0414703dd018cfefffffefe8fffff018000000000500")
@@ -19,6 +21,9 @@ FIELDS = dict(tow=416300400, x=-4145, y=-5905, z=6384, accuracy=0, n_sats=5, fla
 # the CRC's check text, and the starts from which parts are taken
 TEXT = b"123456789"
 STARTS = 0, 1, 65535
+
+# the own number of the recorder that writes, and what it is given for a sender where it is given none
+OWN, NO_SENDER = 1228, 65536
 
 
 def published():
@@ -118,7 +123,7 @@ def written():
     for n in range(256):
         data = frame(0x1234, 0x5678, mixed(n, 3, n))
         yield "length %d %d %04x ee %d" % (n, n + 8, struct.unpack("<H", data[-2:])[0], n)
-    data = frame(0x1234, 0x42, mixed(255, 3, 255))
+    data = frame(0x1234, OWN, mixed(255, 3, 255))
     yield "write 255-into-263 263"
     for n in range(264):
         found, _, need = reading(data[:n], True)
@@ -127,7 +132,34 @@ def written():
     untouched = "ee" * 12
     yield "write 5-into-12 refused 32 " + untouched
     yield "write 256-into-12 refused 31 " + untouched
-    yield "write 3-into-12 11 " + frame(0x0102, 0x42, mixed(7, 3, 3)).hex() + "ee"
+    yield "write 3-into-12 11 " + frame(0x0102, OWN, mixed(7, 3, 3)).hex() + "ee"
+
+
+# what a recorder writes, by name, type and length of the payload: messages by their own writers, and raw frames
+SENT = (
+    ("heartbeat", 0xFFFF, 4), ("pos-llh", 0x0201, 34), ("log", 0x0401, 9), ("obs", OBS, 39), ("read-by-index-req", 0x00A2, 2), ("settings-save", 0x00A1, 0),
+    ("raw-00a1", 0x00A1, 0), ("raw-00a2", 0x00A2, 2), ("raw-00a0", 0x00A0, 9), ("raw-00a4", 0x00A4, 9), ("raw-00a8", 0x00A8, 9), ("raw-0800", 0x0800, 9),
+    ("raw-ffff", 0xFFFF, 4))
+
+
+def senders():
+    """Who sends what a recorder writes: by each own number and each sender that is given; which types do not go out under the own number; and two
+    recorders on one line."""
+    for name, kind, size in SENT:
+        for own in 0, 0x42, 1228, 65535:
+            for given in NO_SENDER, 0, 0x42, 7, 65535, 65536 + 7, 2**32 - 1:
+                yield "sent %s %d %d %s" % (name, own, given, frame(kind, sent_by(kind, own, given), mixed(5, 37, size)).hex())
+    unnamed = [(kind, sent_by(kind, OWN, NO_SENDER)) for kind in range(65536)]
+    yield "not-own" + "".join(" %04x %d" % (kind, sender) for kind, sender in unnamed if sender != OWN)
+    for (at, kind, sender, payload), epoch in read_and_collated(two_recorders(), 8)[0]:
+        yield "heard %d %d %d %d%s" % (at, kind, sender, len(payload), " epoch %d %d %d %d %d" % tuple(epoch) if epoch else "")
+
+
+def two_recorders():
+    """Frames by turns on one line, none of which is given a sender; a packet of the one has one observation, of the other two."""
+    turns = [[(kind, mixed(5, 37, size))] * 2 for _, kind, size in SENT[:3]]
+    turns += [[(OBS, obs(tow, 1900, n_obs, count)) for count in (1, 2)] for tow in (1000, 2000, 3000) for n_obs in (0x20, 0x21)]
+    return b"".join(frame(kind, sent_by(kind, own, NO_SENDER), payload) for turn in turns for own, (kind, payload) in zip((1228, 1229), turn))
 
 
 def message(name, payload):
@@ -252,7 +284,7 @@ def write_log(text, padding, room):
     """What is told of a LOG of level 6, and the buffer after it."""
     size = 1 + len(text) + padding
     refusal = 23 if 0 in text else 31 if size > 255 else 32 if size + 8 > room else 0
-    made = b"" if refusal else frame(0x0401, 0x42, b"\x06" + text + bytes(padding))
+    made = b"" if refusal else frame(0x0401, OWN, b"\x06" + text + bytes(padding))
     buf = made + b"\xee" * (room - len(made))
     return "write-log %d %d %s %s" % (len(text), padding, "refused %d" % refusal if refusal else "%d" % (size + 8), buf.hex())
 
@@ -416,12 +448,13 @@ def payloads():
 
 
 def rewritten():
-    """What rewritten prints: the type, the answer to its payload, the frame, that the raw one is the same, and the answers of the message's own
-    reader to the payload and to one byte more."""
+    """What rewritten prints: the type, the answer to its payload, the frame of a writer that is given no sender, that the raw one is the same, and
+    the answers of the message's own reader to the payload and to one byte more."""
     for kind, longer in payloads():
         payload = longer[:-1]
         outcome = answer(kind, payload)
-        yield "%04x %d %s same %d %d" % (kind, outcome, frame(kind, 0x0201, payload).hex(), outcome, answer(kind, longer))
+        sent = frame(kind, sent_by(kind, 0x0201, NO_SENDER), payload)
+        yield "%04x %d %s same %d %d" % (kind, outcome, sent.hex(), outcome, answer(kind, longer))
 
 
 def lines():
@@ -432,7 +465,7 @@ def lines():
 
 def asked():
     """What tests/values prints: the published values again, and all that the linked functions can be asked."""
-    for part in published, sums, captures, written, each, orbits, flags, observations, logs, types, collated, indexed:
+    for part in published, sums, captures, written, senders, each, orbits, flags, observations, logs, types, collated, indexed:
         yield from part()
 
 

@@ -1,5 +1,5 @@
-"""A twin in Python, by the words of documents 01 and 003 and of requests P1, P2 and P5, with Python's own codecs: frames, payload answers, flags,
-epochs, the listing, an index beside a capture.
+"""A twin in Python, by the words of documents 01 and 003 and of requests P1, P2, P5 and P6, with Python's own codecs: frames, who sends them, payload
+answers, flags, epochs, the listing, an index beside a capture.
 
 It has none of our code and looks at none.
 """
@@ -48,6 +48,12 @@ HEARTBEAT_FLAGS = {
 def frame(kind, sender, payload):
     body = struct.pack("<HHB", kind, sender, len(payload)) + payload
     return b"\x55" + body + struct.pack("<H", binascii.crc_hqx(body, 0))
+
+
+def sent_by(kind, own, given):
+    """P6's rule: a frame's sender is the one that is given (no number of 16 bits: none), else 0x42 for the two types that devices are to obey, else
+    the recorder's own number."""
+    return given if given < 65536 else 0x42 if kind in (0x00A1, 0x00A2) else own
 
 
 def reading(data, opened):

@@ -5,9 +5,14 @@
 use std::error::Error;
 use std::io::{self, Write};
 
-use yaqtumeer::{GpsTime, Log, Obs, Observation, PhaseParts, PosLlh, write_frame};
+use yaqtumeer::{
+    GpsTime, Log, Obs, Observation, PhaseParts, PosLlh, ReadByIndexReq, Writer, write_frame,
+};
 
-const BASE: Option<u16> = Some(1228);
+/// This recorder, by its own number.
+const RECORDER: Writer = Writer::new(1228);
+/// An ordinary sender, whose positions are passed on.
+const ROVER: u16 = 0;
 
 fn capture() -> Result<Vec<u8>, Box<dyn Error>> {
     let (wn, tow) = (1900, 416300400);
@@ -46,19 +51,20 @@ fn capture() -> Result<Vec<u8>, Box<dyn Error>> {
     };
     let line = Log {
         level: 6,
-        text: b"base is up".to_vec(),
+        text: b"recording".to_vec(),
         padding: 0,
     };
 
     let mut capture = Vec::new();
-    capture.extend(time.frame(BASE)?);
-    capture.extend(place.frame(BASE)?);
-    capture.extend(packet.frame(BASE)?);
-    // without a sender: as host programs send
-    capture.extend(line.frame(None)?);
+    capture.extend(time.frame(RECORDER)?);
+    capture.extend(place.frame(RECORDER.named(ROVER))?);
+    capture.extend(packet.frame(RECORDER)?);
+    capture.extend(line.frame(RECORDER)?);
+    // goes out as 0x42, which devices answer
+    capture.extend(ReadByIndexReq { index: 7 }.frame(RECORDER)?);
     // a type that has no struct here
     let mut out = [0; 11];
-    let size = write_frame(&mut out, 0x0800, BASE, b"any")?;
+    let size = write_frame(&mut out, 0x0800, RECORDER, b"any")?;
     capture.extend(&out[..size]);
     Ok(capture)
 }

@@ -12,10 +12,10 @@ const REPORT: usize = 11;
 /// packet of that sender between them.
 ///
 /// ```
-/// use yaqtumeer::{Collator, Epoch, Obs};
+/// use yaqtumeer::{Collator, Epoch, Obs, Writer};
 ///
 /// let packet = Obs { tow: 1000, wn: 1900, n_obs: 0x10, observations: vec![] };
-/// let frame = packet.frame(Some(0)).unwrap();
+/// let frame = packet.frame(Writer::new(0)).unwrap();
 /// let epoch = Collator::growing().feed_content(Obs::KIND, 0, &frame[6..13]);
 /// let expected = Epoch { sender: 0, wn: 1900, tow: 1000, n: 1, observations: 0 };
 /// assert_eq!(epoch, Ok(Some(expected)));
@@ -39,11 +39,11 @@ pub struct Epoch {
 /// 65535 is an ordinary sender.
 ///
 /// ```
-/// use yaqtumeer::{Collator, Frames, Obs};
+/// use yaqtumeer::{Collator, Frames, Obs, Writer};
 ///
 /// // two packets of an epoch of 7, one of an epoch of 0 between them
 /// let packet = |sender, n_obs| {
-///     Obs { tow: 5000, wn: 2000, n_obs, observations: vec![] }.frame(Some(sender)).unwrap()
+///     Obs { tow: 5000, wn: 2000, n_obs, observations: vec![] }.frame(Writer::new(sender)).unwrap()
 /// };
 /// let capture = [packet(7, 0x20), packet(0, 0x10), packet(7, 0x21)].concat();
 ///
@@ -109,9 +109,9 @@ impl Collator {
     /// [`Refusal::WrongCounter`]; no epoch is broken by such a frame.
     ///
     /// ```
-    /// use yaqtumeer::{Collator, Frames, Heartbeat, Refusal};
+    /// use yaqtumeer::{Collator, Frames, Heartbeat, Refusal, Writer};
     ///
-    /// let capture = Heartbeat { flags: 0 }.frame(Some(7)).unwrap();
+    /// let capture = Heartbeat { flags: 0 }.frame(Writer::new(7)).unwrap();
     /// let frame = Frames::closed(&capture).next().unwrap();
     /// assert_eq!(Collator::growing().feed(&frame), Err(Refusal::NotObs));
     /// ```

@@ -76,9 +76,11 @@ impl AddAssign for Counts {
 /// from frame to frame.
 ///
 /// ```
-/// let mut capture = yaqtumeer::SettingsSave {}.frame(None).unwrap();
+/// use yaqtumeer::{SettingsSave, Writer, totals};
+///
+/// let mut capture = SettingsSave {}.frame(Writer::new(1228)).unwrap();
 /// capture.extend(b"\r\n");
-/// let counts = yaqtumeer::totals(&capture);
+/// let counts = totals(&capture);
 /// assert_eq!((counts.framed, counts.junk), (8, 2));
 /// ```
 pub fn totals(capture: &[u8]) -> Counts {

@@ -18,12 +18,12 @@ const HEAD: usize = 6;
 /// A frame of a capture.
 ///
 /// ```
-/// use yaqtumeer::{Frames, Message, ReadByIndexReq};
+/// use yaqtumeer::{Frames, Message, ReadByIndexReq, Writer};
 ///
-/// let capture = ReadByIndexReq { index: 7 }.frame(Some(1228)).unwrap();
+/// let capture = ReadByIndexReq { index: 7 }.frame(Writer::new(1228)).unwrap();
 /// let frame = Frames::closed(&capture).next().unwrap();
-/// assert_eq!((frame.at, frame.kind, frame.sender), (0, 0x00a2, 1228));
-/// assert_eq!((frame.payload, frame.crc), (&[7, 0][..], 0x2079));
+/// assert_eq!((frame.at, frame.kind, frame.sender), (0, 0x00a2, 0x42));
+/// assert_eq!((frame.payload, frame.crc), (&[7, 0][..], 0x07f0));
 /// ```
 #[derive(Clone, Copy, Debug, PartialEq, Eq)]
 pub struct Frame<'a> {
@@ -43,8 +43,10 @@ impl Frame<'_> {
     /// Its length: that of the payload and 8 bytes around it.
     ///
     /// ```
-    /// let capture = yaqtumeer::Startup { reserved: 0 }.frame(None).unwrap();
-    /// assert_eq!(yaqtumeer::Frames::closed(&capture).next().unwrap().size(), 12);
+    /// use yaqtumeer::{Frames, Startup, Writer};
+    ///
+    /// let capture = Startup { reserved: 0 }.frame(Writer::new(1228)).unwrap();
+    /// assert_eq!(Frames::closed(&capture).next().unwrap().size(), 12);
     /// ```
     pub fn size(&self) -> usize {
         self.payload.len() + 8
@@ -53,9 +55,9 @@ impl Frame<'_> {
     /// Its message, read by [`Message::read`].
     ///
     /// ```
-    /// use yaqtumeer::{Frames, Message, Startup};
+    /// use yaqtumeer::{Frames, Message, Startup, Writer};
     ///
-    /// let capture = Startup { reserved: 5 }.frame(None).unwrap();
+    /// let capture = Startup { reserved: 5 }.frame(Writer::new(1228)).unwrap();
     /// let frame = Frames::closed(&capture).next().unwrap();
     /// assert_eq!(frame.message(), Ok(Message::Startup(Startup { reserved: 5 })));
     /// ```
@@ -108,10 +110,10 @@ pub fn answer(kind: u16, payload: &[u8]) -> Result<(), Refusal> {
 /// reading of a capture that goes on may take frames back.
 ///
 /// ```
-/// use yaqtumeer::{Frames, Heartbeat, totals};
+/// use yaqtumeer::{Frames, Heartbeat, Writer, totals};
 ///
 /// let mut capture = b"noise".to_vec();
-/// capture.extend(Heartbeat { flags: 0 }.frame(Some(1)).unwrap());
+/// capture.extend(Heartbeat { flags: 0 }.frame(Writer::new(1)).unwrap());
 /// capture.extend(b"more");
 /// let mut frames = Frames::closed(&capture);
 /// for frame in &mut frames {
@@ -142,10 +144,10 @@ impl<'a> Frames<'a> {
     /// Of the part of a capture that has come so far.
     ///
     /// ```
-    /// use yaqtumeer::{Dops, Frames};
+    /// use yaqtumeer::{Dops, Frames, Writer};
     ///
     /// // a frame that comes in two parts
-    /// let whole = Dops::default().frame(None).unwrap();
+    /// let whole = Dops::default().frame(Writer::new(1228)).unwrap();
     /// let mut frames = Frames::open(&whole[..10]);
     /// assert_eq!(frames.next(), None);
     /// assert_eq!((frames.position(), frames.needs()), (0, Some(whole.len())));
@@ -169,9 +171,9 @@ impl<'a> Frames<'a> {
     /// The same from a position on; what stands before it is not counted.
     ///
     /// ```
-    /// use yaqtumeer::{Frames, SettingsSave};
+    /// use yaqtumeer::{Frames, SettingsSave, Writer};
     ///
-    /// let two = SettingsSave {}.frame(None).unwrap().repeat(2);
+    /// let two = SettingsSave {}.frame(Writer::new(1228)).unwrap().repeat(2);
     /// let mut frames = Frames::closed(&two).starting_at(8);
     /// assert_eq!(frames.next().unwrap().at, 8);
     /// assert_eq!(frames.next(), None);

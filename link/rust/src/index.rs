@@ -19,10 +19,10 @@ const _: () = assert!(PIECE >= LONGEST_FRAME);
 /// A frame of a capture, as an [`Index`] has it.
 ///
 /// ```
-/// use yaqtumeer::{Entry, Heartbeat, Index};
+/// use yaqtumeer::{Entry, Heartbeat, Index, Writer};
 ///
 /// let mut index = Index::new();
-/// index.extend(&Heartbeat { flags: 0 }.frame(Some(1228)).unwrap()).unwrap();
+/// index.extend(&Heartbeat { flags: 0 }.frame(Writer::new(1228)).unwrap()).unwrap();
 /// let expected = Entry { offset: 0, kind: Heartbeat::KIND, sender: 1228, length: 4 };
 /// assert_eq!(index.iter().next(), Some(&expected));
 /// ```
@@ -49,10 +49,11 @@ pub struct Entry {
 /// index made afresh.
 ///
 /// ```
-/// use yaqtumeer::{Dops, Heartbeat, Index, Startup};
+/// use yaqtumeer::{Dops, Heartbeat, Index, Startup, Writer};
 ///
-/// let beat = Heartbeat { flags: 0 }.frame(Some(1228)).unwrap();
-/// let mut capture = [beat.clone(), Startup { reserved: 0 }.frame(Some(7)).unwrap()].concat();
+/// let beat = Heartbeat { flags: 0 }.frame(Writer::new(1228)).unwrap();
+/// let start = Startup { reserved: 0 }.frame(Writer::new(7)).unwrap();
+/// let mut capture = [beat.clone(), start].concat();
 /// let mut index = Index::new();
 /// index.extend(&capture).unwrap();
 /// assert_eq!(index.first(Heartbeat::KIND, 1228, 1), None);
@@ -93,9 +94,9 @@ impl Index {
     /// position reached.
     ///
     /// ```
-    /// use yaqtumeer::{Index, Refusal, SettingsSave};
+    /// use yaqtumeer::{Index, Refusal, SettingsSave, Writer};
     ///
-    /// let capture = SettingsSave {}.frame(None).unwrap();
+    /// let capture = SettingsSave {}.frame(Writer::new(1228)).unwrap();
     /// let mut index = Index::new();
     /// assert_eq!(index.extend(&capture[..5]), Ok(()));
     /// assert_eq!((index.reached(), index.iter().count()), (0, 0));
@@ -119,9 +120,9 @@ impl Index {
     /// position reached.
     ///
     /// ```
-    /// use yaqtumeer::{Index, SettingsSave};
+    /// use yaqtumeer::{Index, SettingsSave, Writer};
     ///
-    /// let capture = SettingsSave {}.frame(None).unwrap().repeat(2);
+    /// let capture = SettingsSave {}.frame(Writer::new(1228)).unwrap().repeat(2);
     /// let mut index = Index::new();
     /// index.extend(&capture[..11]).unwrap();
     /// assert_eq!(index.reached(), 8);
@@ -172,9 +173,9 @@ impl Index {
     /// it, of those read so far. Any type may be asked for.
     ///
     /// ```
-    /// use yaqtumeer::{Heartbeat, Index};
+    /// use yaqtumeer::{Heartbeat, Index, Writer};
     ///
-    /// let beats = Heartbeat { flags: 0 }.frame(Some(1228)).unwrap().repeat(3);
+    /// let beats = Heartbeat { flags: 0 }.frame(Writer::new(1228)).unwrap().repeat(3);
     /// let mut index = Index::new();
     /// index.extend(&beats).unwrap();
     /// assert_eq!(index.first(Heartbeat::KIND, 1228, 12).unwrap().offset, 12);
@@ -238,10 +239,10 @@ impl Index {
     /// The frames read so far, in the capture's order.
     ///
     /// ```
-    /// use yaqtumeer::{Index, Startup};
+    /// use yaqtumeer::{Index, Startup, Writer};
     ///
     /// let mut index = Index::new();
-    /// index.extend(&Startup { reserved: 0 }.frame(Some(9)).unwrap()).unwrap();
+    /// index.extend(&Startup { reserved: 0 }.frame(Writer::new(9)).unwrap()).unwrap();
     /// for entry in index.iter() {
     ///     println!("type {} of {} at {}", entry.kind, entry.sender, entry.offset);
     /// }

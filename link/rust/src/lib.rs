@@ -7,10 +7,10 @@
 //! its safe wrapper. What a call refuses it names by a [`Refusal`].
 //!
 //! ```
-//! use yaqtumeer::{Collator, Frames, Message, PosLlh};
+//! use yaqtumeer::{Collator, Frames, Message, PosLlh, Writer};
 //!
 //! let place = PosLlh { lat: 37.7749, lon: -122.4194, flags: 1, ..PosLlh::default() };
-//! let capture = place.frame(Some(1228)).unwrap();
+//! let capture = place.frame(Writer::new(1228)).unwrap();
 //!
 //! let mut collator = Collator::growing();
 //! let mut frames = Frames::closed(&capture);
@@ -42,6 +42,7 @@ mod raw;
 mod refusal;
 mod rows;
 mod version;
+mod writer;
 mod writing;
 
 pub use collator::{Collator, Epoch};
@@ -54,6 +55,7 @@ pub use messages::*;
 pub use phase::PhaseParts;
 pub use refusal::Refusal;
 pub use version::{Version, version};
+pub use writer::Writer;
 pub use writing::{LONGEST_FRAME, write_frame};
 
 /// The CRC that frames end with, of the bytes from type through payload:

@@ -14,8 +14,10 @@ use crate::writing::sized;
 /// Refused: [`Refusal::TooLong`].
 ///
 /// ```
-/// let capture = yaqtumeer::Heartbeat { flags: 0 }.frame(Some(9)).unwrap();
-/// let text = yaqtumeer::list(&capture).unwrap();
+/// use yaqtumeer::{Heartbeat, Writer, list};
+///
+/// let capture = Heartbeat { flags: 0 }.frame(Writer::new(9)).unwrap();
+/// let text = list(&capture).unwrap();
 /// assert_eq!(text, "F 0 65535 9 4 0\nT 12 12 0 0 0\n");
 /// ```
 pub fn list(capture: &[u8]) -> Result<String, Refusal> {

@@ -31,7 +31,7 @@ fn calls(text: &str, name: &str) -> bool {
 fn every_public_function() {
     let home = Path::new(env!("CARGO_MANIFEST_DIR"));
     let tests = text_of(&home.join("tests"));
-    let source = text_of(&home.join("src"));
+    let source = text_of(&home.join("src")).replace("pub const fn ", "pub fn ");
     // raw.rs declares the library's own functions, which are not public
     let ours = source.split("pub fn ").skip(1);
     let names = ours.filter_map(|rest| rest.split(['(', '<']).next());

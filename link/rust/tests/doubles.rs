@@ -3,7 +3,7 @@
 #[macro_use]
 mod common;
 
-use common::{Noise, PATTERNS, frame};
+use common::{Noise, PATTERNS, WRITER, frame};
 use yaqtumeer::*;
 
 /// Three doubles at an offset of a payload, in every message that has three.
@@ -28,7 +28,7 @@ fn three(bits: [u64; 3]) {
     );
     same!(
         case("PosEcef"),
-        read.frame(Some(1)),
+        read.frame(WRITER.named(1)),
         Ok(frame(0x0200, 1, &payload))
     );
 
@@ -41,7 +41,7 @@ fn three(bits: [u64; 3]) {
     );
     same!(
         case("PosLlh"),
-        read.frame(Some(1)),
+        read.frame(WRITER.named(1)),
         Ok(frame(0x0201, 1, &payload))
     );
 
@@ -59,7 +59,7 @@ fn three(bits: [u64; 3]) {
     };
     same!(
         case("BasePosLlh"),
-        written.frame(Some(1)),
+        written.frame(WRITER.named(1)),
         Ok(frame(0x0044, 1, &payload))
     );
 
@@ -77,7 +77,7 @@ fn three(bits: [u64; 3]) {
     same!(case("BasePosEcef"), written.row(), bits);
     same!(
         case("BasePosEcef"),
-        written.frame(Some(1)),
+        written.frame(WRITER.named(1)),
         Ok(frame(0x0048, 1, &payload))
     );
 }

@@ -4,7 +4,7 @@
 #[macro_use]
 mod common;
 
-use common::{frame, writes};
+use common::{WRITER, frame, writes};
 use yaqtumeer::*;
 
 /// A message without a tail: its payload, its fields, the numbers in its row.
@@ -306,7 +306,7 @@ fn obs_of_any_number() {
         same!("observations", read.observations.len(), k);
         same!(
             "frame",
-            read.frame(Some(k as u16)),
+            read.frame(WRITER.named(k as u16)),
             Ok(frame(Obs::KIND, k as u16, &payload))
         );
     }
@@ -363,7 +363,7 @@ fn log_text_and_its_padding() {
         };
         same!(format!("{payload:?}"), Log::read(payload), Ok(log.clone()));
         let whole = frame(Log::KIND, 0, payload);
-        writes("LOG", &whole, |out| log.write(Some(0), out));
+        writes("LOG", &whole, |out| log.write(WRITER.named(0), out));
     }
 }
 
@@ -378,7 +378,7 @@ fn logs_of_every_length_and_padding() {
             };
             let payload = [&[log.level][..], &log.text, &vec![0; padding]].concat();
             let what = format!("{length} bytes, {padding} zeros");
-            let frame = log.frame(None).unwrap();
+            let frame = log.frame(WRITER).unwrap();
             same!(what, frame[6..frame.len() - 2], payload);
             same!(what, Log::read(&payload), Ok(log));
         }
@@ -413,13 +413,13 @@ fn ends_of_formats() {
             d: n / 2,
             ..VelNed::default()
         };
-        let frame = way.frame(None).unwrap();
+        let frame = way.frame(WRITER).unwrap();
         same!("north", frame[10..14], n.to_le_bytes());
         same!("east", frame[14..18], (!n).to_le_bytes());
         same!("read back", VelNed::read(&frame[6..28]), Ok(way));
     }
     for index in [0, 1, 255, 256, u16::MAX] {
-        let frame = ReadByIndexReq { index }.frame(None).unwrap();
+        let frame = ReadByIndexReq { index }.frame(WRITER).unwrap();
         same!("index", frame[6..8], index.to_le_bytes());
     }
 }

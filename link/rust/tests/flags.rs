@@ -3,6 +3,7 @@
 #[macro_use]
 mod common;
 
+use common::WRITER;
 use yaqtumeer::*;
 
 /// The fix modes that the message's table has, from 0 on; the bits of the two
@@ -20,7 +21,7 @@ macro_rules! meanings {
             same!(what, message.raim_available(), flags >> $available & 1 == 1);
             same!(what, message.raim_repaired(), flags >> $repaired & 1 == 1);
             // a mode that the table leaves out can be neither written nor read
-            let told = message.frame(None);
+            let told = message.frame(WRITER);
             same!(
                 what,
                 told.clone().err(),
@@ -70,7 +71,7 @@ fn reserved_flags_take_any_value() {
                 flags,
                 ..GpsTime::default()
             }
-            .frame(None)
+            .frame(WRITER)
             .is_ok(),
             true
         );
@@ -80,7 +81,7 @@ fn reserved_flags_take_any_value() {
                 flags,
                 ..VelEcef::default()
             }
-            .frame(None)
+            .frame(WRITER)
             .is_ok(),
             true
         );
@@ -90,7 +91,7 @@ fn reserved_flags_take_any_value() {
                 flags,
                 ..VelNed::default()
             }
-            .frame(None)
+            .frame(WRITER)
             .is_ok(),
             true
         );

@@ -4,7 +4,7 @@
 #[macro_use]
 mod common;
 
-use common::{Noise, crc, frame, sample};
+use common::{Noise, WRITER, crc, frame, sample};
 use yaqtumeer::*;
 
 /// Offset, type, sender, payload and CRC of each frame; the counts; where the
@@ -175,7 +175,7 @@ fn a_frame_answers_for_its_payload() {
     let started = Startup {
         reserved: 0xa4a3a2a1,
     };
-    let capture = started.frame(Some(1)).unwrap();
+    let capture = started.frame(WRITER).unwrap();
     let found = Frames::closed(&capture).next().unwrap();
     same!("answer", found.answer(), Ok(()));
     same!("message", found.message(), Ok(Message::Startup(started)));

@@ -5,7 +5,7 @@
 #[macro_use]
 mod common;
 
-use common::PATTERNS;
+use common::{PATTERNS, WRITER};
 use yaqtumeer::*;
 
 /// Payloads of so many bytes, the doubles at these offsets: with bytes that
@@ -192,7 +192,7 @@ fn group_delays_of_either_sign() {
             isc_l2c: !tgd,
             ..GroupDelay::default()
         };
-        let frame = delay.frame(None).unwrap();
+        let frame = delay.frame(WRITER).unwrap();
         same!("tgd", frame[14..16], tgd.to_le_bytes());
         same!("isc_l2c", frame[18..20], (!tgd).to_le_bytes());
         same!("its row", delay.row()[4], i64::from(tgd) as u64);

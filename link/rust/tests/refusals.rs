@@ -3,7 +3,7 @@
 #[macro_use]
 mod common;
 
-use common::refuses;
+use common::{WRITER, refuses};
 use yaqtumeer::*;
 
 #[test]
@@ -119,7 +119,7 @@ fn nanoseconds() {
             flags: 0,
         };
         let payload = [&[0; 6][..], &ns.to_le_bytes(), &[0]].concat();
-        same!(format!("{ns} written"), time.frame(None).is_ok(), held);
+        same!(format!("{ns} written"), time.frame(WRITER).is_ok(), held);
         same!(format!("{ns} read"), GpsTime::read(&payload).is_ok(), held);
         if !held {
             same!(
@@ -128,7 +128,7 @@ fn nanoseconds() {
                 Err(Refusal::OutOfRange)
             );
             refuses("a range", 64, Refusal::OutOfRange, |out| {
-                time.write(None, out)
+                time.write(WRITER, out)
             });
         }
     }
@@ -147,7 +147,7 @@ fn a_range_comes_before_room() {
     for message in [Message::from(time), Message::from(heading)] {
         for room in [0, 7, 64] {
             refuses("a range", room, Refusal::OutOfRange, |out| {
-                message.write(None, out)
+                message.write(WRITER, out)
             });
         }
     }
@@ -166,19 +166,23 @@ fn too_much_comes_before_room() {
     };
     for room in [0, 7, 300] {
         refuses("16 observations", room, Refusal::TooMuch, |out| {
-            obs.write(None, out)
+            obs.write(WRITER, out)
         });
         refuses("255 bytes of text", room, Refusal::TooMuch, |out| {
-            log.write(None, out)
+            log.write(WRITER, out)
         });
         refuses("256 bytes", room, Refusal::TooMuch, |out| {
-            write_frame(out, 1, None, &[0; 256])
+            write_frame(out, 1, WRITER, &[0; 256])
         });
     }
-    same!("frame of 16", obs.frame(Some(1)), Err(Refusal::TooMuch));
+    same!(
+        "frame of 16",
+        obs.frame(WRITER.named(1)),
+        Err(Refusal::TooMuch)
+    );
     same!(
         "frame of 255",
-        Message::from(log).frame(Some(1)),
+        Message::from(log).frame(WRITER.named(1)),
         Err(Refusal::TooMuch)
     );
 }
@@ -225,9 +229,11 @@ fn a_zero_in_a_text_to_write() {
             };
             for room in [0, 7, 400] {
                 let what = format!("{length} bytes, a zero at {zero}, {padding} after them");
-                refuses(&what, room, Refusal::OutOfRange, |out| log.write(None, out));
+                refuses(&what, room, Refusal::OutOfRange, |out| {
+                    log.write(WRITER, out)
+                });
             }
-            same!("frame", log.frame(None), Err(Refusal::OutOfRange));
+            same!("frame", log.frame(WRITER), Err(Refusal::OutOfRange));
         }
     }
 }
@@ -256,9 +262,9 @@ fn text_and_padding_that_are_too_much() {
         };
         for room in [0, 7, 400] {
             let what = format!("{length} bytes, {padding} zeros");
-            refuses(&what, room, Refusal::TooMuch, |out| log.write(None, out));
+            refuses(&what, room, Refusal::TooMuch, |out| log.write(WRITER, out));
         }
-        same!("frame", log.frame(None), Err(Refusal::TooMuch));
+        same!("frame", log.frame(WRITER), Err(Refusal::TooMuch));
     }
 }
 

@@ -3,7 +3,7 @@
 #[macro_use]
 mod common;
 
-use common::{Noise, crc as bit_by_bit, frame, sample, writes};
+use common::{Noise, WRITER, crc as bit_by_bit, frame, sample, writes};
 use yaqtumeer::*;
 
 #[test]
@@ -14,37 +14,10 @@ fn frames_of_any_length() {
         let payload = noise.bytes(n);
         let whole = frame(kind, sender, &payload);
         writes("a frame", &whole, |out| {
-            write_frame(out, kind, Some(sender), &payload)
+            write_frame(out, kind, WRITER.named(sender), &payload)
         });
     }
     same!("the longest", LONGEST_FRAME, frame(1, 2, &[3; 255]).len());
-}
-
-/// Every sender is one like the others; none given is 0x42.
-#[test]
-fn senders() {
-    let beat = Heartbeat { flags: 0xa4a3a2a1 };
-    let payload = beat.flags.to_le_bytes();
-    for sender in [0, 1, 0x42, 1228, 65535] {
-        let whole = frame(Heartbeat::KIND, sender, &payload);
-        writes("a sender", &whole, |out| beat.write(Some(sender), out));
-        writes("a sender", &whole, |out| {
-            write_frame(out, 0xffff, Some(sender), &payload)
-        });
-    }
-    let whole = frame(Heartbeat::KIND, 0x42, &payload);
-    writes("no sender", &whole, |out| beat.write(None, out));
-    writes("no sender", &whole, |out| {
-        write_frame(out, 0xffff, None, &payload)
-    });
-    let obs = frame(Obs::KIND, 0x42, &[0; 7]);
-    writes("no sender of OBS", &obs, |out| {
-        Obs::default().write(None, out)
-    });
-    let log = frame(Log::KIND, 0x42, &[0]);
-    writes("no sender of LOG", &log, |out| {
-        Log::default().write(None, out)
-    });
 }
 
 #[test]
@@ -197,7 +170,7 @@ fn versions() {
         version(),
         Version {
             major: 0,
-            minor: 12,
+            minor: 13,
             patch: 0
         }
     );

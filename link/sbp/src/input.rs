@@ -161,14 +161,15 @@ pub fn read_source(
 #[cfg(test)]
 mod tests {
     use super::*;
-    use yaqtumeer::{totals, write_frame};
+    use yaqtumeer::{Writer, totals, write_frame};
 
     /// Frames of all lengths with noise between them, and a cut one at the end.
     fn capture() -> Vec<u8> {
         let mut capture = Vec::new();
         for n in 0..=255 {
             let mut frame = [0; LONGEST_FRAME];
-            let size = write_frame(&mut frame, 0x0800 + n, Some(n), &vec![0x55; n.into()]);
+            let payload = vec![0x55; n.into()];
+            let size = write_frame(&mut frame, 0x0800 + n, Writer::new(n), &payload);
             capture.extend_from_slice(&frame[..size.expect("there is room")]);
             capture.extend_from_slice(&[0x55, 9, 0x55][..usize::from(n % 4)]);
         }

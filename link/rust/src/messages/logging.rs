@@ -3,15 +3,16 @@
 use crate::raw;
 use crate::refusal::Refusal;
 use crate::rows;
-use crate::writing::{sender_number, sized};
+use crate::writer::Writer;
+use crate::writing::sized;
 
 /// A line of the device's log: a level, a text, and zeros to the end.
 ///
 /// ```
-/// use yaqtumeer::Log;
+/// use yaqtumeer::{Log, Writer};
 ///
 /// let line = Log { level: 6, text: b"antenna open".to_vec(), padding: 1 };
-/// let frame = line.frame(None).unwrap();
+/// let frame = line.frame(Writer::new(1228)).unwrap();
 /// assert_eq!(Log::read(&frame[6..frame.len() - 2]), Ok(line));
 /// ```
 #[derive(Clone, Debug, Default, PartialEq, Eq, Hash)]
@@ -46,10 +47,10 @@ impl Log {
     /// What was read is written as the same bytes.
     ///
     /// ```
-    /// use yaqtumeer::Log;
+    /// use yaqtumeer::{Log, Writer};
     ///
     /// let payload = b"\x04late\0\0";
-    /// let frame = Log::read(payload).unwrap().frame(None).unwrap();
+    /// let frame = Log::read(payload).unwrap().frame(Writer::new(1228)).unwrap();
     /// assert_eq!(&frame[6..13], payload);
     /// ```
     pub fn read(payload: &[u8]) -> Result<Log, Refusal> {
@@ -62,28 +63,30 @@ impl Log {
     }
 
     /// Writes it as a frame at the buffer's start, and says the frame's length.
-    /// Without a sender it is 0x42.
+    /// The [`Writer`] says who sends it.
     ///
     /// Refused: [`Refusal::OutOfRange`] for a zero in the text, however long,
     /// [`Refusal::TooMuch`], [`Refusal::NoRoom`]; then nothing is written.
     ///
     /// ```
-    /// use yaqtumeer::{Log, Refusal};
+    /// use yaqtumeer::{Log, Refusal, Writer};
     ///
-    /// let mut out = [0; 300];
+    /// let (mut out, recorder) = ([0; 300], Writer::new(1228));
     /// let line = Log { level: 3, text: b"x".to_vec(), padding: 0 };
-    /// assert_eq!(line.write(None, &mut out), Ok(10));
+    /// assert_eq!(line.write(recorder, &mut out), Ok(10));
     /// let zero = Log { text: b"x\0".to_vec(), ..line.clone() };
-    /// assert_eq!(zero.write(None, &mut out), Err(Refusal::OutOfRange));
+    /// assert_eq!(zero.write(recorder, &mut out), Err(Refusal::OutOfRange));
     /// let long = Log { padding: 254, ..line };
-    /// assert_eq!(long.write(None, &mut out), Err(Refusal::TooMuch));
+    /// assert_eq!(long.write(recorder, &mut out), Err(Refusal::TooMuch));
     /// ```
-    pub fn write(&self, sender: Option<u16>, out: &mut [u8]) -> Result<usize, Refusal> {
+    pub fn write(&self, writer: Writer, out: &mut [u8]) -> Result<usize, Refusal> {
+        let (own, sender) = writer.numbers();
         sized(|size| unsafe {
             raw::sbp_write_log(
                 out.as_mut_ptr(),
                 out.len(),
-                sender_number(sender),
+                own,
+                sender,
                 self.level,
                 self.text.as_ptr(),
                 self.text.len(),

@@ -69,9 +69,9 @@ macro_rules! message {
             /// [`Refusal::OutOfRange`](crate::Refusal::OutOfRange).
             ///
             /// ```
-            #[doc = concat!("use yaqtumeer::{", stringify!($name), ", Refusal};")]
+            #[doc = concat!("use yaqtumeer::{", stringify!($name), ", Refusal, Writer};")]
             ///
-            #[doc = concat!("let frame = ", stringify!($name), "::default().frame(None).unwrap();")]
+            #[doc = concat!("let frame = ", stringify!($name), "::default().frame(Writer::new(1228)).unwrap();")]
             /// let payload = &frame[6..frame.len() - 2];
             #[doc = concat!("assert_eq!(", stringify!($name), "::read(payload), Ok(", stringify!($name), "::default()));")]
             #[doc = concat!("assert_eq!(", stringify!($name), "::read(&[0; 99]), Err(Refusal::WrongLength));")]
@@ -82,23 +82,23 @@ macro_rules! message {
             }
 
             /// Writes it as a frame at the buffer's start, and says the frame's
-            /// length. Without a sender it is 0x42.
+            /// length. The [`Writer`](crate::Writer) says who sends it.
             ///
             /// Refused: [`Refusal::OutOfRange`](crate::Refusal::OutOfRange),
             /// [`Refusal::NoRoom`](crate::Refusal::NoRoom); then nothing is
             /// written.
             ///
             /// ```
-            #[doc = concat!("use yaqtumeer::{", stringify!($name), ", LONGEST_FRAME, Refusal};")]
+            #[doc = concat!("use yaqtumeer::{", stringify!($name), ", LONGEST_FRAME, Refusal, Writer};")]
             ///
-            /// let mut out = [0; LONGEST_FRAME];
-            #[doc = concat!("let size = ", stringify!($name), "::default().write(Some(7), &mut out).unwrap();")]
+            /// let (mut out, recorder) = ([0; LONGEST_FRAME], Writer::new(1228));
+            #[doc = concat!("let size = ", stringify!($name), "::default().write(recorder.named(7), &mut out).unwrap();")]
             /// assert_eq!((out[0], out[3]), (0x55, 7));
             /// let short = &mut out[..size - 1];
-            #[doc = concat!("assert_eq!(", stringify!($name), "::default().write(None, short), Err(Refusal::NoRoom));")]
+            #[doc = concat!("assert_eq!(", stringify!($name), "::default().write(recorder, short), Err(Refusal::NoRoom));")]
             /// ```
-            pub fn write(&self, sender: Option<u16>, out: &mut [u8]) -> Result<usize, crate::Refusal> {
-                crate::writing::write_row(out, $name::KIND, sender, &self.row())
+            pub fn write(&self, writer: crate::Writer, out: &mut [u8]) -> Result<usize, crate::Refusal> {
+                crate::writing::write_row(out, $name::KIND, writer, &self.row())
             }
         }
     };
@@ -125,14 +125,14 @@ macro_rules! kind {
             /// The frame that [`write`](Self::write) writes, in memory of its own.
             ///
             /// ```
-            #[doc = concat!("use yaqtumeer::{Frames, ", stringify!($name), "};")]
+            #[doc = concat!("use yaqtumeer::{Frames, ", stringify!($name), ", Writer};")]
             ///
-            #[doc = concat!("let frame = ", stringify!($name), "::default().frame(None).unwrap();")]
+            #[doc = concat!("let frame = ", stringify!($name), "::default().frame(Writer::new(1228).named(7)).unwrap();")]
             /// let found = Frames::closed(&frame).next().unwrap();
-            #[doc = concat!("assert_eq!((found.kind, found.sender), (", stringify!($name), "::KIND, 0x42));")]
+            #[doc = concat!("assert_eq!((found.kind, found.sender), (", stringify!($name), "::KIND, 7));")]
             /// ```
-            pub fn frame(&self, sender: Option<u16>) -> Result<Vec<u8>, crate::Refusal> {
-                crate::writing::framed(|out| self.write(sender, out))
+            pub fn frame(&self, writer: crate::Writer) -> Result<Vec<u8>, crate::Refusal> {
+                crate::writing::framed(|out| self.write(writer, out))
             }
         }
     };

@@ -17,6 +17,7 @@ pub use settings::*;
 pub use system::*;
 
 use crate::refusal::Refusal;
+use crate::writer::Writer;
 
 macro_rules! messages {
     ($($name:ident)*) => {
@@ -26,11 +27,12 @@ macro_rules! messages {
         /// [`row`](Message::row)s for equality to the bit.
         ///
         /// ```
-        /// use yaqtumeer::{Frames, Heartbeat, Log, Message};
+        /// use yaqtumeer::{Frames, Heartbeat, Log, Message, Writer};
         ///
         /// let log = Log { level: 6, text: b"ready".to_vec(), padding: 0 };
         /// let beat = Heartbeat { flags: 0 };
-        /// let capture = [log.frame(None).unwrap(), beat.frame(None).unwrap()].concat();
+        /// let recorder = Writer::new(1228);
+        /// let capture = [log.frame(recorder).unwrap(), beat.frame(recorder).unwrap()].concat();
         /// for frame in Frames::closed(&capture) {
         ///     match frame.message() {
         ///         Ok(Message::Log(log)) => println!("{}", String::from_utf8_lossy(&log.text)),
@@ -118,22 +120,22 @@ macro_rules! messages {
             }
 
             /// Writes it as a frame at the buffer's start, and says the frame's
-            /// length. Without a sender it is 0x42.
+            /// length. The [`Writer`] says who sends it.
             ///
             /// Refused: [`Refusal::OutOfRange`], [`Refusal::TooMuch`],
             /// [`Refusal::NoRoom`]; then nothing is written.
             ///
             /// ```
-            /// use yaqtumeer::{Message, SettingsSave};
+            /// use yaqtumeer::{Message, SettingsSave, Writer};
             ///
             /// let mut out = [0; 8];
             /// let save = Message::from(SettingsSave {});
-            /// assert_eq!(save.write(Some(0x1234), &mut out), Ok(8));
-            /// assert_eq!(out[..6], [0x55, 0xa1, 0x00, 0x34, 0x12, 0]);
+            /// assert_eq!(save.write(Writer::new(0x1234), &mut out), Ok(8));
+            /// assert_eq!(out[..6], [0x55, 0xa1, 0x00, 0x42, 0x00, 0]);
             /// ```
-            pub fn write(&self, sender: Option<u16>, out: &mut [u8]) -> Result<usize, Refusal> {
+            pub fn write(&self, writer: Writer, out: &mut [u8]) -> Result<usize, Refusal> {
                 match self {
-                    $(Message::$name(message) => message.write(sender, out),)*
+                    $(Message::$name(message) => message.write(writer, out),)*
                 }
             }
         }
@@ -158,13 +160,13 @@ impl Message {
     /// The frame that [`write`](Message::write) writes, in memory of its own.
     ///
     /// ```
-    /// use yaqtumeer::{Frames, Message, Startup};
+    /// use yaqtumeer::{Frames, Message, Startup, Writer};
     ///
     /// let started = Message::from(Startup { reserved: 0 });
-    /// let capture = started.frame(Some(1228)).unwrap();
+    /// let capture = started.frame(Writer::new(1228)).unwrap();
     /// assert_eq!(Frames::closed(&capture).next().unwrap().message(), Ok(started));
     /// ```
-    pub fn frame(&self, sender: Option<u16>) -> Result<Vec<u8>, Refusal> {
-        crate::writing::framed(|out| self.write(sender, out))
+    pub fn frame(&self, writer: Writer) -> Result<Vec<u8>, Refusal> {
+        crate::writing::framed(|out| self.write(writer, out))
     }
 }

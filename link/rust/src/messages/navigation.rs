@@ -4,13 +4,13 @@ message! {
     /// GPS time.
     ///
     /// ```
-    /// use yaqtumeer::{GpsTime, Refusal};
+    /// use yaqtumeer::{GpsTime, Refusal, Writer};
     ///
     /// let time = GpsTime { wn: 1900, tow: 416300400, ns: -250000, flags: 0 };
-    /// let frame = time.frame(Some(1228)).unwrap();
+    /// let frame = time.frame(Writer::new(1228)).unwrap();
     /// assert_eq!(GpsTime::read(&frame[6..17]), Ok(time));
     /// let late = GpsTime { ns: 500001, ..time };
-    /// assert_eq!(late.frame(None), Err(Refusal::OutOfRange));
+    /// assert_eq!(late.frame(Writer::new(1228)), Err(Refusal::OutOfRange));
     /// ```
     #[derive(Eq, Hash)]
     GpsTime = 0x0100, "MSG_GPS_TIME" {
@@ -58,10 +58,10 @@ message! {
     /// [`row`](PosEcef::row)s for equality to the bit.
     ///
     /// ```
-    /// use yaqtumeer::{Fix, PosEcef};
+    /// use yaqtumeer::{Fix, PosEcef, Writer};
     ///
     /// let place = PosEcef { x: -2704375.5, flags: 2, ..PosEcef::default() };
-    /// let read = PosEcef::read(&place.frame(None).unwrap()[6..38]).unwrap();
+    /// let read = PosEcef::read(&place.frame(Writer::new(1228)).unwrap()[6..38]).unwrap();
     /// assert_eq!((read.x, read.fix()), (-2704375.5, Fix::Fixed));
     /// ```
     PosEcef = 0x0200, "MSG_POS_ECEF" {
@@ -91,10 +91,10 @@ message! {
     /// [`row`](PosLlh::row)s for equality to the bit.
     ///
     /// ```
-    /// use yaqtumeer::{Fix, PosLlh};
+    /// use yaqtumeer::{Fix, PosLlh, Writer};
     ///
     /// let place = PosLlh { lat: 37.7749, lon: -122.4194, flags: 1, ..PosLlh::default() };
-    /// let read = PosLlh::read(&place.frame(None).unwrap()[6..40]).unwrap();
+    /// let read = PosLlh::read(&place.frame(Writer::new(1228)).unwrap()[6..40]).unwrap();
     /// assert_eq!((read.lon, read.fix()), (-122.4194, Fix::Fixed));
     /// ```
     PosLlh = 0x0201, "MSG_POS_LLH" {
@@ -138,7 +138,7 @@ message! {
     /// coordinates.
     ///
     /// ```
-    /// use yaqtumeer::{BaselineEcef, Frames, Message};
+    /// use yaqtumeer::{BaselineEcef, Frames, Message, Writer};
     ///
     /// // the example of the published protocol
     /// let capture = [
@@ -148,7 +148,7 @@ message! {
     /// let frame = Frames::closed(&capture).next().unwrap();
     /// let Ok(Message::BaselineEcef(way)) = frame.message() else { panic!("it is one") };
     /// assert_eq!((way.tow, way.x, way.y, way.z), (416300400, -4145, -5905, 6384));
-    /// assert_eq!(way.frame(Some(frame.sender)).unwrap(), capture);
+    /// assert_eq!(way.frame(Writer::new(frame.sender)).unwrap(), capture);
     /// ```
     #[derive(Eq, Hash)]
     BaselineEcef = 0x0202, "MSG_BASELINE_ECEF" {
@@ -175,10 +175,10 @@ message! {
     /// The way from the base to the rover, to the north, the east and down.
     ///
     /// ```
-    /// use yaqtumeer::BaselineNed;
+    /// use yaqtumeer::{BaselineNed, Writer};
     ///
     /// let way = BaselineNed { n: 1500, e: -20, d: 7, n_sats: 9, ..BaselineNed::default() };
-    /// assert_eq!(BaselineNed::read(&way.frame(None).unwrap()[6..28]), Ok(way));
+    /// assert_eq!(BaselineNed::read(&way.frame(Writer::new(1228)).unwrap()[6..28]), Ok(way));
     /// ```
     #[derive(Eq, Hash)]
     BaselineNed = 0x0203, "MSG_BASELINE_NED" {
@@ -207,10 +207,10 @@ message! {
     /// A velocity in Earth-centred, Earth-fixed coordinates.
     ///
     /// ```
-    /// use yaqtumeer::VelEcef;
+    /// use yaqtumeer::{VelEcef, Writer};
     ///
     /// let speed = VelEcef { tow: 1000, x: -30, y: 40, z: 0, ..VelEcef::default() };
-    /// assert_eq!(VelEcef::read(&speed.frame(None).unwrap()[6..26]), Ok(speed));
+    /// assert_eq!(VelEcef::read(&speed.frame(Writer::new(1228)).unwrap()[6..26]), Ok(speed));
     /// ```
     #[derive(Eq, Hash)]
     VelEcef = 0x0204, "MSG_VEL_ECEF" {
@@ -235,10 +235,10 @@ message! {
     /// A velocity to the north, the east and down.
     ///
     /// ```
-    /// use yaqtumeer::VelNed;
+    /// use yaqtumeer::{VelNed, Writer};
     ///
     /// let speed = VelNed { tow: 1000, n: -30, e: 40, d: 1, ..VelNed::default() };
-    /// assert_eq!(VelNed::read(&speed.frame(None).unwrap()[6..28]), Ok(speed));
+    /// assert_eq!(VelNed::read(&speed.frame(Writer::new(1228)).unwrap()[6..28]), Ok(speed));
     /// ```
     #[derive(Eq, Hash)]
     VelNed = 0x0205, "MSG_VEL_NED" {

@@ -4,17 +4,18 @@ use crate::phase::PhaseParts;
 use crate::raw;
 use crate::refusal::{Refusal, answered};
 use crate::rows;
-use crate::writing::{sender_number, sized};
+use crate::writer::Writer;
+use crate::writing::sized;
 
 rowed! {
     /// What was seen of one satellite's signal.
     ///
     /// ```
-    /// use yaqtumeer::{Obs, Observation};
+    /// use yaqtumeer::{Obs, Observation, Writer};
     ///
     /// let seen = Observation { p: 1080000000, l_i: -3, l_f: 128, sat: 22, ..Observation::default() };
     /// let packet = Obs { tow: 1000, wn: 1900, n_obs: 0x10, observations: vec![seen] };
-    /// let frame = packet.frame(Some(1228)).unwrap();
+    /// let frame = packet.frame(Writer::new(1228)).unwrap();
     /// assert_eq!(Observation::read(Obs::KIND, &frame[6..29], 0), Ok(seen));
     /// ```
     #[derive(Eq, Hash)]
@@ -84,11 +85,11 @@ impl Observation {
 /// a [`Collator`](crate::Collator) collates.
 ///
 /// ```
-/// use yaqtumeer::{Obs, Observation};
+/// use yaqtumeer::{Obs, Observation, Writer};
 ///
 /// let seen = Observation { sat: 22, cn0: 160, ..Observation::default() };
 /// let packet = Obs { tow: 1000, wn: 1900, n_obs: 0x31, observations: vec![seen; 2] };
-/// let frame = packet.frame(Some(1228)).unwrap();
+/// let frame = packet.frame(Writer::new(1228)).unwrap();
 /// assert_eq!(Obs::read(&frame[6..45]), Ok(packet));
 /// ```
 #[derive(Clone, Debug, Default, PartialEq, Eq, Hash)]
@@ -129,20 +130,21 @@ impl Obs {
     }
 
     /// Writes it as a frame at the buffer's start, and says the frame's length.
-    /// Without a sender it is 0x42.
+    /// The [`Writer`] says who sends it.
     ///
     /// Refused: [`Refusal::TooMuch`], [`Refusal::NoRoom`]; then nothing is
     /// written.
     ///
     /// ```
-    /// use yaqtumeer::{Obs, Observation, Refusal};
+    /// use yaqtumeer::{Obs, Observation, Refusal, Writer};
     ///
-    /// let mut out = [0; 300];
-    /// assert_eq!(Obs::default().write(None, &mut out), Ok(15));
+    /// let (mut out, recorder) = ([0; 300], Writer::new(1228));
+    /// assert_eq!(Obs::default().write(recorder, &mut out), Ok(15));
     /// let many = Obs { observations: vec![Observation::default(); 16], ..Obs::default() };
-    /// assert_eq!(many.write(None, &mut out), Err(Refusal::TooMuch));
+    /// assert_eq!(many.write(recorder, &mut out), Err(Refusal::TooMuch));
     /// ```
-    pub fn write(&self, sender: Option<u16>, out: &mut [u8]) -> Result<usize, Refusal> {
+    pub fn write(&self, writer: Writer, out: &mut [u8]) -> Result<usize, Refusal> {
+        let (own, sender) = writer.numbers();
         let head = self.head();
         let rows = self.rows();
         sized(|size| unsafe {
@@ -150,7 +152,8 @@ impl Obs {
                 out.as_mut_ptr(),
                 out.len(),
                 Obs::KIND,
-                sender_number(sender),
+                own,
+                sender,
                 head.as_ptr(),
                 head.len(),
                 rows.as_ptr(),
@@ -216,10 +219,11 @@ message! {
     /// [`row`](BasePosLlh::row)s for equality to the bit.
     ///
     /// ```
-    /// use yaqtumeer::BasePosLlh;
+    /// use yaqtumeer::{BasePosLlh, Writer};
     ///
     /// let base = BasePosLlh { lat: 37.7749, lon: -122.4194, height: 21.5 };
-    /// assert_eq!(BasePosLlh::read(&base.frame(Some(1228)).unwrap()[6..30]), Ok(base));
+    /// let frame = base.frame(Writer::new(1228)).unwrap();
+    /// assert_eq!(BasePosLlh::read(&frame[6..30]), Ok(base));
     /// ```
     BasePosLlh = 0x0044, "MSG_BASE_POS_LLH" {
         /// Latitude in degrees.
@@ -239,10 +243,11 @@ message! {
     /// [`row`](BasePosEcef::row)s for equality to the bit.
     ///
     /// ```
-    /// use yaqtumeer::BasePosEcef;
+    /// use yaqtumeer::{BasePosEcef, Writer};
     ///
     /// let base = BasePosEcef { x: -2704375.5, y: -4263210.25, z: 3884637.0 };
-    /// assert_eq!(BasePosEcef::read(&base.frame(Some(1228)).unwrap()[6..30]), Ok(base));
+    /// let frame = base.frame(Writer::new(1228)).unwrap();
+    /// assert_eq!(BasePosEcef::read(&frame[6..30]), Ok(base));
     /// ```
     BasePosEcef = 0x0048, "MSG_BASE_POS_ECEF" {
         /// X in m.

@@ -89,10 +89,10 @@ message! {
     /// [`row`](EphemerisGps::row)s for equality to the bit.
     ///
     /// ```
-    /// use yaqtumeer::EphemerisGps;
+    /// use yaqtumeer::{EphemerisGps, Writer};
     ///
     /// let orbit = EphemerisGps { sqrta: 5153.7, ecc: 0.0125, iodc: 257, ..EphemerisGps::default() };
-    /// let frame = orbit.frame(Some(1228)).unwrap();
+    /// let frame = orbit.frame(Writer::new(1228)).unwrap();
     /// assert_eq!(EphemerisGps::read(&frame[6..191]), Ok(orbit));
     /// ```
     EphemerisGps = 0x0081, "MSG_EPHEMERIS_GPS" {
@@ -152,11 +152,11 @@ message! {
     /// [`row`](EphemerisSbas::row)s for equality to the bit.
     ///
     /// ```
-    /// use yaqtumeer::{EphemerisSbas, Motion};
+    /// use yaqtumeer::{EphemerisSbas, Motion, Writer};
     ///
     /// let motion = Motion { vel: [0.5, -0.25, 1.0], ..Motion::default() };
     /// let orbit = EphemerisSbas { motion, a_gf0: -1e-7, ..EphemerisSbas::default() };
-    /// let frame = orbit.frame(Some(1228)).unwrap();
+    /// let frame = orbit.frame(Writer::new(1228)).unwrap();
     /// assert_eq!(EphemerisSbas::read(&frame[6..118]), Ok(orbit));
     /// ```
     EphemerisSbas = 0x0082, "MSG_EPHEMERIS_SBAS" {
@@ -178,11 +178,11 @@ message! {
     /// [`row`](EphemerisGlo::row)s for equality to the bit.
     ///
     /// ```
-    /// use yaqtumeer::{EphemerisGlo, Motion};
+    /// use yaqtumeer::{EphemerisGlo, Motion, Writer};
     ///
     /// let motion = Motion { acc: [0.0, 1.8e-6, -2.7e-6], ..Motion::default() };
     /// let orbit = EphemerisGlo { tau: 2.5e-5, motion, ..EphemerisGlo::default() };
-    /// let frame = orbit.frame(Some(1228)).unwrap();
+    /// let frame = orbit.frame(Writer::new(1228)).unwrap();
     /// assert_eq!(EphemerisGlo::read(&frame[6..118]), Ok(orbit));
     /// ```
     EphemerisGlo = 0x0083, "MSG_EPHEMERIS_GLO" {
@@ -204,10 +204,11 @@ message! {
     /// [`row`](Iono::row)s for equality to the bit.
     ///
     /// ```
-    /// use yaqtumeer::Iono;
+    /// use yaqtumeer::{Iono, Writer};
     ///
     /// let iono = Iono { a: [4.6e-9, 1.4e-8, -5.9e-8, -1.1e-7], ..Iono::default() };
-    /// assert_eq!(Iono::read(&iono.frame(Some(1228)).unwrap()[6..76]), Ok(iono));
+    /// let frame = iono.frame(Writer::new(1228)).unwrap();
+    /// assert_eq!(Iono::read(&frame[6..76]), Ok(iono));
     /// ```
     Iono = 0x0090, "MSG_IONO" {
         /// Its time.
@@ -241,11 +242,12 @@ message! {
     /// Group delays of a satellite, in 2^-35 s.
     ///
     /// ```
-    /// use yaqtumeer::GroupDelay;
+    /// use yaqtumeer::{GroupDelay, Writer};
     ///
     /// let delay = GroupDelay { prn: 22, valid: 7, tgd: -3, ..GroupDelay::default() };
     /// assert_eq!(delay.row()[2..5], [22, 7, -3_i64 as u64]);
-    /// assert_eq!(GroupDelay::read(&delay.frame(None).unwrap()[6..20]), Ok(delay));
+    /// let frame = delay.frame(Writer::new(1228)).unwrap();
+    /// assert_eq!(GroupDelay::read(&frame[6..20]), Ok(delay));
     /// ```
     #[derive(Eq, Hash)]
     GroupDelay = 0x0092, "MSG_GROUP_DELAY" {

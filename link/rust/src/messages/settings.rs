@@ -4,9 +4,10 @@ message! {
     /// Asks the device to keep its settings.
     ///
     /// ```
-    /// use yaqtumeer::SettingsSave;
+    /// use yaqtumeer::{SettingsSave, Writer};
     ///
-    /// assert_eq!(SettingsSave {}.frame(None).unwrap().len(), 8);
+    /// let frame = SettingsSave {}.frame(Writer::new(1228)).unwrap();
+    /// assert_eq!(frame[..6], [0x55, 0xa1, 0x00, 0x42, 0x00, 0]);
     /// ```
     #[derive(Eq, Hash)]
     SettingsSave = 0x00a1, "MSG_SETTINGS_SAVE" {}

@@ -2,7 +2,7 @@
 //! byte by byte without the library, lent buffers between guard bytes.
 #![allow(dead_code, unused_macros)] // each test takes what it needs
 
-use yaqtumeer::Refusal;
+use yaqtumeer::{Refusal, Writer};
 
 /// Fails with a line that begins with `differs: `.
 macro_rules! same {
@@ -17,7 +17,7 @@ macro_rules! same {
 /// What holds of a message, its payload, its row and itself as any message.
 macro_rules! message {
     ($message:expr, $name:ident = $kind:literal, $published:literal, $payload:expr, $row:expr) => {{
-        use $crate::common::{SENDER, frame, writes};
+        use $crate::common::{OWN, SENDER, WRITER, frame, sent_by, writes};
         let (message, payload) = ($message, &$payload[..]);
         let row: Vec<u64> = $row.to_vec();
         same!("KIND", $name::KIND, $kind);
@@ -28,12 +28,13 @@ macro_rules! message {
             Ok(row.clone())
         );
         same!("row", message.row().to_vec(), row);
+        let named = WRITER.named(SENDER);
         let written = frame($kind, SENDER, payload);
-        writes($published, &written, |out| message.write(Some(SENDER), out));
-        same!("frame", message.frame(Some(SENDER)), Ok(written.clone()));
-        let unnamed = frame($kind, 0x42, payload);
-        writes($published, &unnamed, |out| message.write(None, out));
-        same!("frame", message.frame(None), Ok(unnamed.clone()));
+        writes($published, &written, |out| message.write(named, out));
+        same!("frame", message.frame(named), Ok(written.clone()));
+        let unnamed = frame($kind, sent_by($kind, OWN, None), payload);
+        writes($published, &unnamed, |out| message.write(WRITER, out));
+        same!("frame", message.frame(WRITER), Ok(unnamed.clone()));
 
         let any = Message::from(message);
         same!("variant", matches!(any, Message::$name(_)), true);
@@ -45,16 +46,30 @@ macro_rules! message {
         same!("Message::kind", any.kind(), $kind);
         same!("Message::name", any.name(), $published);
         same!("Message::row", any.row(), row);
-        writes($published, &written, |out| any.write(Some(SENDER), out));
-        same!("Message::frame", any.frame(Some(SENDER)), Ok(written));
-        writes($published, &unnamed, |out| any.write(None, out));
-        same!("Message::frame", any.frame(None), Ok(unnamed));
+        writes($published, &written, |out| any.write(named, out));
+        same!("Message::frame", any.frame(named), Ok(written));
+        writes($published, &unnamed, |out| any.write(WRITER, out));
+        same!("Message::frame", any.frame(WRITER), Ok(unnamed));
         same!("answer", answer($kind, payload), Ok(()));
         same!("KINDS", Message::KINDS.contains(&$kind), true);
     }};
 }
 
 pub const SENDER: u16 = 0x9876;
+
+/// A recorder, by its own number.
+pub const OWN: u16 = 0x5432;
+pub const WRITER: Writer = Writer::new(OWN);
+
+/// Who sends a frame of that type that a recorder writes: the sender that it is
+/// given, or itself, but 0x42 for what devices obey from there alone.
+pub fn sent_by(kind: u16, own: u16, given: Option<u16>) -> u16 {
+    match (given, kind) {
+        (Some(sender), _) => sender,
+        (None, 0x00a1 | 0x00a2) => 0x42,
+        (None, _) => own,
+    }
+}
 
 /// Bits of doubles that are easily lost.
 pub const PATTERNS: [u64; 14] = [
