@@ -231,9 +231,9 @@ uint8_t sbp_phase_parts(int64_t phase, int32_t *l_i, uint8_t *l_f);
 /* ---- frames written, from out[0] on; what stands after the frame is left as it was. SBP_FRAME_MOST bytes have room for every frame.
  *
  * Who sends: own is the number of the recorder that writes, which may be any. Where no sender is given (SBP_NO_SENDER) the frame goes out under
- * own; but one of type SETTINGS_READ_BY_INDEX_REQ or SETTINGS_SAVE goes out as 0x42 then, whichever function writes it, for devices obey settings
- * from there alone. A sender that is given is used as it is, whatever the type, 0 and 0x42 too. Other types that devices obey from 0x42 alone, as
- * a settings write (0x00A0), need it given. */
+ * own; but one of type SETTINGS_READ_BY_INDEX_REQ, which devices answer from 0x42 alone, or SETTINGS_SAVE goes out as 0x42 then, whichever function
+ * writes it. A sender that is given is used as it is, whatever the type, 0 and 0x42 too. Other types that devices obey from 0x42 alone, as a
+ * settings write (0x00A0), need it given. */
 
 /* A message without text or observations, from a row as sbp_read gives it, under own or sender: SBP_OK, and the frame's length in *size; or
  * SBP_UNKNOWN_TYPE: no such type, or OBS or LOG, SBP_WRONG_LENGTH: fields is not the type's number of fields, SBP_OUT_OF_RANGE, SBP_NO_ROOM.

@@ -1,8 +1,8 @@
 -- What a call hands back and what it leaves of what it is lent, both read off one call: a refusal hands back its number and leaves all as it was.
-use mathlib.Core.List.{List}
+use mathlib.Core.List.{List, _++_}
 use Prim.Native.Nat.{ℕ}
+use lib.ListN.{drop}
 use Rattle.refusals.specs.Refusals.{Answer, given, refused, Call, reply, leaves, asNumber, zeroOr}
-use Rattle.frame_writer.specs.Writer.{startingWith}
 use Rattle.frame_writer.specs.declared.write.Written.{Written}
 use Rattle.frame_writer.specs.declared.write.Written.the-variants as Written
 use Rattle.index.specs.Index.{Hit, at, nowhere}
@@ -20,7 +20,7 @@ handsBack record-of refusal c = (variantOf record-of refusal (reply c), tt)
 
 -- how many bytes were written, and the buffer with them at its start and the bytes after them as they were
 abbrev pub puts : Call ℕ → List ℕ → List ℕ → Written × (List ℕ × Unit {0})
-puts c bytes buf = (variantOf Written.Bytes Written.Refused (reply c), (leaves (startingWith bytes) (reply c) buf, tt))
+puts c bytes buf = (variantOf Written.Bytes Written.Refused (reply c), (leaves (λ n was. bytes ++ drop n was) (reply c) buf, tt))
 
 -- an entry found and its place, or that there is none
 abbrev pub soughtOf : Hit → Sought
@@ -39,4 +39,4 @@ fills number put c lent = (asNumber number (reply c), (leaves put (reply c) lent
 
 -- and a buffer with bytes at its start, and how many they are
 abbrev pub sends : Call ℕ → List ℕ → List ℕ → ℕ → ℕ × (List ℕ × (ℕ × Unit {0}))
-sends c bytes out size = (zeroOr (reply c), (leaves (startingWith bytes) (reply c) out, (leaves (λ n was. n) (reply c) size, tt)))
+sends c bytes out size = (zeroOr (reply c), (leaves (λ n was. bytes ++ drop n was) (reply c) out, (leaves (λ n was. n) (reply c) size, tt)))

@@ -90,7 +90,7 @@ pub record Exported : Type 0 where
       → stateIn (afterIn (madeStored roster s) report xs) ≡ stateIn (afterIn (madeStored roster t) other ys)
   -- a roster that grows: frame by frame the bytes tell what a collator tells that was made of the first eight senders
   pub growing : Grows
-  -- who sends: a sender of 16 bits is written as it is, 0 too; any number above stands for none
+  -- who sends: a sender of 16 bits is written as it is, 0 too; any number above stands for none, and then the own number is written
   pub senders : CarriesLinked
   -- messages as numbers: each is read as the fields of the typed record and written as the typed writer writes it, and what was written comes back;
   -- OBS and LOG number by number

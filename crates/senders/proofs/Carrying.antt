@@ -6,7 +6,7 @@ use native.Mathlib.Omega.{arith}
 use lib.Dec.{ltb, lit<, lit≤}
 use borrow.Author.Tests.{ne-eqb, lt-ltb, le-ltb, ltb-true}
 use Rattle.senders.specs.Senders.{obeyedFrom42, carriedBy, carried, writerFrom, HeldSender, HeldWriter}
-use Rattle.senders.specs.Carries.{NoSettings, Carries, CarriesLinked}
+use Rattle.senders.specs.Carries.{NotAs42, Carries, CarriesLinked}
 use Rattle.senders.specs.declared.Sender.{Sender}
 use Rattle.senders.specs.declared.Sender.the-variants.{Named, Unnamed}
 use Rattle.senders.specs.declared.Writer.{Writer}
@@ -33,10 +33,10 @@ as-given kind w e = ap (carriedBy kind (w .own)) (sym e)
 pub unnamed : (kind : ℕ) (w : Writer) (t : Bool) → w .sender ≡ Unnamed → obeyedFrom42 kind ≡ t → cond t 0x42 (w .own) ≡ carried kind w
 unnamed kind w t none e = ap (λ (t : Bool). cond t 0x42 (w .own)) (sym e) ∙ as-given kind w none
 
-not-obeyed : (kind : ℕ) → NoSettings kind → obeyedFrom42 kind ≡ false
+not-obeyed : (kind : ℕ) → NotAs42 kind → obeyedFrom42 kind ≡ false
 not-obeyed kind h = rw (ne-eqb kind 0x00a1 (h .0), ne-eqb kind 0x00a2 (h .1))
 
-own-number : (kind own : ℕ) → NoSettings kind → carried kind (record { own = own; sender = Unnamed }) ≡ own
+own-number : (kind own : ℕ) → NotAs42 kind → carried kind (record { own = own; sender = Unnamed }) ≡ own
 unfolding carried
 own-number kind own h = rw (not-obeyed kind h)
 

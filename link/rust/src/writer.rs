@@ -3,10 +3,10 @@
 /// A recorder that writes frames under its own number.
 ///
 /// A frame for which no sender is [`named`](Writer::named) goes out under that
-/// number; but a [`ReadByIndexReq`](crate::ReadByIndexReq) and a
-/// [`SettingsSave`](crate::SettingsSave) go out as 0x42 then, since devices obey
-/// settings from there alone. [`write_frame`](crate::write_frame) goes by the
-/// type that it is given in the same way.
+/// number; but a [`ReadByIndexReq`](crate::ReadByIndexReq), which devices answer
+/// from 0x42 alone, and a [`SettingsSave`](crate::SettingsSave) go out as 0x42
+/// then. [`write_frame`](crate::write_frame) goes by the type that it is given
+/// in the same way.
 ///
 /// ```
 /// use yaqtumeer::{Frames, Heartbeat, ReadByIndexReq, Writer};
