@@ -89,7 +89,9 @@ read-and-written = record {
   log = log-faithful;
   log-read = log-read;
   senders = carries;
-  any-frame = λ kind w payload buf n k h g. let room = fits (length payload) (length buf) g in (framed-reads-back kind w payload buf k h (room .0) (room .1), framed-payload-back kind w payload buf k h (room .0) (room .1));
+  any-frame = λ kind w payload buf n k h g.
+      let room = fits (length payload) (length buf) g in
+      (framed-reads-back kind w payload buf k h (room .0) (room .1), framed-payload-back kind w payload buf k h (room .0) (room .1));
   obs-asked = asked-times;
   obs-walk = whole-walk;
   phase-read = phase-read;

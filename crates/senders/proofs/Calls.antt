@@ -18,4 +18,9 @@ module _ {M : Type 1} (𝓤 : URA M) (H : Heap 𝓤) (A : Atoms 𝓤) (mem : Mem
       (λ v sender w. named.clauses 𝓤 H A mem run tt (v, (sender, tt)) .ensures tt w (v, (sender, tt)))
       (λ own sender w. writer_from.clauses 𝓤 H A mem run tt (own, (sender, tt)) .ensures tt w (own, (sender, tt)))
       (λ kind w n. sender_number.clauses 𝓤 H A mem run tt (kind, (w, tt)) .ensures tt n (kind, (w, tt)))
-  calls-carry = record { made-with = λ own w. id⊢ 𝓤 _; named-as = λ v sender w. id⊢ 𝓤 _; linked-as = λ own sender w. id⊢ 𝓤 _; numbered = λ kind w n. id⊢ 𝓤 _ }
+  calls-carry = record {
+    made-with = λ own w. id⊢ 𝓤 _;
+    named-as = λ v sender w. id⊢ 𝓤 _;
+    linked-as = λ own sender w. id⊢ 𝓤 _;
+    numbered = λ kind w n. id⊢ 𝓤 _;
+  }
