@@ -27,7 +27,7 @@ use Rattle.obs_reader.specs.Reader.{movedBy, asked}
 use Rattle.packets.specs.Packet.{packetIn, shape, numbering}
 use Rattle.packets.specs.declared.packet.PacketRead.the-variants as PacketRead
 use Rattle.epochs.specs.declared.recognising.Recognised.the-variants as Recognised
-use Rattle.epochs.specs.Collator.{feeding, fedFrame, made}
+use Rattle.epochs.specs.Collator.{placing, fedFrame, made}
 use Rattle.captures.specs.Capture.{collated}
 use Rattle.enlisting.specs.Enlisting.{enlistedTo}
 use Rattle.listing.specs.Listing.{textOf, listing}
@@ -72,7 +72,7 @@ module _ {M : Type 1} (𝓤 : URA M) (H : Heap 𝓤) (A : Atoms 𝓤) (mem : Mem
     -- a frame recognised for its sender's place, by the roster; and by itself, in two steps
     pub recognise : Gives 𝓤 epochs.recognise.ended (epochs.recognise.clauses 𝓤 H A mem run)
         (λ κs roster count kind sender payload.
-        handsBack (λ a. Recognised.For (a .0) (a .1)) Recognised.Refused (feeding (take count roster) (record { kind = kind; sender = sender; payload = now payload })))
+        handsBack (λ a. Recognised.For (a .0) (a .1)) Recognised.Refused (placing (take count roster) (record { kind = kind; sender = sender; payload = now payload })))
     pub read-packet : Gives 𝓤 packets.read_packet.ended (packets.read_packet.clauses 𝓤 H A mem run)
         (λ κs kind s. handsBack PacketRead.Record PacketRead.Refused (record { tests = shape kind (now s); value = packetIn (now s) }))
     pub numbered : Gives 𝓤 packets.numbered.ended (packets.numbered.clauses 𝓤 H A mem run)

@@ -1,21 +1,20 @@
 -- What a call hands back and leaves is read off its answer, once for every call; and so is what a collator does.
 use mathlib.Core.Path.{_≡_, refl, ap}
 use mathlib.Core.List.{List}
-use mathlib.Core.Logic.{_↔_}
+use mathlib.Core.Logic.{_↔_, _⊎_, inl, inr}
 use Prim.Native.Nat.{ℕ, _≤_, _<_}
 use native.Mathlib.Omega.{arith}
-use lib.ListN.{length, getD}
+use lib.ListN.{length}
 use Rattle.refusals.specs.Refusals.{refused, given, Answer, Call, reply, leaves, asNumber, zeroOr, FirstFails}
-use Rattle.refusals.proofs.Ordered.{exactly-first}
+use Rattle.refusals.proofs.Ordered.{exactly-first, exactly-all}
 use Rattle.frames.specs.Frame.{Content}
-use Rattle.packets.specs.declared.packet.Packet.{Packet}
-use Rattle.runs.specs.Run.{stepped}
-use Rattle.runs.specs.declared.running.Ended.{Ended}
-use Rattle.runs.specs.declared.running.Ended.the-variants.{Not, Whole}
-use Rattle.epochs.specs.Collator.{forPlace, ownPlace, idle, outcome, acted, asMade, fedFrame, made, rostering, feeding, rosterOf}
+use Rattle.epochs.specs.Collator.{asMade, Move, moved, fedFrame, made, rostering, feeding}
 use Rattle.epochs.specs.declared.collating.Collator.{Collator}
+use Rattle.epochs.specs.declared.collating.Report.{Report}
 use Rattle.epochs.specs.declared.collating.Happened.the-variants as H
-use Rattle.states.specs.Feed.{feedingIn, forPlaceIn, fedIn, endedNumber, stepIn, cameOut}
+use Rattle.epochs.proofs.Feeding.{moves-told, never-refuses}
+use Rattle.places.specs.State.{stateIn}
+use Rattle.states.specs.Feed.{happenedNumber, feedingIn, moveIn, fedIn, cameOut}
 use Rattle.demands.specs.Demand1.{ReadOff}
 
 module _ {A : Type 0} (c : Call A) where
@@ -43,36 +42,45 @@ made-number roster = by (reply (rostering roster))
     by (refused n) = refl
 
 module _ (c : Collator) (x : Content) (n : ℕ) where
-  fed-refused : (fedFrame c x .happened ≡ H.Refused n) ↔ FirstFails (feeding (rosterOf c) x .tests) n
-  unfolding fedFrame forPlace
+  fed-refused : (fedFrame c x .happened ≡ H.Refused n) ↔ FirstFails (feeding c x .tests) n
+  unfolding fedFrame
   fed-refused = (
-    λ e. exactly-first (ownPlace (rosterOf c) x) (feeding (rosterOf c) x .tests) n .0 (by (reply (feeding (rosterOf c) x)) e),
-    λ f. ap (λ (a : Answer (ℕ × Packet)). acted c (x .sender) a .happened) (exactly-first (ownPlace (rosterOf c) x) (feeding (rosterOf c) x .tests) n .1 f),
+    λ e. exactly-first (feeding c x .value) (feeding c x .tests) n .0 (by (reply (feeding c x)) refl e),
+    λ f. ap (λ (a : Answer Move). moved c a .happened) (exactly-first (feeding c x .value) (feeding c x .tests) n .1 f),
   )
     where
-      ended : (p : Packet) (y : Ended) → outcome (x .sender) p y ≡ H.Refused n → ⊥
-      ended p Not q = let z : _≡_ {A = ℕ} 0 1 = cc in omega arith
-      ended p (Whole t) q = let z : _≡_ {A = ℕ} 0 1 = cc in omega arith
-
-      by : (a : Answer (ℕ × Packet)) → acted c (x .sender) a .happened ≡ H.Refused n → a ≡ refused n
-      by (given t) e = absurd (ended (t .1) (stepped (getD (c .places) (t .0) idle .run) (t .1) .ended) e)
-      by (refused m) e = let same : m ≡ n = cc in ap refused same
+      by : (a : Answer Move) → reply (feeding c x) ≡ a → moved c a .happened ≡ H.Refused n → a ≡ refused n
+      by (given m) q e = absurd (never-refuses c x q e)
+      by (refused m) q e = let same : m ≡ n = cc in ap refused same
 
 module _ (state report : List ℕ) (x : Content) (n : ℕ) where
-  fed-number : 11 ≤ n → (fedIn state x report .answer ≡ n) ↔ FirstFails (feedingIn state (length report) x .tests) n
-  unfolding fedIn forPlaceIn
-  fed-number h =
-      apart (feedingIn state (length report) x) (λ t. endedNumber (stepIn state (t .0) (t .1) .ended)) (λ t. small (stepIn state (t .0) (t .1) .ended)) n h
-    where
-      small : (y : Ended) → endedNumber y < 11
-      small Not = omega arith
-      small (Whole t) = omega arith
+  abbrev call : Call Move
+  call = feedingIn state (length report) x
 
-  fed-untouched : FirstFails (feedingIn state (length report) x .tests) n → (fedIn state x report .state ≡ state) × (fedIn state x report .report ≡ report)
-  unfolding fedIn forPlaceIn
+  fed-number : 11 ≤ n → (fedIn state x report .answer ≡ n) ↔ FirstFails (call .tests) n
+  unfolding fedIn moveIn
+  fed-number h = (
+    λ e. exactly-first (call .value) (call .tests) n .0 (by (reply call) refl e),
+    λ f. ap (λ (a : Answer Move). cameOut state report a .answer) (exactly-first (call .value) (call .tests) n .1 f),
+  )
+    where
+      -- what is given has 0 or 1
+      small : (m : Move) → (m .happened ≡ H.Taken) ⊎ ((r : Report) × (m .happened ≡ H.Epoch r)) → happenedNumber (m .happened) < 11
+      small m (inl e) = omega (arith, ap happenedNumber e)
+      small m (inr e) = omega (arith, ap happenedNumber (e .1))
+
+      by : (a : Answer Move) → reply call ≡ a → cameOut state report a .answer ≡ n → a ≡ refused n
+      by (refused m) q e = ap refused e
+      by (given m) q e =
+          let all = exactly-all (call .value) (call .tests) m .0 q in
+          let own = exactly-all (call .value) (feeding (stateIn state) x .tests) m .1 (all .0 .1 .1, all .1) in
+          absurd (omega (arith, small m (moves-told (stateIn state) x own), e, h))
+
+  fed-untouched : FirstFails (call .tests) n → (fedIn state x report .state ≡ state) × (fedIn state x report .report ≡ report)
+  unfolding fedIn moveIn
   fed-untouched f =
-      let e = exactly-first (feedingIn state (length report) x .value) (feedingIn state (length report) x .tests) n .1 f in
-      (ap (λ (a : Answer (ℕ × Packet)). cameOut state x report a .state) e, ap (λ (a : Answer (ℕ × Packet)). cameOut state x report a .report) e)
+      let e = exactly-first (call .value) (call .tests) n .1 f in
+      (ap (λ (a : Answer Move). cameOut state report a .state) e, ap (λ (a : Answer Move). cameOut state report a .report) e)
 
 pub read-off : ReadOff
 read-off = record { made-number = made-number; fed-refused = fed-refused; fed-number = fed-number; fed-untouched = fed-untouched }

@@ -27,7 +27,8 @@ use Rattle.indexed.specs.Growing.{countedKinds}
 use Rattle.indexed.specs.Asking.{Among}
 use Rattle.indexed.proofs.Tallies.{among-known, known-among}
 use Rattle.places.specs.State.{stateIn}
-use Rattle.epochs.specs.Collator.{feeding, rostering, rosterOf}
+use Rattle.epochs.specs.Collator.{placing, feeding, rostering, rosterOf}
+use Rattle.epochs.specs.declared.collating.Collator.{Collator}
 use Rattle.epochs.proofs.Searches.{names-first, names-later, names-not, names-at, once-on, seat-listed, seat-named, seat-below}
 use Rattle.demands.specs.Order.{Cases, InOrder, Not, ObsLength, NamesTwice, Unlisted, indexCases, frameCases, rosterCases, bufferCases, roomCases, columnOf, columnTests, Order, LinkedOrder, IndexOrder}
 
@@ -140,7 +141,7 @@ roster-order roster =
     let named-twice = twice roster in
     (refl, few (length roster), (refl, (λ e. named-twice .0 (fails-not (repeats roster) .0 e), λ t. fails-not (repeats roster) .1 (named-twice .1 t)), tt))
 
-frame-order : (roster : List ℕ) (x : Content) → InOrder (frameCases roster x) (feeding roster x .tests)
+frame-order : (roster : List ℕ) (x : Content) → InOrder (frameCases roster x) (placing roster x .tests)
 unfolding shape numbering packetIn
 frame-order roster x =
     let p = packetIn (x .payload) in (
@@ -152,6 +153,11 @@ frame-order roster x =
         (refl, unlisted roster (x .sender), (refl, equal (p .key .n) 0, (refl, from (p .counter) (p .key .n), tt))),
       ),
     )
+
+-- and no place refuses
+fed-order : (c : Collator) (x : Content) → InOrder (frameCases (rosterOf c) x) (feeding c x .tests)
+unfolding shape numbering packetIn
+fed-order c x = frame-order (rosterOf c) x
 
 index-order : (s : List ℕ) (i : ℕ) → InOrder (indexCases s i) ((fitting first (length s), 22) ∷ (ltb i ((length s - 7) / 16), 25) ∷ [])
 index-order s i = (refl, obs-long (length s), (refl, from i ((length s - 7) / 16), tt))
@@ -190,7 +196,8 @@ order = record {
   obs-buffer = obs-buffer-order;
   bytes-buffer = λ n room. (refl, over n 255, (refl, over (n + 8) room, tt));
   roster = roster-order;
-  frame = frame-order;
+  frame = fed-order;
+  frame-place = frame-order;
   phase = λ z. (refl, itself _, tt);
   capture = λ s room. (refl, over (length s) 65536, (refl, over _ room, tt));
 }
@@ -212,7 +219,7 @@ linked-order = record {
   collator = λ roster room. joined (rosterCases roster) (roomCases 105 room) (rostering roster .tests) (roomFor 105 room) (roster-order roster) (room-order 105 room);
   growing-collator = λ room. room-order 105 room;
   enlist = λ state kind sender. room-order 105 (length state);
-  feed = λ state room x. (refl, over 105 (length state), (refl, over 11 room, frame-order (rosterOf (stateIn state)) x));
+  feed = λ state room x. (refl, over 105 (length state), (refl, over 11 room, fed-order (stateIn state) x));
   observation = λ kind s i room. (refl, obs-kind kind, joined (indexCases s i) (roomCases 8 room) (oneObservation first s i .tests) (roomFor 8 room) (index-order s i) (room-order 8 room));
   read = λ kind s room. refl;
   write = λ kind ns room. (refl, itself _, (refl, other _ _, (refl, itself _, (refl, over _ 255, (refl, over _ room, tt)))));

@@ -16,16 +16,16 @@ use Rattle.refusals.proofs.Ordered.{exactly-all}
 use Rattle.layouts.specs.Field.{Field, Row, formatOf, size, rowStored}
 use Rattle.lent_rows.specs.Lent.{firstRowsStored}
 use Rattle.frames.specs.Frame.{Content}
-use Rattle.packets.specs.declared.packet.Packet.{Packet}
 use Rattle.observation.specs.Edition.{isObs}
 use Rattle.epochs.specs.Search.{seatOf}
-use Rattle.epochs.specs.Collator.{feeding, ownPlace, forPlace, rosterOf}
+use Rattle.epochs.specs.Collator.{Move, feeding, rosterOf}
 use Rattle.epochs.specs.declared.seating.Seat.{Seat}
 use Rattle.epochs.specs.declared.seating.Seat.the-variants.{At, Nowhere}
 use Rattle.epochs.specs.declared.collating.Collator.{Collator}
 use Rattle.epochs.specs.declared.collating.Place.{Place}
+use Rattle.epochs.proofs.Feeding.{replied-moves}
 use Rattle.places.specs.State.{slotFields, seatFields, countFields, slotRow, slotOf, seatRow, placeRow, sendersIn, countStored, placeStored, collatorStored, seatsStored, stateIn}
-use Rattle.states.specs.Feed.{madeIn, madeStored, feedingIn, forPlaceIn, stepIn, cameOut, fedIn}
+use Rattle.states.specs.Feed.{madeIn, madeStored, feedingIn, moveIn, cameOut, fedIn}
 use Rattle.states.specs.Enlist.{growingIn, growingStored, seatTaken, seatedBy, joinedIn, enlistedIn, enlistIn, enlistStored}
 use Rattle.states.proofs.Feeds.{eight}
 use Rattle.demands.specs.Exported.{OtherBytes}
@@ -94,23 +94,22 @@ module _ (s : List ℕ) (sender : ℕ) where
       by false = refl
 
 module _ (s : List ℕ) (x : Content) (report : List ℕ) where
-  -- a packet's place is one of eight
-  place-below : {t : ℕ × Packet} → forPlaceIn s (length report) x ≡ given t → t .0 < 8
-  unfolding forPlaceIn forPlace
-  place-below {t} e =
-      let roster = rosterOf (stateIn s) in
-      let all = exactly-all (ownPlace roster x) (feedingIn s (length report) x .tests) t .0 e in
-      eight s x (exactly-all (ownPlace roster x) (feeding roster x .tests) t .1 (all .0 .1 .1, all .1))
+  -- a place that moves is one of eight
+  seat-below : {m : Move} → moveIn s (length report) x ≡ given m → m .seat < 8
+  unfolding moveIn
+  seat-below {m} e =
+      let call = feeding (stateIn s) x in
+      let all = exactly-all (call .value) (feedingIn s (length report) x .tests) m .0 e in
+      let w = replied-moves (stateIn s) x (exactly-all (call .value) (call .tests) m .1 (all .0 .1 .1, all .1)) in
+      omega (arith, eight s x (w .2), ap (λ (m : Move). m .seat) (w .3))
 
   after-fed : drop 105 (fedIn s x report .state) ≡ drop 105 s
   unfolding fedIn
-  after-fed = by (forPlaceIn s (length report) x) refl
+  after-fed = by (moveIn s (length report) x) refl
     where
-      by : (a : Answer (ℕ × Packet)) → forPlaceIn s (length report) x ≡ a → drop 105 (cameOut s x report a .state) ≡ drop 105 s
+      by : (a : Answer Move) → moveIn s (length report) x ≡ a → drop 105 (cameOut s report a .state) ≡ drop 105 s
       by (refused n) e = refl
-      by (given t) e =
-          let place : Place = record { run = stepIn s (t .0) (t .1) .run } in
-          after-row 105 slotFields (slotRow (slotOf place)) s (17 + t .0 * 11) (omega (arith, place-below e))
+      by (given m) e = after-row 105 slotFields (slotRow (slotOf (m .place))) s (17 + m .seat * 11) (omega (arith, seat-below e))
 
 after-answer : (s : List ℕ) (kind sender : ℕ) → drop 105 (enlistStored s kind sender) ≡ drop 105 s
 unfolding enlistIn

@@ -14,7 +14,7 @@ use Rattle.frames.specs.Frame.{Content}
 use Rattle.observation.specs.Obs.{readEntryOf}
 use Rattle.obs_reader.specs.Reader.{asked}
 use Rattle.obs_reader.specs.declared.ObsReader.{ObsReader}
-use Rattle.epochs.specs.Collator.{feeding, rosterOf, fedFrame, fresh, rostering, made}
+use Rattle.epochs.specs.Collator.{feeding, fedFrame, fresh, rostering, made}
 use Rattle.epochs.specs.Epoch.{after}
 use Rattle.captures.specs.Capture.{begun, collated}
 use Rattle.epochs.specs.declared.collating.Collator.{Collator}
@@ -46,7 +46,7 @@ pub record WritesNothing : Type 1 where
 -- what a collator answers and leaves is read off its call too
 pub record ReadOff : Type 0 where
   pub made-number : (roster : List ℕ) → made roster .number ≡ zeroOr (reply (rostering roster))
-  pub fed-refused : (c : Collator) (x : Content) (n : ℕ) → (fedFrame c x .happened ≡ H.Refused n) ↔ FirstFails (feeding (rosterOf c) x .tests) n
+  pub fed-refused : (c : Collator) (x : Content) (n : ℕ) → (fedFrame c x .happened ≡ H.Refused n) ↔ FirstFails (feeding c x .tests) n
   pub fed-number : (state report : List ℕ) (x : Content) (n : ℕ) → 11 ≤ n → (fedIn state x report .answer ≡ n) ↔ FirstFails (feedingIn state (length report) x .tests) n
   pub fed-untouched : (state report : List ℕ) (x : Content) (n : ℕ) → FirstFails (feedingIn state (length report) x .tests) n
       → (fedIn state x report .state ≡ state) × (fedIn state x report .report ≡ report)

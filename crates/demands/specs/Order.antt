@@ -32,7 +32,8 @@ use Rattle.row_reader.specs.ReadRow.{readingRow, readingOne}
 use Rattle.row_writer.specs.WriteRow.{alone, bodyOf, writingRow}
 use Rattle.row_writer.specs.WriteObsRow.{writingObsRow}
 use Rattle.epochs.specs.Search.{names}
-use Rattle.epochs.specs.Collator.{feeding, rostering, rosterOf}
+use Rattle.epochs.specs.Collator.{placing, feeding, rostering, rosterOf}
+use Rattle.epochs.specs.declared.collating.Collator.{Collator}
 use Rattle.listing.specs.Listing.{textOf, listing}
 use Rattle.frame_rows.specs.Found.{finding}
 use Rattle.frame_rows.specs.Totals.{totalling}
@@ -167,7 +168,8 @@ pub record Order : Type 1 where
   -- "Roster: 41, 42."
   pub roster : (roster : List ℕ) → InOrder (rosterCases roster) (rostering roster .tests)
   -- "Feeding: 46, 22, 43, 44, 45."
-  pub frame : (roster : List ℕ) (x : Content) → InOrder (frameCases roster x) (feeding roster x .tests)
+  pub frame : (c : Collator) (x : Content) → InOrder (frameCases (rosterOf c) x) (feeding c x .tests)
+  pub frame-place : (roster : List ℕ) (x : Content) → InOrder (frameCases roster x) (placing roster x .tests)
   -- 33: outside -549755813888 to 549755813887
   pub phase : (z : ℤ) → InOrder ((33, (leZ (negℤ (pos 549755813888)) z && leZ z (pos 549755813887)) ≡ false) ∷ []) (readingPhase z .tests)
   -- 11, then 32 for the text

@@ -281,6 +281,7 @@ module _ {M : Type 1} (𝓤 : URA M) (H : Heap 𝓤) (A : Atoms 𝓤) (mem : Mem
     pub feed : Determined 𝓤 epochs.collating.Collator.feed.ended (epochs.collating.Collator.feed.clauses 𝓤 H A mem run)
     pub made : Determined 𝓤 epochs.collating.Collator.made.ended (epochs.collating.Collator.made.clauses 𝓤 H A mem run)
     pub recognise : Determined 𝓤 epochs.recognise.ended (epochs.recognise.clauses 𝓤 H A mem run)
+    pub outcome : Determined 𝓤 epochs.outcome.ended (epochs.outcome.clauses 𝓤 H A mem run)
     pub seat-of : Determined 𝓤 epochs.seat_of.ended (epochs.seat_of.clauses 𝓤 H A mem run)
 
   pub record Captures : Type 1 where

@@ -9,13 +9,11 @@ use native.Mathlib.Omega.{arith}
 use lib.Dec.{eqb}
 use lib.ListN.{length, take, replicate}
 use lib.Seq.{take-append-add, take-at}
-use Rattle.refusals.specs.Refusals.{refused, given, Answer}
 use Rattle.frames.specs.Frame.{Content}
 use Rattle.observation.specs.Edition.{isObs}
-use Rattle.packets.specs.declared.packet.Packet.{Packet}
 use Rattle.packets.proofs.Recognitions.{read-46}
 use Rattle.epochs.specs.Search.{seatOf, names}
-use Rattle.epochs.specs.Collator.{forPlace, idle, acted, fedFrame}
+use Rattle.epochs.specs.Collator.{forPlace, idle, fedFrame}
 use Rattle.epochs.specs.Epoch.{after, outcomes}
 use Rattle.epochs.specs.declared.seating.Seat.the-variants.{At}
 use Rattle.epochs.specs.declared.collating.Place.{Place}
@@ -25,6 +23,7 @@ use Rattle.epochs.specs.declared.collating.Fed.{Fed}
 use Rattle.epochs.proofs.Searches.{names-first, names-later, seat-listed}
 use Rattle.epochs.proofs.Placings.{placed-seat, placed-unread}
 use Rattle.epochs.proofs.Making.{nobody, made-seated}
+use Rattle.epochs.proofs.Feeding.{fed-relisted}
 use Rattle.enlisting.specs.FirstEight.{obsSenders, different, firstEight}
 use Rattle.enlisting.specs.Enlisting.{newOutcomes, newAfter, AsOfTheFirst}
 use Rattle.enlisting.proofs.Joining.{joined, enlisted, Few, by-joining, few-joined, few-enlisted, grownBy, few-grown, grown-none, grown-on}
@@ -90,18 +89,10 @@ grown-placed roster few x xs = by (isObs (x .kind)) refl
 abbrev relisted : List ℕ → Fed → Fed
 relisted roster x = record { collator = heldIn (x .collator .places) roster; happened = x .happened }
 
-module _ (places : List Place) (x : Content) where
-  fed-held : (roster : List ℕ) → Few roster → fedFrame (heldIn places roster) x ≡ acted (heldIn places roster) (x .sender) (forPlace roster x)
-  unfolding fedFrame
-  fed-held roster few = ap (λ (r : List ℕ). acted (heldIn places roster) (x .sender) (forPlace r x)) (held-list places roster few)
-
-  fed-relisted : (q r : List ℕ) → Few q → Few r → forPlace q x ≡ forPlace r x → fedFrame (heldIn places r) x ≡ relisted r (fedFrame (heldIn places q) x)
-  fed-relisted q r few most e =
-      fed-held r most ∙ ap (acted (heldIn places r) (x .sender)) (sym e) ∙ by (forPlace q x) ∙ ap (relisted r) (sym (fed-held q few))
-    where
-      by : (a : Answer (ℕ × Packet)) → acted (heldIn places r) (x .sender) a ≡ relisted r (acted (heldIn places q) (x .sender) a)
-      by (refused n) = refl
-      by (given a) = refl
+fed-again : (places : List Place) (x : Content) (q r : List ℕ) → Few q → Few r → forPlace q x ≡ forPlace r x → fedFrame (heldIn places r) x ≡ relisted r (fedFrame (heldIn places q) x)
+fed-again places x q r few most e =
+    fed-relisted places (heldIn places q .roster) (heldIn places r .roster) (length q) (length r) x
+    (ap (λ (r : List ℕ). forPlace r x) (held-list places q few) ∙ e ∙ ap (λ (r : List ℕ). forPlace r x) (sym (held-list places r most)))
 
 -- ---- and all frames come to the same
 
@@ -122,9 +113,9 @@ grown (x ∷ xs) places roster few =
     let here = few-enlisted x roster few in
     let fed = fedFrame (heldIn places q) x in
     ap (λ (c : Collator). new (fedFrame c x)) (held-enlisted places roster few x)
-    ∙ ap new (fed-relisted places x q q here here refl)
+    ∙ ap new (fed-again places x q q here here refl)
     ∙ ap (first-then (fed .happened)) (grown xs (fed .collator .places) q here)
-    ∙ ap old (sym (fed-relisted places x q r here (few-grown q xs) (grown-placed roster few x xs)))
+    ∙ ap old (sym (fed-again places x q r here (few-grown q xs) (grown-placed roster few x xs)))
     ∙ ap (λ (r : List ℕ). old (fedFrame (heldIn places r) x)) (grown-on roster few x xs)
   where
     new : Fed → Went

@@ -10,18 +10,21 @@ use lib.Dec.{eqb}
 use lib.ListN.{length, take, replicate}
 use borrow.Author.Tests.{eqb-true, eqb-false, eq-eqb}
 use Rattle.wire.specs.Number.{Bytes}
-use Rattle.refusals.specs.Refusals.{refused, given, Answer}
+use Rattle.refusals.specs.Refusals.{refused, given, Answer, reply}
 use Rattle.frames.specs.Frame.{Content}
 use Rattle.packets.specs.Packet.{AllFormed}
 use Rattle.packets.specs.declared.packet.Packet.{Packet}
 use Rattle.packets.proofs.Recognitions.{formed, n-small}
-use Rattle.runs.specs.Run.{stepped, runOf}
+use Rattle.runs.specs.Run.{runOf}
 use Rattle.runs.specs.declared.running.Ended.{Ended}
 use Rattle.runs.specs.declared.running.Ended.the-variants.{Not, Whole}
+use Rattle.runs.specs.declared.running.Stepped.{Stepped}
+use Rattle.runs.proofs.StepCases.{not-whole}
 use Rattle.runs.proofs.Fronts.{total-small}
 use Rattle.runs.proofs.WholeEpochs.{whole-epoch}
 use Rattle.epochs.specs.Search.{names}
-use Rattle.epochs.specs.Collator.{idle, outcome, fedFrame, made}
+use Rattle.epochs.specs.Stepping.{stepping, endedOf}
+use Rattle.epochs.specs.Collator.{idle, outcome, cameTo, fedFrame, made}
 use Rattle.epochs.specs.Epoch.{ownPacket, kept, packetsOf, ofSender, historyOf, after, outcomes, reportIn, reportsIn, reports, reportsOf, EndsEpoch, CameTo, Epochs, none, ending, passing, Seated, SameFrames, contentsOf}
 use Rattle.epochs.specs.declared.collating.Place.{Place}
 use Rattle.epochs.specs.declared.collating.Collator.{Collator}
@@ -85,11 +88,15 @@ ownReports s past (x ∷ xs) = reportIn (comesTo s past (ownPacket x)) (ownRepor
 comes-own : (s : ℕ) (past : List Packet) (a : Answer Packet) (rs : List Report) → reportsOf s (reportIn (comesTo s past a) rs) ≡ reportIn (comesTo s past a) (reportsOf s rs)
 unfolding reportsOf
 comes-own s past (refused n) rs = refl
-comes-own s past (given p) rs = by (stepped (runOf past) p .ended)
+comes-own s past (given p) rs = by-step (reply (stepping (runOf past) p))
   where
     by : (e : Ended) → reportsOf s (reportIn (outcome s p e) rs) ≡ reportIn (outcome s p e) (reportsOf s rs)
     by Not = refl
     by (Whole t) = rw (eq-eqb s s refl)
+
+    by-step : (a : Answer Stepped) → reportsOf s (reportIn (cameTo s p a) rs) ≡ reportIn (cameTo s p a) (reportsOf s rs)
+    by-step (refused n) = refl
+    by-step (given y) = by (y .ended)
 
 module _ (roster : List ℕ) (is : Seated roster) where
   abbrev start : Collator
@@ -124,15 +131,20 @@ module _ (roster : List ℕ) (is : Seated roster) where
         listed-comes : names roster (x .sender) ≡ true → fedFrame (stateOf roster past) x .happened ≡ comesTo (x .sender) (past (x .sender)) (ownPacket x)
         listed-comes n = ap (λ (f : Fed). f .happened) (fed-listed roster (is .few) (is .once) past x n)
 
-        by-ended : names roster (x .sender) ≡ true → (p : Packet) → ownPacket x ≡ given p → (d : Ended) → stepped (runOf (past (x .sender))) p .ended ≡ d
+        by-ended : names roster (x .sender) ≡ true → (p : Packet) → ownPacket x ≡ given p → (d : Ended) → endedOf (reply (stepping (runOf (past (x .sender))) p)) ≡ d
             → outcome (x .sender) p d ≡ H.Epoch e → EndsEpoch roster xs x e
         by-ended n p q Not r h = absurd (never-taken h)
         by-ended n p q (Whole t) r h =
             record { packet = p; total = t; listed = n; formed = q; ends = whole-epoch p (past (x .sender)) t (formed-on q) .0 r; report = sym (same-report h) }
 
+        by-step : names roster (x .sender) ≡ true → (p : Packet) → ownPacket x ≡ given p → (a : Answer Stepped) → reply (stepping (runOf (past (x .sender))) p) ≡ a
+            → cameTo (x .sender) p a ≡ H.Epoch e → EndsEpoch roster xs x e
+        by-step n p q (refused m) r h = absurd (never-refused h)
+        by-step n p q (given y) r h = by-ended n p q (y .ended) (ap endedOf r) h
+
         by-own : names roster (x .sender) ≡ true → (a : Answer Packet) → ownPacket x ≡ a → comesTo (x .sender) (past (x .sender)) a ≡ H.Epoch e → EndsEpoch roster xs x e
         by-own n (refused m) q h = absurd (never-refused h)
-        by-own n (given p) q h = by-ended n p q (stepped (runOf (past (x .sender))) p .ended) refl h
+        by-own n (given p) q h = by-step n p q (reply (stepping (runOf (past (x .sender))) p)) refl h
 
         there : (t : Bool) → names roster (x .sender) ≡ t → fedFrame (stateOf roster past) x .happened ≡ H.Epoch e → EndsEpoch roster xs x e
         there true n h = by-own n (ownPacket x) refl (sym (listed-comes n) ∙ h)
@@ -140,11 +152,15 @@ module _ (roster : List ℕ) (is : Seated roster) where
             let r = fed-unlisted roster (is .few) (is .once) past x n in
             absurd (never-refused (sym (ap (λ (f : Fed). f .happened) (r .1)) ∙ h))
 
+        came-whole : (p : Packet) {t : ℕ} (a : Answer Stepped) → endedOf a ≡ Whole t → cameTo (x .sender) p a ≡ outcome (x .sender) p (Whole t)
+        came-whole p (refused n) w = absurd (not-whole w)
+        came-whole p (given y) w = ap (outcome (x .sender) p) w
+
         back : EndsEpoch roster xs x e → fedFrame (stateOf roster past) x .happened ≡ H.Epoch e
         back w =
             listed-comes (w .listed)
             ∙ ap (comesTo (x .sender) (past (x .sender))) (w .formed)
-            ∙ ap (outcome (x .sender) (w .packet)) (whole-epoch (w .packet) (past (x .sender)) (w .total) (formed-on (w .formed)) .1 (w .ends))
+            ∙ came-whole (w .packet) (reply (stepping (runOf (past (x .sender))) (w .packet))) (whole-epoch (w .packet) (past (x .sender)) (w .total) (formed-on (w .formed)) .1 (w .ends))
             ∙ ap H.Epoch (sym (w .report))
 
     -- with at most 225 observations, where the payload is of bytes

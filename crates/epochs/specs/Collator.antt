@@ -9,10 +9,11 @@ use Rattle.refusals.specs.Refusals.{refused, given, Answer, Call, reply}
 use Rattle.frames.specs.Frame.{Content}
 use Rattle.packets.specs.Packet.{packetIn, shape, numbering}
 use Rattle.packets.specs.declared.packet.Packet.{Packet}
-use Rattle.runs.specs.Run.{stepped}
 use Rattle.runs.specs.declared.running.Run.the-variants.{Idle}
 use Rattle.runs.specs.declared.running.Ended.{Ended}
 use Rattle.runs.specs.declared.running.Ended.the-variants.{Not, Whole}
+use Rattle.runs.specs.declared.running.Stepped.{Stepped}
+use Rattle.epochs.specs.Stepping.{stepping}
 use Rattle.epochs.specs.Search.{seatOf, names, repeats}
 use Rattle.epochs.specs.declared.seating.Seat.{Seat}
 use Rattle.epochs.specs.declared.seating.Seat.the-variants.{At, Nowhere}
@@ -36,13 +37,13 @@ seatNumber (At i) = i
 abbrev pub ownPlace : List ℕ → Content → ℕ × Packet
 ownPlace roster x = (seatNumber (seatOf roster (x .sender) 0), packetIn (x .payload))
 
--- "Feeding: 46, 22, 43, 44, 45."
-abbrev pub feeding : List ℕ → Content → Call (ℕ × Packet)
-feeding roster x =
+-- 46, 22, 43, 44, 45
+abbrev pub placing : List ℕ → Content → Call (ℕ × Packet)
+placing roster x =
     record { tests = shape (x .kind) (x .payload) ++ (names roster (x .sender), 43) ∷ numbering (packetIn (x .payload)); value = ownPlace roster x }
 
 unfoldable pub forPlace : List ℕ → Content → Answer (ℕ × Packet)
-forPlace roster x = reply (feeding roster x)
+forPlace roster x = reply (placing roster x)
 
 abbrev pub recognisedAnswer : Recognised → Answer (ℕ × Packet)
 recognisedAnswer (R.For i p) = given (i, p)
@@ -62,26 +63,39 @@ abbrev pub outcome : ℕ → Packet → Ended → Happened
 outcome sender p Not = H.Taken
 outcome sender p (Whole total) = H.Epoch (reportOf sender p total)
 
--- the packet's place takes it, and no other
-abbrev pub taken : Collator → ℕ → ℕ → Packet → Fed
-taken c sender i p =
-    let s = stepped (getD (c .places) i idle .run) p in
-    record {
-      collator = record { places = set (c .places) i (record { run = s .run }); roster = c .roster; count = c .count };
-      happened = outcome sender p (s .ended);
-    }
+-- and a packet, by its place's answer
+abbrev pub cameTo : ℕ → Packet → Answer Stepped → Happened
+cameTo sender p (refused n) = H.Refused n
+cameTo sender p (given s) = outcome sender p (s .ended)
 
--- a refusal leaves the state as it was
-abbrev pub acted : Collator → ℕ → Answer (ℕ × Packet) → Fed
-acted c sender (refused n) = record { collator = c; happened = H.Refused n }
-acted c sender (given a) = taken c sender (a .0) (a .1)
+-- what feeding moves: the place at a seat, and what came of it
+pub record Move : Type 0 where
+  pub seat : ℕ
+  pub place : Place
+  pub happened : Happened
+
+abbrev pub moveTo : ℕ → ℕ → Packet → Stepped → Move
+moveTo sender i p s = record { seat = i; place = record { run = s .run }; happened = outcome sender p (s .ended) }
 
 -- the senders that a collator lists
 abbrev pub rosterOf : Collator → List ℕ
 rosterOf c = take (c .count) (c .roster)
 
+-- "Feeding: 46, 22, 43, 44, 45.", and then what the packet's own place refuses
+abbrev pub feeding : Collator → Content → Call Move
+feeding c x =
+    let own = ownPlace (rosterOf c) x in
+    let step = stepping (getD (c .places) (own .0) idle .run) (own .1) in
+    record { tests = placing (rosterOf c) x .tests ++ step .tests; value = moveTo (x .sender) (own .0) (own .1) (step .value) }
+
+-- no other place moves, and a refusal leaves the state as it was
+abbrev pub moved : Collator → Answer Move → Fed
+moved c (refused n) = record { collator = c; happened = H.Refused n }
+moved c (given m) =
+    record { collator = record { places = set (c .places) (m .seat) (m .place); roster = c .roster; count = c .count }; happened = m .happened }
+
 unfoldable pub fedFrame : Collator → Content → Fed
-fedFrame c x = acted c (x .sender) (forPlace (rosterOf c) x)
+fedFrame c x = moved c (reply (feeding c x))
 
 -- ---- made from a roster
 

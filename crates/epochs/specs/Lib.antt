@@ -1,3 +1,4 @@
 pub mod Search
+pub mod Stepping
 pub mod Collator
 pub mod Epoch

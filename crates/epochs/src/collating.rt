@@ -101,7 +101,7 @@ fn seats(roster: &[u16]) -> [u16; 8]
 }
 
 // What a step of a sender's place comes to.
-fn outcome(sender: u16, packet: Packet, ended: Ended) -> Happened
+pub fn outcome(sender: u16, packet: Packet, ended: Ended) -> Happened
     ensures { λ r. ⌜ r ≡ outcome sender packet ended ⌝ }
 {
     match ended {

@@ -11,6 +11,7 @@ pub use collating::Happened;
 pub use collating::Made;
 pub use collating::Place;
 pub use collating::Report;
+pub use collating::outcome;
 pub use recognising::Recognised;
 pub use recognising::recognise;
 pub use seating::Seat;

@@ -15,7 +15,7 @@ use Rattle.row_writer.specs.WriteObsRow.{writeObsRow, obsRowWritten}
 use Rattle.listing.specs.Listing.{listAnswer}
 use Rattle.frame_rows.specs.Found.{nextFrom}
 use Rattle.frame_rows.specs.Totals.{totalsFor}
-use Rattle.states.specs.Feed.{madeIn, forPlaceIn, fedIn}
+use Rattle.states.specs.Feed.{madeIn, moveIn, fedIn}
 use Rattle.states.specs.Enlist.{growingIn, enlistIn}
 use Rattle.calls.proofs.Giving as by
 use Rattle.linked_calls.specs.LinkedCalls as linked
@@ -32,7 +32,7 @@ module _ {M : Type 1} (𝓤 : URA M) (H : Heap 𝓤) (A : Atoms 𝓤) (mem : Mem
   writes = search givings
 
   pub collates : linked.Collates 𝓤 H A mem run
-  unfolding madeIn forPlaceIn fedIn growingIn enlistIn
+  unfolding madeIn moveIn fedIn growingIn enlistIn
   collates = search givings
 
   pub tells : linked.Tells 𝓤 H A mem run
@@ -40,5 +40,5 @@ module _ {M : Type 1} (𝓤 : URA M) (H : Heap 𝓤) (A : Atoms 𝓤) (mem : Mem
   tells = search givings
 
   pub behind : linked.Behind 𝓤 H A mem run
-  unfolding nextFrom totalsFor readRow readOne planned withFrame writeRow rowWritten writeObsRow obsRowWritten madeIn forPlaceIn fedIn growingIn enlistIn readPhase
+  unfolding nextFrom totalsFor readRow readOne planned withFrame writeRow rowWritten writeObsRow obsRowWritten madeIn moveIn fedIn growingIn enlistIn readPhase
   behind = search givings

@@ -27,7 +27,7 @@ use Rattle.frame_rows.specs.Found.{foundFields, foundValues, foundIn, numberIn,
 use Rattle.frame_rows.specs.Totals.{totalsFields, totalsRow, totalling}
 use Rattle.flag_numbers.specs.Flagged.{tableFor, isTable, fixBy, raimBy, fixNumber, bitNumber, flagging}
 use Rattle.places.specs.State.{placeStored, collatorStored}
-use Rattle.states.specs.Feed.{making, endedNumber, endedStored, feedingIn, stepIn}
+use Rattle.states.specs.Feed.{making, happenedNumber, happenedStored, feedingIn}
 use Rattle.states.specs.Enlist.{growing, enlisting}
 use Rattle.calls.specs.Replies.{hands, fills, sends}
 
@@ -100,16 +100,13 @@ growingGives state = fills (λ c. 0) collatorStored (growing (length (now state)
 abbrev pub enlistGives : Lent → ℕ → ℕ → Filled
 enlistGives state kind sender = fills (λ t. 0) (λ t was. t) (enlisting (now state) kind sender) (now state)
 
--- the frame is that of the type, sender and payload handed in: its own place is stepped, and an epoch that ends is reported
+-- the frame is that of the type, sender and payload handed in: its own place moves, and an epoch that ends is reported
 abbrev pub feedGives : Lent → ℕ → ℕ → Lent → Lent → ℕ × (List ℕ × (List ℕ × Unit {0}))
 feedGives state kind sender payload report =
     let x : Content = record { kind = kind; sender = sender; payload = now payload } in
     let a = reply (feedingIn (now state) (length (now report)) x) in (
-      asNumber (λ t. endedNumber (stepIn (now state) (t .0) (t .1) .ended)) a,
-      (
-        leaves (λ t s. placeStored s (t .0) (record { run = stepIn (now state) (t .0) (t .1) .run })) a (now state),
-        (leaves (λ t. endedStored sender (t .1) (stepIn (now state) (t .0) (t .1) .ended)) a (now report), tt),
-      ),
+      asNumber (λ m. happenedNumber (m .happened)) a,
+      (leaves (λ m s. placeStored s (m .seat) (m .place)) a (now state), (leaves (λ m. happenedStored (m .happened)) a (now report), tt)),
     )
 
 -- ---- phases and flags

@@ -7,13 +7,13 @@ use Rattle.wire.specs.Value.{u8, u16, u32}
 use Rattle.layouts.specs.Field.{Field, any, Row, size}
 use Rattle.frames.specs.Frame.{Content}
 use Rattle.packets.specs.declared.packet.Packet.{Packet}
-use Rattle.runs.specs.Run.{stepped}
-use Rattle.runs.specs.declared.running.Ended.{Ended}
-use Rattle.runs.specs.declared.running.Ended.the-variants.{Not, Whole}
 use Rattle.runs.specs.declared.running.Stepped.{Stepped}
-use Rattle.epochs.specs.Collator.{feeding, ownPlace, reportOf, rosterOf, fresh, rostering}
+use Rattle.epochs.specs.Stepping.{stepping}
+use Rattle.epochs.specs.Collator.{Move, feeding, fresh, rostering}
 use Rattle.epochs.specs.declared.collating.Collator.{Collator}
 use Rattle.epochs.specs.declared.collating.Report.{Report}
+use Rattle.epochs.specs.declared.collating.Happened.{Happened}
+use Rattle.epochs.specs.declared.collating.Happened.the-variants as H
 use Rattle.lent_rows.specs.Lent.{atFront}
 use Rattle.places.specs.State.{stateSize, placeIn, placeStored, stateIn, collatorStored}
 
@@ -32,7 +32,7 @@ madeAnswer roster room = zeroOr (madeIn roster room)
 abbrev pub madeStored : List ℕ → List ℕ → List ℕ
 madeStored roster s = leaves collatorStored (madeIn roster (length s)) s
 
--- ---- a step's end, as a number and as the bytes of a report
+-- ---- what happened, as a number and as the bytes of a report
 
 -- sender, wn, tow, n, observations
 abbrev pub reportFields : List Field
@@ -46,46 +46,51 @@ abbrev pub reportRow : Report → Row reportFields
 reportRow e = (e .sender, (e .wn, (e .tow, (e .n, (e .observations, tt)))))
 
 -- 0 taken, 1 an epoch
-abbrev pub endedNumber : Ended → ℕ
-endedNumber Not = 0
-endedNumber (Whole total) = 1
+abbrev pub happenedNumber : Happened → ℕ
+happenedNumber (H.Refused n) = n
+happenedNumber H.Taken = 0
+happenedNumber (H.Epoch e) = 1
 
 -- only an epoch is reported
-abbrev pub endedStored : ℕ → Packet → Ended → List ℕ → List ℕ
-endedStored sender p Not buf = buf
-endedStored sender p (Whole total) buf = atFront reportFields (reportRow (reportOf sender p total)) buf
+abbrev pub happenedStored : Happened → List ℕ → List ℕ
+happenedStored (H.Refused n) buf = buf
+happenedStored H.Taken buf = buf
+happenedStored (H.Epoch e) buf = atFront reportFields (reportRow e) buf
 
 -- ---- fed
 
--- 32 where the state or the report has no room, then 46, 22, 43, 44, 45; what passes them is a packet for its sender's place
-abbrev pub feedingIn : List ℕ → ℕ → Content → Call (ℕ × Packet)
+-- 32 where the state or the report has no room, then what the collator refuses
+abbrev pub feedingIn : List ℕ → ℕ → Content → Call Move
 feedingIn state room x =
-    let roster = rosterOf (stateIn state) in
-    record { tests = roomFor stateSize (length state) ++ roomFor reportSize room ++ feeding roster x .tests; value = ownPlace roster x }
+    let call = feeding (stateIn state) x in
+    record { tests = roomFor stateSize (length state) ++ roomFor reportSize room ++ call .tests; value = call .value }
 
-unfoldable pub forPlaceIn : List ℕ → ℕ → Content → Answer (ℕ × Packet)
-forPlaceIn state room x = reply (feedingIn state room x)
-
--- the step of that place
-abbrev pub stepIn : List ℕ → ℕ → Packet → Stepped
-stepIn state i p = stepped (placeIn state i .run) p
+unfoldable pub moveIn : List ℕ → ℕ → Content → Answer Move
+moveIn state room x = reply (feedingIn state room x)
 
 pub record FedIn : Type 0 where
   pub state : List ℕ
   pub report : List ℕ
   pub answer : ℕ
 
--- the packet's own place takes it, and no other byte changes
-abbrev pub cameOut : List ℕ → Content → List ℕ → Answer (ℕ × Packet) → FedIn
-cameOut state x report a =
+-- the place that moves is stored, and no other byte changes
+abbrev pub cameOut : List ℕ → List ℕ → Answer Move → FedIn
+cameOut state report a =
     record {
-      state = leaves (λ t s. placeStored s (t .0) (record { run = stepIn state (t .0) (t .1) .run })) a state;
-      report = leaves (λ t. endedStored (x .sender) (t .1) (stepIn state (t .0) (t .1) .ended)) a report;
-      answer = asNumber (λ t. endedNumber (stepIn state (t .0) (t .1) .ended)) a;
+      state = leaves (λ m s. placeStored s (m .seat) (m .place)) a state;
+      report = leaves (λ m. happenedStored (m .happened)) a report;
+      answer = asNumber (λ m. happenedNumber (m .happened)) a;
     }
 
 unfoldable pub fedIn : List ℕ → Content → List ℕ → FedIn
-fedIn state x report = cameOut state x report (forPlaceIn state (length report) x)
+fedIn state x report = cameOut state report (moveIn state (length report) x)
+
+-- the answer of place i to a packet, and what it leaves of the place
+abbrev pub stepIn : List ℕ → ℕ → Packet → Answer Stepped
+stepIn state i p = reply (stepping (placeIn state i .run) p)
+
+abbrev pub placeLeft : List ℕ → ℕ → Answer Stepped → List ℕ
+placeLeft state i a = leaves (λ y s. placeStored s i (record { run = y .run })) a state
 
 -- frames fed one after the other
 unfoldable pub afterIn : List ℕ → List ℕ → List Content → List ℕ

@@ -3,11 +3,12 @@ ghost use mathlib.Core.Path.{_≡_};
 ghost use Prim.Native.Nat.{_<_, _≤_};
 ghost use lib.ListN.{length};
 ghost use Rattle.layouts.specs.Field.{rowStored};
-ghost use Rattle.epochs.specs.Collator.{recognisedAnswer, forPlace, rosterOf};
-ghost use Rattle.places.specs.State.{seatIn, seatsIn, stateIn, placeStored};
-ghost use Rattle.states.specs.Feed.{reportFields, reportSize, reportRow, endedNumber, endedStored, stepIn, fedIn};
+ghost use Rattle.epochs.specs.Collator.{recognisedAnswer, forPlace, rosterOf, cameTo};
+ghost use Rattle.places.specs.State.{seatIn, seatsIn, stateIn};
+ghost use Rattle.states.specs.Feed.{reportFields, reportSize, reportRow, happenedNumber, happenedStored, stepIn, placeLeft, fedIn};
 use crate::sizes::REPORT_SIZE;
 use crate::sizes::STATE_SIZE;
+use epochs::Happened;
 use epochs::Place;
 use epochs::Recognised;
 use epochs::Report;
@@ -16,7 +17,6 @@ use places::place_in;
 use places::put_place;
 use places::sizes::SEAT_SIZE;
 use places::sizes::SEATS_AT;
-use runs::Ended;
 
 fn seat_in(s: &[u8], i: usize) -> u16
     requires { ⌜ i < 8 ⌝ }
@@ -50,17 +50,18 @@ fn recognise_in(s: &[u8], kind: u16, sender: u16, payload: &[u8]) -> Recognised
 }
 
 // Place i takes a packet.
-fn take(s: &mut [u8], i: usize, packet: Packet) -> Ended
+fn take(s: &mut [u8], i: usize, sender: u16, packet: Packet) -> Happened
     requires { ⌜ i < 8 ⌝ }
-    ensures { λ r. ⌜ r ≡ stepIn (now (s .entry)) i packet .ended ⌝ }
-    ensures { λ _. ⌜ now (s .exit) ≡ placeStored (now (s .entry)) i (record { run = stepIn (now (s .entry)) i packet .run }) ⌝ }
+    ensures { λ r. ⌜ r ≡ cameTo sender packet (stepIn (now (s .entry)) i packet) ⌝ }
+    ensures { λ _. ⌜ now (s .exit) ≡ placeLeft (now (s .entry)) i (stepIn (now (s .entry)) i packet) ⌝ }
 {
     let place = place_in(s, i);
     let before = place.run;
     let next = runs::step(before, packet);
     let run = next.run;
     put_place(s, i, Place { run });
-    next.ended
+    let ended = next.ended;
+    epochs::outcome(sender, packet, ended)
 }
 
 fn put_report(buf: &mut [u8], e: Report)
@@ -73,26 +74,17 @@ fn put_report(buf: &mut [u8], e: Report)
     wire::store_u16(buf, 9, e.observations);
 }
 
-// 0, or 1 with an epoch's report.
-fn put_ended(buf: &mut [u8], sender: u16, packet: Packet, ended: Ended) -> u8
+// 0 taken, or 1 with an epoch's report, or a refusal's number.
+fn put_happened(buf: &mut [u8], happened: Happened) -> u8
     requires { ⌜ reportSize ≤ length (now buf) ⌝ }
-    ensures { λ r. ⌜ r ≡ endedNumber ended ⌝ }
-    ensures { λ _. ⌜ now (buf .exit) ≡ endedStored sender packet ended (now (buf .entry)) ⌝ }
+    ensures { λ r. ⌜ r ≡ happenedNumber happened ⌝ }
+    ensures { λ _. ⌜ now (buf .exit) ≡ happenedStored happened (now (buf .entry)) ⌝ }
 {
-    match ended {
-        Ended::Not => 0,
-        Ended::Whole(total) => {
-            let key = packet.key;
-            put_report(
-                buf,
-                Report {
-                    sender,
-                    wn: key.wn,
-                    tow: key.tow,
-                    n: key.n,
-                    observations: total,
-                },
-            );
+    match happened {
+        Happened::Refused(number) => number,
+        Happened::Taken => 0,
+        Happened::Epoch(report) => {
+            put_report(buf, report);
             1
         }
     }
@@ -114,8 +106,8 @@ pub fn feed(state: &mut [u8], kind: u16, sender: u16, payload: &[u8], report: &m
     match recognised {
         Recognised::Refused(number) => number,
         Recognised::For(i, packet) => {
-            let ended = take(state, i, packet);
-            put_ended(report, sender, packet, ended)
+            let happened = take(state, i, sender, packet);
+            put_happened(report, happened)
         }
     }
 }

@@ -4,29 +4,26 @@ use mathlib.Core.List.{List, [], _∷_}
 use mathlib.Core.Logic.{inl, inr}
 use Prim.Native.Nat.{ℕ, _≤_, _<_}
 use native.Mathlib.Omega.{arith}
-use lib.ListN.{length, getD}
+use lib.ListN.{length}
 use borrow.Author.Tests.{eq-eqb, ne-eqb}
 use Rattle.wire.specs.Number.{Bytes}
-use Rattle.refusals.specs.Refusals.{refused, given, Answer, Tests, FirstFails}
+use Rattle.refusals.specs.Refusals.{refused, given, Answer, Tests, FirstFails, reply}
 use Rattle.layouts.specs.Field.{Row, decode}
 use Rattle.layouts.proofs.Fields.{length-row}
 use Rattle.refusals.proofs.Ordered.{exactly-first}
 use Rattle.frames.specs.Frame.{Content}
 use Rattle.packets.specs.Packet.{shape, numbering}
-use Rattle.packets.specs.declared.packet.Packet.{Packet}
-use Rattle.runs.specs.Run.{stepped}
-use Rattle.runs.specs.declared.running.Ended.{Ended}
-use Rattle.runs.specs.declared.running.Ended.the-variants.{Not, Whole}
-use Rattle.epochs.specs.Collator.{feeding, forPlace, ownPlace, idle, outcome, acted, rosterOf, fedFrame}
+use Rattle.epochs.specs.Collator.{Move, feeding, moved, fedFrame}
+use Rattle.epochs.proofs.Feeding.{never-refuses}
 use Rattle.epochs.specs.declared.collating.Collator.{Collator}
 use Rattle.epochs.specs.declared.collating.Report.{Report}
 use Rattle.epochs.specs.declared.collating.Happened.{Happened}
 use Rattle.epochs.specs.declared.collating.Happened.the-variants as H
 use Rattle.places.specs.State.{stateSize, slotFields, slotAt, slotRow, slotOf, stateIn}
-use Rattle.states.specs.Feed.{reportFields, reportSize, reportRow, endedStored, forPlaceIn, stepIn, FedIn, cameOut, fedIn}
+use Rattle.states.specs.Feed.{reportFields, reportSize, reportRow, happenedNumber, happenedStored, moveIn, FedIn, cameOut, fedIn}
 use Rattle.told.specs.Told.{toldBy, told}
 use Rattle.lent_rows.proofs.Parts.{stored-front}
-use Rattle.states.proofs.Feeds.{happenedNumber, feeds, report-back}
+use Rattle.states.proofs.Feeds.{feeds, report-back}
 
 -- ---- a refusal is none of 0 and 1
 
@@ -38,22 +35,16 @@ first-from : (k : ℕ) (ts : Tests) {n : ℕ} → From k ts → FirstFails ts n 
 first-from k (t ∷ ts) h (inl f) = omega (arith, h .0, f .1)
 first-from k (t ∷ ts) h (inr f) = first-from k ts (h .1) (f .1)
 
-pub refusal-from : (roster : List ℕ) (x : Content) {n : ℕ} → forPlace roster x ≡ refused n → 22 ≤ n
-unfolding forPlace shape numbering
-refusal-from roster x {n} e =
-    first-from 22 (feeding roster x .tests) (omega arith, (omega arith, (omega arith, (omega arith, (omega arith, tt))))) (exactly-first (ownPlace roster x) (feeding roster x .tests) n .0 e)
-
 refused-from : (c : Collator) (x : Content) {n : ℕ} → fedFrame c x .happened ≡ H.Refused n → 2 ≤ n
-unfolding fedFrame
-refused-from c x {n} = by (forPlace (rosterOf c) x) refl
+unfolding fedFrame shape numbering
+refused-from c x {n} = by (reply (feeding c x)) refl
   where
-    ended : (p : Packet) (y : Ended) → outcome (x .sender) p y ≡ H.Refused n → 2 ≤ n
-    ended p Not q = let z : _≡_ {A = ℕ} 0 1 = cc in absurd (omega arith)
-    ended p (Whole t) q = let z : _≡_ {A = ℕ} 0 1 = cc in absurd (omega arith)
-
-    by : (a : Answer (ℕ × Packet)) → forPlace (rosterOf c) x ≡ a → acted c (x .sender) a .happened ≡ H.Refused n → 2 ≤ n
-    by (refused m) q e = let same : m ≡ n = cc in omega (arith, refusal-from (rosterOf c) x q)
-    by (given t) q e = ended (t .1) (stepped (getD (c .places) (t .0) idle .run) (t .1) .ended) e
+    by : (a : Answer Move) → reply (feeding c x) ≡ a → moved c a .happened ≡ H.Refused n → 2 ≤ n
+    by (refused m) q e =
+        let same : m ≡ n = cc in
+        let from = first-from 22 (feeding c x .tests) (omega arith, (omega arith, (omega arith, (omega arith, (omega arith, tt))))) (exactly-first (feeding c x .value) (feeding c x .tests) m .0 q) in
+        omega (arith, from)
+    by (given m) q e = absurd (never-refuses c x q e)
 
 -- ---- the three numbers
 
@@ -76,19 +67,18 @@ module _ (s : List ℕ) (x : Content) (report : List ℕ) (room : reportSize ≤
   abbrev KeptLong : FedIn → Type 0
   KeptLong out = (length (out .state) ≡ length s) × (length (out .report) ≡ length report)
 
-  length-ended : (p : Packet) (y : Ended) → length (endedStored (x .sender) p y report) ≡ length report
-  length-ended p Not = refl
-  length-ended p (Whole total) = ap length (sym (stored-front reportFields _ report room)) ∙ length-row reportFields _ report 0
+  length-happened : (h : Happened) → length (happenedStored h report) ≡ length report
+  length-happened (H.Refused n) = refl
+  length-happened H.Taken = refl
+  length-happened (H.Epoch e) = ap length (sym (stored-front reportFields _ report room)) ∙ length-row reportFields _ report 0
 
   pub lengths : KeptLong (fedIn s x report)
   unfolding fedIn
-  lengths = by (forPlaceIn s (length report) x)
+  lengths = by (moveIn s (length report) x)
     where
-      by : (a : Answer (ℕ × Packet)) → KeptLong (cameOut s x report a)
+      by : (a : Answer Move) → KeptLong (cameOut s report a)
       by (refused n) = (refl, refl)
-      by (given t) =
-          let next = stepIn s (t .0) (t .1) in
-          (length-row slotFields (slotRow (slotOf (record { run = next .run }))) s (slotAt (t .0)), length-ended (t .1) (next .ended))
+      by (given m) = (length-row slotFields (slotRow (slotOf (m .place))) s (slotAt (m .seat)), length-happened (m .happened))
 
   module _ (long : stateSize ≤ length s) (bytes : Bytes (x .payload)) (small : x .sender < 65536) where
     pub tells : told (fedIn s x report) ≡ fedFrame (stateIn s) x .happened

@@ -3,7 +3,7 @@ use mathlib.Core.Path.{sym, ap, _∙_}
 use native.Mathlib.Omega.{arith}
 use Rattle.frames.specs.Frame.{Content}
 use Rattle.epochs.specs.Collator.{recognisedAnswer}
-use Rattle.states.proofs.Feeds.{came, state-short, report-short, as-collator, came-taken, eight}
+use Rattle.states.proofs.Feeds.{came, state-short, report-short, came-refused, came-taken, eight}
 use borrow.Author.Needs.{needs}
 use Rattle.states.proofs.feeding.feed.Statement.{statement}
 use Rattle.states.proofs.feeding.feed.Tie as tie
@@ -30,10 +30,8 @@ returns-3 : tie.Need-returns-3
 returns-3 c =
     let a = c .before .before .before .before .before .before .before .before .before .before .args in
     let x : Content = record { kind = a .kind; sender = a .sender; payload = a .payload .now } in
-    came (a .state .now) x (a .report .now)
-    (as-collator (a .state .now) x (a .report .now) (omega arith) (omega arith)
-    ∙ sym (c .before .before .before .recognise-in .ensures)
-    ∙ ap recognisedAnswer (c .before .recognised .given .1))
+    came-refused (a .state .now) x (a .report .now) (omega arith) (omega arith)
+    (sym (c .before .before .before .recognise-in .ensures) ∙ ap recognisedAnswer (c .before .recognised .given .1))
 
 returns-4 : tie.Need-returns-4
 returns-4 c =
@@ -42,7 +40,7 @@ returns-4 c =
     let a = start .args in
     let x : Content = record { kind = a .kind; sender = a .sender; payload = a .payload .now } in
     let step = c .before .before .before .before .before .before .take .ensures in
-    let end = c .before .before .put-ended .ensures in
+    let end = c .before .before .put-happened .ensures in
     came-taken (a .state .now) x (a .report .now) (met .before .before .before .before .before .if1 .left) (met .before .before .before .before .if2 .left)
     (sym (met .before .before .recognise-in .ensures) ∙ ap recognisedAnswer (met .recognised2 .given .1)) (step .0) (step .1) (end .0) (end .1)
 

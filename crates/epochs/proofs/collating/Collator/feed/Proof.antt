@@ -43,7 +43,7 @@ returns c =
 returns-2 : tie.Need-returns-2
 returns-2 c =
     let a = c .before .before .before .before .before .before .before .before .before .args in
-    fed-taken (a .t1) (record { kind = a .kind; sender = a .sender; payload = a .payload .now }) (for (c .before .before .before)) (c .before .step .ensures) (c .outcome .ensures)
+    fed-taken (a .t1) (record { kind = a .kind; sender = a .sender; payload = a .payload .now }) (for (c .before .before .before)) (ap given (c .before .step .ensures)) (c .outcome .ensures)
 
 pub feed-spec : {M : Type 1} → statement M
 feed-spec =
