@@ -24,7 +24,7 @@ use Rattle.epochs.specs.declared.seating.Seat.the-variants.{At, Nowhere}
 use Rattle.epochs.specs.declared.collating.Collator.{Collator}
 use Rattle.epochs.specs.declared.collating.Place.{Place}
 use Rattle.epochs.proofs.Feeding.{replied-moves}
-use Rattle.places.specs.State.{slotFields, seatFields, countFields, slotRow, slotOf, seatRow, placeRow, sendersIn, countStored, placeStored, collatorStored, seatsStored, stateIn}
+use Rattle.places.specs.State.{slot, slotFields, seatFields, countFields, slotOf, seatRow, placeRow, sendersIn, countStored, placeStored, collatorStored, seatsStored, stateIn}
 use Rattle.states.specs.Feed.{madeIn, madeStored, feedingIn, moveIn, cameOut, fedIn}
 use Rattle.states.specs.Enlist.{growingIn, growingStored, seatTaken, seatedBy, joinedIn, enlistedIn, enlistIn, enlistStored}
 use Rattle.states.proofs.Feeds.{eight}
@@ -109,7 +109,7 @@ module _ (s : List ℕ) (x : Content) (report : List ℕ) where
     where
       by : (a : Answer Move) → moveIn s (length report) x ≡ a → drop 105 (cameOut s report a .state) ≡ drop 105 s
       by (refused n) e = refl
-      by (given m) e = after-row 105 slotFields (slotRow (slotOf (m .place))) s (17 + m .seat * 11) (omega (arith, seat-below e))
+      by (given m) e = after-row 105 slotFields (slot .row (slotOf (m .place))) s (17 + m .seat * 11) (omega (arith, seat-below e))
 
 after-answer : (s : List ℕ) (kind sender : ℕ) → drop 105 (enlistStored s kind sender) ≡ drop 105 s
 unfolding enlistIn

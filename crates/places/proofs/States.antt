@@ -6,6 +6,7 @@ use Prim.Native.Nat.{ℕ, _+_, _^_, _≤_, _<_}
 use native.Mathlib.Omega.{arith}
 use lib.Dec.{ltb}
 use lib.ListN.{length, getD, set}
+use borrow.Author.Needs.{needs}
 use borrow.Author.Tests.{ltb-true, ltb-false}
 use Rattle.layouts.specs.Field.{HeldRow, SettledRow, Row, size}
 use Rattle.layouts.proofs.Fields.{length-row}
@@ -16,7 +17,7 @@ use Rattle.runs.specs.declared.running.Run.{Run}
 use Rattle.runs.specs.declared.running.Run.the-variants.{Idle, Open}
 use Rattle.epochs.specs.declared.collating.Place.{Place}
 use Rattle.epochs.specs.declared.collating.Collator.{Collator}
-use Rattle.places.specs.State.{countFields, seatFields, slotFields, seatsAt, placesAt, stateSize, seatAt, slotAt, slotRow, slotMake, placeOf, slotFor, slotOf, placeIn, placeStored, sendersIn, seatIn, seatsIn, stateIn, countStored, seatRow, seatsStored, placeRow, collatorStored}
+use Rattle.places.specs.State.{countFields, seatFields, slot, slotFields, seatsAt, placesAt, stateSize, seatAt, slotAt, placeOf, slotFor, slotOf, placeIn, placeStored, sendersIn, seatIn, seatsIn, stateIn, countStored, seatRow, seatsStored, placeRow, collatorStored}
 use Rattle.lent_rows.proofs.Parts.{decode-stored, decode-before, decode-after}
 use Rattle.wire.proofs.Tables.{tabulated-set, tabulated-same, tabulated-all}
 use Rattle.lent_rows.proofs.Tables.{rows-own, rows-before, length-stored}
@@ -37,14 +38,12 @@ SmallRun (Open part) = SmallPart part
 abbrev pub Small : Place → Type 0
 Small place = SmallRun (place .run)
 
-held : (r : Run) → SmallRun r → HeldRow slotFields (slotRow (slotFor r))
-held Idle h =
-    (record { fits = omega arith }, (record { fits = omega arith }, (record { fits = omega arith }, (record { fits = omega arith }, (record { fits = omega arith }, (record { fits = omega arith }, tt))))))
-held (Open part) h =
-    (record { fits = omega arith }, (record { fits = h .tow }, (record { fits = h .wn }, (record { fits = h .n }, (record { fits = h .next }, (record { fits = h .total }, tt))))))
+held : (r : Run) → SmallRun r → HeldRow slotFields (slot .row (slotFor r))
+held Idle h = search needs
+held (Open part) h = search needs
 
-settled : (r : Run) → SettledRow slotFields (slotRow (slotFor r))
-settled r = (refl, (refl, (refl, (refl, (refl, (refl, tt))))))
+settled : (r : Run) → SettledRow slotFields (slot .row (slotFor r))
+settled r = search needs
 
 -- a place comes back from its numbers
 back : (r : Run) → placeOf (slotFor r) ≡ record { run = r }
@@ -59,8 +58,8 @@ module _ (s : List ℕ) (long : stateSize ≤ length s) (i : ℕ) (h : i < 8) (p
 
   pub own-place : Small place → placeIn (placeStored s i place) i ≡ place
   own-place small =
-      ap (λ (v : Row slotFields). placeOf (slotMake v))
-      (decode-stored slotFields (slotRow (slotOf place)) s (slotAt i) room (held (place .run) small) (settled (place .run)))
+      ap (λ (v : Row slotFields). placeOf (slot .make v))
+      (decode-stored slotFields (slot .row (slotOf place)) s (slotAt i) room (held (place .run) small) (settled (place .run)))
       ∙ back (place .run)
 
   pub other-place : (j : ℕ) → (j ≡ i → ⊥) → placeIn (placeStored s i place) j ≡ placeIn s j
@@ -69,20 +68,20 @@ module _ (s : List ℕ) (long : stateSize ≤ length s) (i : ℕ) (h : i < 8) (p
       by : (t : Bool) → ltb j i ≡ t → placeIn (placeStored s i place) j ≡ placeIn s j
       by true e =
           let below : j < i = ltb-true j i e in
-          ap (λ (v : Row slotFields). placeOf (slotMake v)) (decode-before slotFields (slotRow (slotOf place)) s (slotAt i) room slotFields (slotAt j) (omega arith))
+          ap (λ (v : Row slotFields). placeOf (slot .make v)) (decode-before slotFields (slot .row (slotOf place)) s (slotAt i) room slotFields (slotAt j) (omega arith))
       by false e =
           let above : i ≤ j = ltb-false j i e in
           let apart : i < j = omega arith in
-          ap (λ (v : Row slotFields). placeOf (slotMake v)) (decode-after slotFields (slotRow (slotOf place)) s (slotAt i) room slotFields (slotAt j) (omega arith))
+          ap (λ (v : Row slotFields). placeOf (slot .make v)) (decode-after slotFields (slot .row (slotOf place)) s (slotAt i) room slotFields (slotAt j) (omega arith))
 
   same-count : sendersIn (placeStored s i place) ≡ sendersIn s
-  same-count = ap (λ (v : Row countFields). v .0) (decode-before slotFields (slotRow (slotOf place)) s (slotAt i) room countFields 0 (omega arith))
+  same-count = ap (λ (v : Row countFields). v .0) (decode-before slotFields (slot .row (slotOf place)) s (slotAt i) room countFields 0 (omega arith))
 
   same-seats : seatsIn (placeStored s i place) ≡ seatsIn s
   same-seats =
       tabulated-same (seatIn (placeStored s i place)) (seatIn s) 8
       λ j b.
-      ap (λ (v : Row seatFields). v .0) (decode-before slotFields (slotRow (slotOf place)) s (slotAt i) room seatFields (seatAt j) (omega arith))
+      ap (λ (v : Row seatFields). v .0) (decode-before slotFields (slot .row (slotOf place)) s (slotAt i) room seatFields (seatAt j) (omega arith))
 
   -- the bytes stand for the same collator with that place
   pub state-place : Small place
@@ -133,7 +132,7 @@ module _ (c : Collator) (h : Held c) (s : List ℕ) (long : stateSize ≤ length
   place-back : (j : ℕ) → j < 8 → placeIn (collatorStored c s) j ≡ getD (c .places) j idle
   place-back j b =
       let run : ℕ → Run = λ k. getD (c .places) k idle .run in
-      ap (λ (v : Row slotFields). placeOf (slotMake v))
+      ap (λ (v : Row slotFields). placeOf (slot .make v))
       (rows-own slotFields (placeRow (c .places)) (seatsStored (c .roster) (countStored (c .count) s)) placesAt 8 (omega (arith, seated-long))
       (λ k d. (held (run k) (h .small k d), settled (run k))) j b)
       ∙ back (run j)

@@ -1,12 +1,15 @@
 -- A collator in 105 bytes: how many senders are listed, the eight seats of the roster, the eight places.
 use Prim.Native.Nat.{ℕ, _+_, _*_}
+use mathlib.Core.Path.{refl}
 use mathlib.Core.Bool.{cond}
 use mathlib.Core.List.{List, [], _∷_}
 use lib.Dec.{eqb}
 use lib.ListN.{getD}
 use Rattle.wire.specs.Number.{numberAt}
 use Rattle.wire.specs.Value.{u8, u16, u32}
-use Rattle.layouts.specs.Field.{Field, any, Row, size, decode, rowStored}
+use Rattle.layouts.specs.Field.{Field, any, Row, size, rowStored}
+use Rattle.layouts.specs.Description.{Part}
+use Rattle.layouts.specs.Together.{takenAt, putAt}
 use Rattle.wire.specs.Tabulated.{tabulated}
 use Rattle.epochs.specs.Collator.{idle}
 use Rattle.runs.specs.declared.running.Run.{Run}
@@ -24,9 +27,18 @@ countFields = any u8 ∷ []
 abbrev pub seatFields : List Field
 seatFields = any u16 ∷ []
 
--- opened, tow, wn, n, next, total
+-- a place as numbers
+abbrev pub slot : Part Slot
+slot = record {
+  fields = any u8 ∷ any u32 ∷ any u16 ∷ any u8 ∷ any u8 ∷ any u16 ∷ [];
+  row = λ r. (r .opened, (r .tow, (r .wn, (r .n, (r .next, (r .total, tt))))));
+  make = λ v. record { opened = v .0; tow = v .1 .0; wn = v .1 .1 .0; n = v .1 .1 .1 .0; next = v .1 .1 .1 .1 .0; total = v .1 .1 .1 .1 .1 .0 };
+  row-make = λ v. refl;
+  make-row = λ r. refl;
+}
+
 abbrev pub slotFields : List Field
-slotFields = any u8 ∷ any u32 ∷ any u16 ∷ any u8 ∷ any u8 ∷ any u16 ∷ []
+slotFields = slot .fields
 
 abbrev pub seatsAt : ℕ
 seatsAt = size countFields
@@ -46,12 +58,6 @@ slotAt i = placesAt + i * size slotFields
 
 -- ---- one place
 
-abbrev pub slotRow : Slot → Row slotFields
-slotRow x = (x .opened, (x .tow, (x .wn, (x .n, (x .next, (x .total, tt))))))
-
-abbrev pub slotMake : Row slotFields → Slot
-slotMake v = record { opened = v .0; tow = v .1 .0; wn = v .1 .1 .0; n = v .1 .1 .1 .0; next = v .1 .1 .1 .1 .0; total = v .1 .1 .1 .1 .1 .0 }
-
 -- idle where opened is 0
 abbrev pub placeOf : Slot → Place
 placeOf x =
@@ -66,10 +72,10 @@ abbrev pub slotOf : Place → Slot
 slotOf place = slotFor (place .run)
 
 abbrev pub slotIn : List ℕ → ℕ → Slot
-slotIn s i = slotMake (decode slotFields s (slotAt i))
+slotIn s i = takenAt slot s (slotAt i)
 
 abbrev pub slotStored : List ℕ → ℕ → Slot → List ℕ
-slotStored s i x = rowStored slotFields (slotRow x) s (slotAt i)
+slotStored s i x = putAt slot x s (slotAt i)
 
 abbrev pub placeIn : List ℕ → ℕ → Place
 placeIn s i = placeOf (slotIn s i)
@@ -103,7 +109,7 @@ abbrev pub seatsStored : List ℕ → List ℕ → List ℕ
 seatsStored roster s = firstRowsStored seatFields (seatRow roster) 8 s seatsAt
 
 abbrev pub placeRow : List Place → ℕ → Row slotFields
-placeRow places i = slotRow (slotOf (getD places i idle))
+placeRow places i = slot .row (slotOf (getD places i idle))
 
 abbrev pub placesStored : List Place → List ℕ → List ℕ
 placesStored places s = firstRowsStored slotFields (placeRow places) 8 s placesAt

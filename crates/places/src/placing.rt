@@ -2,8 +2,14 @@
 ghost use mathlib.Core.Path.{_≡_};
 ghost use Prim.Native.Nat.{_%_};
 ghost use Rattle.places.specs.State.{slotAt, placeOf, slotOf, slotIn, slotStored, placeIn, placeStored};
+use crate::sizes::N_AT;
+use crate::sizes::NEXT_AT;
+use crate::sizes::OPENED_AT;
 use crate::sizes::PLACES_AT;
 use crate::sizes::SLOT_SIZE;
+use crate::sizes::TOTAL_AT;
+use crate::sizes::TOW_AT;
+use crate::sizes::WN_AT;
 use epochs::Place;
 use packets::Key;
 use runs::Part;
@@ -75,37 +81,27 @@ fn slot_at(i: usize) -> usize
 fn slot_in(s: &[u8], i: usize) -> Slot
     ensures { λ r. ⌜ r ≡ slotIn (now (s .entry)) (i % 8) ⌝ }
 {
-    let opened = slot_at(i);
-    let tow = opened + 1;
-    let wn = tow + 4;
-    let n = wn + 2;
-    let next = n + 1;
-    let total = next + 1;
+    let at = slot_at(i);
     Slot {
-        opened: wire::read_u8(s, opened),
-        tow: wire::read_u32(s, tow),
-        wn: wire::read_u16(s, wn),
-        n: wire::read_u8(s, n),
-        next: wire::read_u8(s, next),
-        total: wire::read_u16(s, total),
+        opened: wire::read_u8(s, at + OPENED_AT),
+        tow: wire::read_u32(s, at + TOW_AT),
+        wn: wire::read_u16(s, at + WN_AT),
+        n: wire::read_u8(s, at + N_AT),
+        next: wire::read_u8(s, at + NEXT_AT),
+        total: wire::read_u16(s, at + TOTAL_AT),
     }
 }
 
 fn put_slot(s: &mut [u8], i: usize, slot: Slot)
     ensures { λ _. ⌜ now (s .exit) ≡ slotStored (now (s .entry)) (i % 8) slot ⌝ }
 {
-    let opened = slot_at(i);
-    let tow = opened + 1;
-    let wn = tow + 4;
-    let n = wn + 2;
-    let next = n + 1;
-    let total = next + 1;
-    wire::store_u8(s, opened, slot.opened);
-    wire::store_u32(s, tow, slot.tow);
-    wire::store_u16(s, wn, slot.wn);
-    wire::store_u8(s, n, slot.n);
-    wire::store_u8(s, next, slot.next);
-    wire::store_u16(s, total, slot.total);
+    let at = slot_at(i);
+    wire::store_u8(s, at + OPENED_AT, slot.opened);
+    wire::store_u32(s, at + TOW_AT, slot.tow);
+    wire::store_u16(s, at + WN_AT, slot.wn);
+    wire::store_u8(s, at + N_AT, slot.n);
+    wire::store_u8(s, at + NEXT_AT, slot.next);
+    wire::store_u16(s, at + TOTAL_AT, slot.total);
 }
 
 // Place i % 8 of the eight.

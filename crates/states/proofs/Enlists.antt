@@ -19,7 +19,7 @@ use Rattle.epochs.specs.declared.collating.Collator.{Collator}
 use Rattle.epochs.specs.declared.collating.Made.{Made}
 use Rattle.epochs.proofs.Making.{nobody, made-seated}
 use Rattle.enlisting.specs.Enlisting.{seatedIn, enlistedTo}
-use Rattle.places.specs.State.{countFields, seatFields, slotFields, stateSize, seatAt, slotAt, slotMake, placeOf, placeIn, sendersIn, seatIn, stateIn, collatorStored}
+use Rattle.places.specs.State.{countFields, seatFields, slot, slotFields, stateSize, seatAt, slotAt, placeOf, placeIn, sendersIn, seatIn, stateIn, collatorStored}
 use Rattle.states.specs.Enlist.{growingIn, growingAnswer, growingStored, seatTaken, seatedBy, joinedIn, enlistedIn, enlistIn, enlistAnswer, enlistStored}
 use Rattle.lent_rows.proofs.Parts.{decode-stored, decode-before, decode-after}
 use Rattle.wire.proofs.Tables.{tabulated-set, tabulated-same}
@@ -134,7 +134,7 @@ module _ (s : List ℕ) (long : stateSize ≤ length s) (sender : ℕ) where
     place-same : (j : ℕ) → placeIn (seatTaken s sender) j ≡ placeIn s j
     unfolding seatTaken
     place-same j =
-        ap (λ (v : Row slotFields). placeOf (slotMake v))
+        ap (λ (v : Row slotFields). placeOf (slot .make v))
         (decode-after countFields (sendersIn s + 1, tt) seated 0 counted-room slotFields (slotAt j) (omega arith)
         ∙ decode-after seatFields (sender, tt) s (seatAt (sendersIn s)) room slotFields (slotAt j) (omega arith))
 

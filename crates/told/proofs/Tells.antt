@@ -19,7 +19,7 @@ use Rattle.epochs.specs.declared.collating.Collator.{Collator}
 use Rattle.epochs.specs.declared.collating.Report.{Report}
 use Rattle.epochs.specs.declared.collating.Happened.{Happened}
 use Rattle.epochs.specs.declared.collating.Happened.the-variants as H
-use Rattle.places.specs.State.{stateSize, slotFields, slotAt, slotRow, slotOf, stateIn}
+use Rattle.places.specs.State.{stateSize, slot, slotFields, slotAt, slotOf, stateIn}
 use Rattle.states.specs.Feed.{reportFields, reportSize, reportRow, happenedNumber, happenedStored, moveIn, FedIn, cameOut, fedIn}
 use Rattle.told.specs.Told.{toldBy, told}
 use Rattle.lent_rows.proofs.Parts.{stored-front}
@@ -78,7 +78,7 @@ module _ (s : List ℕ) (x : Content) (report : List ℕ) (room : reportSize ≤
     where
       by : (a : Answer Move) → KeptLong (cameOut s report a)
       by (refused n) = (refl, refl)
-      by (given m) = (length-row slotFields (slotRow (slotOf (m .place))) s (slotAt (m .seat)), length-happened (m .happened))
+      by (given m) = (length-row slotFields (slot .row (slotOf (m .place))) s (slotAt (m .seat)), length-happened (m .happened))
 
   module _ (long : stateSize ≤ length s) (bytes : Bytes (x .payload)) (small : x .sender < 65536) where
     pub tells : told (fedIn s x report) ≡ fedFrame (stateIn s) x .happened
