@@ -1,5 +1,6 @@
 // What the flags of a position, a baseline and the heading mean. The fix modes of the two positions differ.
 ghost use mathlib.Core.Path.{_≡_};
+ghost use Prim.Native.Nat.{_%_};
 ghost use Rattle.flags.specs.Flags.{chosen, ecefFix, llhFix, baselineFix, raimAvailable, raimRepaired, llhAboveSea, llhRaimAvailable, llhRaimRepaired};
 
 // Reserved is a mode that the message's table leaves out; a record that was read never has it.
@@ -10,9 +11,17 @@ pub enum Fix {
     Reserved,
 }
 
-fn chosen(mode: u8, zeroth: Fix, first: Fix, second: Fix) -> Fix
-    ensures { λ r. ⌜ r ≡ chosen mode zeroth first second ⌝ }
+// The fix mode is the low three bits.
+pub(crate) fn fix_mode(flags: u8) -> u8
+    ensures { λ r. ⌜ r ≡ flags % 8 ⌝ }
 {
+    flags & 7
+}
+
+fn chosen(flags: u8, zeroth: Fix, first: Fix, second: Fix) -> Fix
+    ensures { λ r. ⌜ r ≡ chosen (flags % 8) zeroth first second ⌝ }
+{
+    let mode = fix_mode(flags);
     if mode == 0 {
         return zeroth;
     }
@@ -29,21 +38,21 @@ fn chosen(mode: u8, zeroth: Fix, first: Fix, second: Fix) -> Fix
 pub fn pos_ecef_fix(flags: u8) -> Fix
     ensures { λ r. ⌜ r ≡ ecefFix flags ⌝ }
 {
-    chosen(flags % 8, Fix::SinglePoint, Fix::Float, Fix::Fixed)
+    chosen(flags, Fix::SinglePoint, Fix::Float, Fix::Fixed)
 }
 
 // POS_LLH.
 pub fn pos_llh_fix(flags: u8) -> Fix
     ensures { λ r. ⌜ r ≡ llhFix flags ⌝ }
 {
-    chosen(flags % 8, Fix::SinglePoint, Fix::Fixed, Fix::Float)
+    chosen(flags, Fix::SinglePoint, Fix::Fixed, Fix::Float)
 }
 
 // BASELINE_ECEF, BASELINE_NED and BASELINE_HEADING.
 pub fn baseline_fix(flags: u8) -> Fix
     ensures { λ r. ⌜ r ≡ baselineFix flags ⌝ }
 {
-    chosen(flags % 8, Fix::Float, Fix::Fixed, Fix::Reserved)
+    chosen(flags, Fix::Float, Fix::Fixed, Fix::Reserved)
 }
 
 // All but POS_LLH: the RAIM check was available; the solution came from RAIM repair.

@@ -1,6 +1,7 @@
 // The ranges of document 01.
 ghost use mathlib.Core.Path.{_≡_};
 ghost use Rattle.flags.specs.Range.{inNs, fixUpTo};
+use crate::flags::fix_mode;
 
 pub fn ns_allowed(ns: i32) -> bool
     ensures { λ r. ⌜ r ≡ inNs ns ⌝ }
@@ -11,9 +12,9 @@ pub fn ns_allowed(ns: i32) -> bool
     false
 }
 
-// The fix mode, the low three bits of flags, is at most last.
+// The fix mode is at most last.
 pub fn fix_allowed(flags: u8, last: u8) -> bool
     ensures { λ r. ⌜ r ≡ fixUpTo last flags ⌝ }
 {
-    flags % 8 <= last
+    fix_mode(flags) <= last
 }

@@ -39,8 +39,8 @@ pub fn same_key(a: Key, b: Key) -> bool
 fn packet_of(o: Obs) -> Packet
     ensures { λ r. ⌜ r ≡ packetOf o ⌝ }
 {
-    let n = o.n_obs / 16;
-    let counter = o.n_obs % 16;
+    let n = o.n_obs >> 4;
+    let counter = o.n_obs & 15;
     Packet {
         key: Key {
             tow: o.tow,
