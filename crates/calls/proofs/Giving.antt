@@ -61,6 +61,8 @@ use Rattle.index.specs.declared.asking.Sought.the-variants as Sought
 use Rattle.index.specs.declared.counting.Counted.the-variants as Counted
 use Rattle.packets.specs.Packet as Packet
 use Rattle.packets.specs.declared.packet.PacketRead.the-variants as PacketRead
+use Rattle.groups.specs.Group as Group
+use Rattle.groups.specs.declared.grouping.Answered.the-variants as Answered
 use Rattle.epochs.specs.Collator as Collator
 use Rattle.epochs.specs.declared.recognising.Recognised.the-variants as Recognised
 use Rattle.observation.specs.declared.entry.Observation.{Observation}
@@ -210,6 +212,9 @@ module _ {M : Type 1} (𝓤 : URA M) where
 
   pub packet-read : Said Packet.packetAnswer PacketRead.Record PacketRead.Refused
   packet-read = enum Packet.packetAnswer PacketRead.Record PacketRead.Refused variants.packet-read
+
+  pub place-step : Said Group.stepAnswer Answered.To Answered.Refused
+  place-step = enum Group.stepAnswer Answered.To Answered.Refused variants.place-step
 
   pub written : Said Writer.writtenAnswer Written.the-variants.Bytes Written.the-variants.Refused
   written = enum Writer.writtenAnswer Written.the-variants.Bytes Written.the-variants.Refused variants.written

@@ -56,6 +56,8 @@ use Rattle.index.specs.declared.asking.Sought.the-variants as Sought
 use Rattle.index.specs.declared.counting.Counted.the-variants as Counted
 use Rattle.packets.specs.Packet as Packet
 use Rattle.packets.specs.declared.packet.PacketRead.the-variants as PacketRead
+use Rattle.groups.specs.Group as Group
+use Rattle.groups.specs.declared.grouping.Answered.the-variants as Answered
 use Rattle.epochs.specs.Collator as Collator
 use Rattle.epochs.specs.declared.recognising.Recognised.the-variants as Recognised
 use Rattle.calls.specs.Replies.{variantOf, soughtOf}
@@ -137,6 +139,9 @@ reading = elim [ Reading.Record r ↦ refl | Reading.Refused n ↦ refl ]
 
 pub packet-read : Back Packet.packetAnswer PacketRead.Record PacketRead.Refused
 packet-read = elim [ PacketRead.Record r ↦ refl | PacketRead.Refused n ↦ refl ]
+
+pub place-step : Back Group.stepAnswer Answered.To Answered.Refused
+place-step = elim [ Answered.To s ↦ refl | Answered.Refused n ↦ refl ]
 
 pub written : Back Writer.writtenAnswer Written.the-variants.Bytes Written.the-variants.Refused
 written = elim [ Written.the-variants.Bytes r ↦ refl | Written.the-variants.Refused n ↦ refl ]

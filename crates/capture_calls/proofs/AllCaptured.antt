@@ -15,7 +15,7 @@ use Rattle.listing.specs.Listing.{listAnswer}
 use Rattle.calls.proofs.Giving as by
 use Rattle.capture_calls.specs.CaptureCalls as calls
 
-ruleset givings = (by.plain, by.written-stored, by.reader, by.asked, by.stepped, by.phase-parts, by.packet-read, by.recognised)
+ruleset givings = (by.plain, by.written-stored, by.reader, by.asked, by.stepped, by.phase-parts, by.packet-read, by.place-step, by.recognised)
 
 module _ {M : Type 1} (𝓤 : URA M) (H : Heap 𝓤) (A : Atoms 𝓤) (mem : Memory → SProp 𝓤) (run : Routine → Fun 𝓤) where
   pub frames : calls.Frames 𝓤 H A mem run

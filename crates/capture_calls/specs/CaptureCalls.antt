@@ -27,6 +27,8 @@ use Rattle.obs_reader.specs.Reader.{movedBy, asked}
 use Rattle.packets.specs.Packet.{packetIn, shape, numbering}
 use Rattle.packets.specs.declared.packet.PacketRead.the-variants as PacketRead
 use Rattle.epochs.specs.declared.recognising.Recognised.the-variants as Recognised
+use Rattle.groups.specs.Group.{stepping}
+use Rattle.groups.specs.declared.grouping.Answered.the-variants as Answered
 use Rattle.epochs.specs.Collator.{placing, fedFrame, made}
 use Rattle.captures.specs.Capture.{collated}
 use Rattle.enlisting.specs.Enlisting.{enlistedTo}
@@ -40,6 +42,7 @@ use Rattle.phases.proofs as phases
 use Rattle.system.proofs as system
 use Rattle.obs_reader.proofs as obs_reader
 use Rattle.packets.proofs as packets
+use Rattle.groups.proofs as groups
 use Rattle.epochs.proofs as epochs
 use Rattle.captures.proofs as captures
 use Rattle.enlisting.proofs as enlisting
@@ -77,6 +80,8 @@ module _ {M : Type 1} (𝓤 : URA M) (H : Heap 𝓤) (A : Atoms 𝓤) (mem : Mem
         (λ κs kind s. handsBack PacketRead.Record PacketRead.Refused (record { tests = shape kind (now s); value = packetIn (now s) }))
     pub numbered : Gives 𝓤 packets.numbered.ended (packets.numbered.clauses 𝓤 H A mem run)
         (λ κs p. handsBack PacketRead.Record PacketRead.Refused (record { tests = numbering p; value = p }))
+    -- and the packet at that place: 47 for a counter that has come already
+    pub place-step : Gives 𝓤 groups.step.ended (groups.step.clauses 𝓤 H A mem run) (λ κs group p. handsBack Answered.To Answered.Refused (stepping group p))
     pub collate : Gives 𝓤 captures.collate.ended (captures.collate.clauses 𝓤 H A mem run) (λ κs s roster. (collated (now s) (now roster), tt))
     pub enlist : Gives 𝓤 enlisting.enlist.ended (enlisting.enlist.clauses 𝓤 H A mem run) (λ κs c kind sender. (enlistedTo c kind sender, tt))
     pub list : Gives 𝓤 listings.list.ended (listings.list.clauses 𝓤 H A mem run) (λ κs s buf. puts (listing (now s) (length (now buf))) (textOf (now s)) (now buf))

@@ -1,7 +1,7 @@
 -- The tests of each call are document 01's cases, in its order.
-use Prim.Native.Nat.{ℕ, zero, suc, _+_, _-_, _*_, _/_, _%_, _≤_, _<_}
+use Prim.Native.Nat.{ℕ, zero, suc, _+_, _-_, _*_, _/_, _%_, _^_, _≤_, _<_}
 use mathlib.Core.Path.{_≡_, refl, sym, ap, _∙_}
-use mathlib.Core.Bool.{Bool, true, false, true≢false, false≢true, _&&_, not, cond}
+use mathlib.Core.Bool.{Bool, true, false, true≢false, false≢true, _&&_, not, cond, and-eq-true-iff}
 use mathlib.Core.List.{List, [], _∷_, _++_}
 use mathlib.Core.Logic.{_↔_, _⊎_, inl, inr}
 use native.Mathlib.Omega.{arith}
@@ -18,19 +18,28 @@ use Rattle.payloads.specs.Inner.{checkIn}
 use Rattle.payloads.specs.declared.check.Check.{Check}
 use Rattle.payloads.specs.declared.check.Check.the-variants as C
 use Rattle.payloads.proofs.Agreed.{agreed, tests-agree}
-use Rattle.packets.specs.Packet.{packetIn, shape, numbering}
-use Rattle.epochs.specs.Search.{names, repeats}
+use Rattle.wire.specs.Number.{flagAt}
+use Rattle.packets.specs.Packet.{sameKey, packetIn, shape, numbering}
+use Rattle.packets.specs.declared.packet.Key.{Key}
+use Rattle.packets.specs.declared.packet.Packet.{Packet}
+use Rattle.packets.proofs.Keys.{equal-key, same-key}
+use Rattle.groups.specs.Group.{hasCome}
+use Rattle.groups.specs.declared.grouping.Part.{Part}
+use Rattle.groups.specs.declared.grouping.Group.{Group}
+use Rattle.groups.specs.declared.grouping.Group.the-variants.{Idle, Open}
+use Rattle.epochs.specs.Search.{seatOf, names, repeats}
 use Rattle.obs_writer.specs.ObsWriter.{writingObs}
 use Rattle.observation.specs.Obs.{oneObservation}
 use Rattle.payloads.specs.Payloads.{table, knownFor}
 use Rattle.indexed.specs.Growing.{countedKinds}
 use Rattle.indexed.specs.Asking.{Among}
 use Rattle.indexed.proofs.Tallies.{among-known, known-among}
-use Rattle.places.specs.State.{stateIn}
-use Rattle.epochs.specs.Collator.{placing, feeding, rostering, rosterOf}
+use Rattle.places.specs.State.{stateSize, stateIn}
+use Rattle.epochs.specs.Collator.{seatNumber, placing, idle, feeding, rostering, rosterOf}
+use Rattle.epochs.specs.declared.collating.Place.{Place}
 use Rattle.epochs.specs.declared.collating.Collator.{Collator}
 use Rattle.epochs.proofs.Searches.{names-first, names-later, names-not, names-at, once-on, seat-listed, seat-named, seat-below}
-use Rattle.demands.specs.Order.{Cases, InOrder, Not, ObsLength, NamesTwice, Unlisted, indexCases, frameCases, rosterCases, bufferCases, roomCases, columnOf, columnTests, Order, LinkedOrder, IndexOrder}
+use Rattle.demands.specs.Order.{Cases, InOrder, Not, ObsLength, NamesTwice, Unlisted, indexCases, frameCases, HasCome, feedCases, rosterCases, bufferCases, roomCases, columnOf, columnTests, Order, LinkedOrder, IndexOrder}
 
 -- ---- a test fails exactly in its case
 
@@ -52,6 +61,15 @@ fails-not false = (λ p. absurd (true≢false p), λ p. absurd (false≢true p))
 
 equal : (a b : ℕ) → (not (eqb a b) ≡ false) ↔ (a ≡ b)
 equal a b = (λ p. eqb-true a b (fails-not (eqb a b) .0 p), λ p. fails-not (eqb a b) .1 (eq-eqb a b p))
+
+-- a bit that is set
+bit-set : (n k : ℕ) → flagAt n k ≡ true → n / 2 ^ k % 2 ≡ 1
+unfolding flagAt
+bit-set n k e = eqb-true _ _ e
+
+set-bit : (n k : ℕ) → n / 2 ^ k % 2 ≡ 1 → flagAt n k ≡ true
+unfolding flagAt
+set-bit n k e = eq-eqb _ _ e
 
 -- of two tests at once
 both-fail : {P Q : Type 0} (a b : Bool) → (a ≡ true → P) → (P → a ≡ true) → (b ≡ true → Q) → (Q → b ≡ true) → ((a && b) ≡ false) ↔ Not (P × Q)
@@ -141,6 +159,13 @@ roster-order roster =
     let named-twice = twice roster in
     (refl, few (length roster), (refl, (λ e. named-twice .0 (fails-not (repeats roster) .0 e), λ t. fails-not (repeats roster) .1 (named-twice .1 t)), tt))
 
+-- cases and then more of them
+joined : (cs ds : Cases) (ts us : Tests) → InOrder cs ts → InOrder ds us → InOrder (cs ++ ds) (ts ++ us)
+joined [] ds [] us p q = q
+joined [] ds (t ∷ ts) us p q = absurd p
+joined (c ∷ cs) ds [] us p q = absurd p
+joined (c ∷ cs) ds (t ∷ ts) us p q = (p .0, p .1, joined cs ds ts us (p .2) q)
+
 frame-order : (roster : List ℕ) (x : Content) → InOrder (frameCases roster x) (placing roster x .tests)
 unfolding shape numbering packetIn
 frame-order roster x =
@@ -154,10 +179,43 @@ frame-order roster x =
       ),
     )
 
--- and no place refuses
-fed-order : (c : Collator) (x : Content) → InOrder (frameCases (rosterOf c) x) (feeding c x .tests)
-unfolding shape numbering packetIn
-fed-order c x = frame-order (rosterOf c) x
+-- 47 is for the place that is open with the frame's key, and has its counter's bit
+come-order : (c : Collator) (x : Content)
+    → (not (hasCome (getD (c .places) (seatNumber (seatOf (rosterOf c) (x .sender) 0)) idle .group) (packetIn (x .payload))) ≡ false) ↔ HasCome c x
+unfolding packetIn
+come-order c x = by (there .group) refl
+  where
+    there : Place
+    there = getD (c .places) (seatNumber (seatOf (rosterOf c) (x .sender) 0)) idle
+
+    p : Packet
+    p = packetIn (x .payload)
+
+    by : (g : Group) → there .group ≡ g → (not (hasCome g p) ≡ false) ↔ HasCome c x
+    by Idle e = (λ f. absurd (true≢false f), λ w. let z : _≡_ {A = ℕ} 0 1 = cc in absurd (omega arith))
+    by (Open part) e = (
+      λ f.
+          let tests = and-eq-true-iff (sameKey (part .key) (p .key)) (flagAt (part .come) (p .counter)) .0 (fails-not _ .0 f) in
+          let key = equal-key (part .key) (p .key) (tests .0) in
+          record {
+            part = part;
+            open-there = e;
+            tow = ap (λ (k : Key). k .tow) key;
+            wn = ap (λ (k : Key). k .wn) key;
+            n = ap (λ (k : Key). k .n) key;
+            bit = bit-set (part .come) (p .counter) (tests .1);
+          },
+      λ w.
+          let same : w .part ≡ part = cc in
+          let key : w .part .key ≡ p .key = λ i. record { tow = w .tow i; wn = w .wn i; n = w .n i } in
+          fails-not _ .1
+          (ap (λ (part : Part). sameKey (part .key) (p .key) && flagAt (part .come) (p .counter)) (sym same)
+          ∙ and-eq-true-iff (sameKey (w .part .key) (p .key)) (flagAt (w .part .come) (p .counter)) .1 (same-key (w .part .key) (p .key) key, set-bit (w .part .come) (p .counter) (w .bit))),
+    )
+
+fed-order : (c : Collator) (x : Content) → InOrder (feedCases c x) (feeding c x .tests)
+fed-order c x =
+    joined (frameCases (rosterOf c) x) ((47, HasCome c x) ∷ []) (placing (rosterOf c) x .tests) _ (frame-order (rosterOf c) x) (refl, come-order c x, tt)
 
 index-order : (s : List ℕ) (i : ℕ) → InOrder (indexCases s i) ((fitting first (length s), 22) ∷ (ltb i ((length s - 7) / 16), 25) ∷ [])
 index-order s i = (refl, obs-long (length s), (refl, from i ((length s - 7) / 16), tt))
@@ -202,13 +260,6 @@ order = record {
   capture = λ s room. (refl, over (length s) 65536, (refl, over _ room, tt));
 }
 
--- cases and then more of them
-joined : (cs ds : Cases) (ts us : Tests) → InOrder cs ts → InOrder ds us → InOrder (cs ++ ds) (ts ++ us)
-joined [] ds [] us p q = q
-joined [] ds (t ∷ ts) us p q = absurd p
-joined (c ∷ cs) ds [] us p q = absurd p
-joined (c ∷ cs) ds (t ∷ ts) us p q = (p .0, p .1, joined cs ds ts us (p .2) q)
-
 room-order : (n room : ℕ) → InOrder (roomCases n room) (roomFor n room)
 room-order n room = (refl, over n room, tt)
 
@@ -216,10 +267,10 @@ pub linked-order : LinkedOrder
 linked-order = record {
   next = λ s at opened room. room-order 53 room;
   totals = λ s room. room-order 32 room;
-  collator = λ roster room. joined (rosterCases roster) (roomCases 105 room) (rostering roster .tests) (roomFor 105 room) (roster-order roster) (room-order 105 room);
-  growing-collator = λ room. room-order 105 room;
-  enlist = λ state kind sender. room-order 105 (length state);
-  feed = λ state room x. (refl, over 105 (length state), (refl, over 11 room, fed-order (stateIn state) x));
+  collator = λ roster room. joined (rosterCases roster) (roomCases stateSize room) (rostering roster .tests) (roomFor stateSize room) (roster-order roster) (room-order stateSize room);
+  growing-collator = λ room. room-order stateSize room;
+  enlist = λ state kind sender. room-order stateSize (length state);
+  feed = λ state room x. (refl, over stateSize (length state), (refl, over 11 room, fed-order (stateIn state) x));
   observation = λ kind s i room. (refl, obs-kind kind, joined (indexCases s i) (roomCases 8 room) (oneObservation first s i .tests) (roomFor 8 room) (index-order s i) (room-order 8 room));
   read = λ kind s room. refl;
   write = λ kind ns room. (refl, itself _, (refl, other _ _, (refl, itself _, (refl, over _ 255, (refl, over _ room, tt)))));

@@ -28,11 +28,14 @@ use Rattle.logs.proofs.Logs.{log-faithful}
 use Rattle.obs_reader.proofs.HandedOut.{whole-walk}
 use Rattle.obs_reader.proofs.Readers.{asked-times}
 use Rattle.payloads.proofs.Entries.{promised, obs-read, log-read}
-use Rattle.runs.proofs.Fronts.{in-words}
+use Rattle.groups.proofs.Words.{in-words}
+use Rattle.in_order.proofs.Meeting.{in-order}
 use Rattle.epochs.specs.Epoch.{after, reportsOf, Epochs, contentsOf}
 use Rattle.epochs.specs.declared.collating.Report.{Report}
 use Rattle.epochs.proofs.Making.{seated}
 use Rattle.epochs.proofs.Collations.{epochs-in, only-epochs, epoch-outcome, epoch-small, one-epoch, came-to}
+use Rattle.epochs.proofs.Copies.{copy-outcome}
+use Rattle.epochs.proofs.Arrivals.{in-any-order}
 use Rattle.captures.proofs.Captures.{collated-number, collated-state, collated-idle, collated-counts}
 use Rattle.text.proofs.Decimals.{one-digit, more-digits}
 use Rattle.enlisting.proofs.Growing.{as-of-the-first}
@@ -106,6 +109,9 @@ epochs-reported = record {
   well-formed = well-formed;
   report-numbers = report-numbers;
   in-words = in-words;
+  copies = λ roster ok. copy-outcome roster (seated roster ok);
+  any-order = λ roster ok. in-any-order roster (seated roster ok);
+  in-order = in-order;
   one-at-most = λ roster ok xs x d e v w. one-epoch roster (seated roster ok) v w;
   at-most-225 = λ roster ok. epoch-small roster (seated roster ok);
   capture-reported = λ roster ok s es.

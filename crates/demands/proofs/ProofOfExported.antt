@@ -1,6 +1,6 @@
 -- The demands hold of the functions that C and Rust link, all of it by citations.
 use mathlib.Core.Path.{_≡_, refl, sym, ap, _∙_}
-use mathlib.Core.List.{List}
+use mathlib.Core.List.{List, _++_}
 use Rattle.senders.proofs.Carrying.{carries-linked}
 use Rattle.row_reader.proofs.EachRead.{all-read}
 use Rattle.row_writer.proofs.WrittenTyped.{as-typed}
@@ -8,7 +8,8 @@ use Rattle.epochs.specs.Epoch.{reportsIn, reportsOf}
 use Rattle.epochs.specs.declared.collating.Happened.{Happened}
 use Rattle.epochs.proofs.Making.{seated}
 use Rattle.epochs.proofs.Collations.{same-state, same-reports}
-use Rattle.told.proofs.Lives.{told-made, stands, tells-epoch}
+use Rattle.epochs.proofs.Arrivals.{in-any-order}
+use Rattle.told.proofs.Lives.{told-made, stands, tells-epoch, tells-copy}
 use Rattle.told.proofs.Grows.{grows}
 use Rattle.frames_told.proofs.CallsTell.{frames-told}
 use Rattle.frames_told.proofs.RowAfterRow.{rows-follow}
@@ -38,6 +39,12 @@ exported = record {
       ∙ sym (ap (λ (hs : List Happened). reportsOf sender (reportsIn hs)) (told-made roster t other ys g));
   same-state = λ roster s t report other xs ys f g same.
       stands roster s report xs f ∙ same-state roster (seated roster (f .taken)) xs ys same ∙ sym (stands roster t other ys g);
+  any-order = λ roster s t report other xs ys zs f g sender n one r.
+      let same = in-any-order roster (seated roster (f .taken)) sender n xs ys zs one r in (
+        ap reportsIn (told-made roster s report (xs ++ ys) f) ∙ same .same-reports ∙ sym (ap reportsIn (told-made roster t other (xs ++ zs) g)),
+        stands roster s report (xs ++ ys) f ∙ same .same-state ∙ sym (stands roster t other (xs ++ zs) g),
+      );
+  copies-told = tells-copy;
   growing = grows;
   senders = carries-linked;
   rows-read = all-read;

@@ -24,7 +24,7 @@ use Rattle.epochs.specs.declared.seating.Seat.the-variants.{At, Nowhere}
 use Rattle.epochs.specs.declared.collating.Collator.{Collator}
 use Rattle.epochs.specs.declared.collating.Place.{Place}
 use Rattle.epochs.proofs.Feeding.{replied-moves}
-use Rattle.places.specs.State.{slot, slotFields, seatFields, countFields, slotOf, seatRow, placeRow, sendersIn, countStored, placeStored, collatorStored, seatsStored, stateIn}
+use Rattle.places.specs.State.{stateSize, slotAt, slot, slotFields, seatFields, countFields, slotOf, seatRow, placeRow, sendersIn, countStored, placeStored, collatorStored, seatsStored, stateIn}
 use Rattle.states.specs.Feed.{madeIn, madeStored, feedingIn, moveIn, cameOut, fedIn}
 use Rattle.states.specs.Enlist.{growingIn, growingStored, seatTaken, seatedBy, joinedIn, enlistedIn, enlistIn, enlistStored}
 use Rattle.states.proofs.Feeds.{eight}
@@ -56,40 +56,40 @@ after-rows m fs row zero s at h = refl
 after-rows m fs row (suc k) s at h =
     after-row m fs (row k) (firstRowsStored fs row k s at) (at + k * size fs) (omega (arith, h)) ∙ after-rows m fs row k s at (omega (arith, h))
 
--- ---- a collator of 105 bytes
+-- ---- a collator's own bytes
 
-after-count : (n : ℕ) (s : List ℕ) → drop 105 (countStored n s) ≡ drop 105 s
-after-count n s = after-row 105 countFields (n, tt) s 0 (omega arith)
+after-count : (n : ℕ) (s : List ℕ) → drop stateSize (countStored n s) ≡ drop stateSize s
+after-count n s = after-row stateSize countFields (n, tt) s 0 (omega arith)
 
-after-collator : (c : Collator) (s : List ℕ) → drop 105 (collatorStored c s) ≡ drop 105 s
+after-collator : (c : Collator) (s : List ℕ) → drop stateSize (collatorStored c s) ≡ drop stateSize s
 after-collator c s =
-    after-rows 105 slotFields (placeRow (c .places)) 8 (seatsStored (c .roster) (countStored (c .count) s)) 17 (omega arith)
-    ∙ after-rows 105 seatFields (seatRow (c .roster)) 8 (countStored (c .count) s) 1 (omega arith)
+    after-rows stateSize slotFields (placeRow (c .places)) 8 (seatsStored (c .roster) (countStored (c .count) s)) 17 (omega arith)
+    ∙ after-rows stateSize seatFields (seatRow (c .roster)) 8 (countStored (c .count) s) 1 (omega arith)
     ∙ after-count (c .count) s
 
-after-stored : (a : Answer Collator) (s : List ℕ) → drop 105 (leaves collatorStored a s) ≡ drop 105 s
+after-stored : (a : Answer Collator) (s : List ℕ) → drop stateSize (leaves collatorStored a s) ≡ drop stateSize s
 after-stored (given c) s = after-collator c s
 after-stored (refused n) s = refl
 
 -- a seat that is taken is one of eight
 module _ (s : List ℕ) (sender : ℕ) where
-  after-seat : (seat : Seat) → drop 105 (seatedBy seat s sender) ≡ drop 105 s
+  after-seat : (seat : Seat) → drop stateSize (seatedBy seat s sender) ≡ drop stateSize s
   unfolding seatTaken
   after-seat (At i) = refl
   after-seat Nowhere = by (leb 8 (sendersIn s)) refl
     where
-      by : (t : Bool) → leb 8 (sendersIn s) ≡ t → drop 105 (cond t s (seatTaken s sender)) ≡ drop 105 s
+      by : (t : Bool) → leb 8 (sendersIn s) ≡ t → drop stateSize (cond t s (seatTaken s sender)) ≡ drop stateSize s
       by true e = refl
       by false e =
           let at = 1 + sendersIn s * 2 in
           after-count (sendersIn s + 1) (rowStored seatFields (sender, tt) s at)
-          ∙ after-row 105 seatFields (sender, tt) s at (omega (arith, leb-false 8 (sendersIn s) e))
+          ∙ after-row stateSize seatFields (sender, tt) s at (omega (arith, leb-false 8 (sendersIn s) e))
 
-  after-enlisted : (kind : ℕ) → drop 105 (enlistedIn s kind sender) ≡ drop 105 s
+  after-enlisted : (kind : ℕ) → drop stateSize (enlistedIn s kind sender) ≡ drop stateSize s
   unfolding enlistedIn
   after-enlisted kind = by (isObs kind)
     where
-      by : (t : Bool) → drop 105 (cond t (joinedIn s sender) s) ≡ drop 105 s
+      by : (t : Bool) → drop stateSize (cond t (joinedIn s sender) s) ≡ drop stateSize s
       by true = after-seat (seatOf (rosterOf (stateIn s)) sender 0)
       by false = refl
 
@@ -103,19 +103,19 @@ module _ (s : List ℕ) (x : Content) (report : List ℕ) where
       let w = replied-moves (stateIn s) x (exactly-all (call .value) (call .tests) m .1 (all .0 .1 .1, all .1)) in
       omega (arith, eight s x (w .2), ap (λ (m : Move). m .seat) (w .3))
 
-  after-fed : drop 105 (fedIn s x report .state) ≡ drop 105 s
+  after-fed : drop stateSize (fedIn s x report .state) ≡ drop stateSize s
   unfolding fedIn
   after-fed = by (moveIn s (length report) x) refl
     where
-      by : (a : Answer Move) → moveIn s (length report) x ≡ a → drop 105 (cameOut s report a .state) ≡ drop 105 s
+      by : (a : Answer Move) → moveIn s (length report) x ≡ a → drop stateSize (cameOut s report a .state) ≡ drop stateSize s
       by (refused n) e = refl
-      by (given m) e = after-row 105 slotFields (slot .row (slotOf (m .place))) s (17 + m .seat * 11) (omega (arith, seat-below e))
+      by (given m) e = after-row stateSize slotFields (slot .row (slotOf (m .place))) s (slotAt (m .seat)) (omega (arith, seat-below e))
 
-after-answer : (s : List ℕ) (kind sender : ℕ) → drop 105 (enlistStored s kind sender) ≡ drop 105 s
+after-answer : (s : List ℕ) (kind sender : ℕ) → drop stateSize (enlistStored s kind sender) ≡ drop stateSize s
 unfolding enlistIn
-after-answer s kind sender = by (leb 105 (length s))
+after-answer s kind sender = by (leb stateSize (length s))
   where
-    by : (t : Bool) → drop 105 (leaves (λ (t was : List ℕ). t) (cond t (given (enlistedIn s kind sender)) (refused 32)) s) ≡ drop 105 s
+    by : (t : Bool) → drop stateSize (leaves (λ (t was : List ℕ). t) (cond t (given (enlistedIn s kind sender)) (refused 32)) s) ≡ drop stateSize s
     by true = after-enlisted s sender kind
     by false = refl
 

@@ -36,10 +36,13 @@ use Rattle.obs_reader.specs.declared.ObsReader.{ObsReader}
 use Rattle.payloads.specs.Payloads.{answerFor, messages, Typed, Promised, AllOf}
 use Rattle.payloads.specs.declared.Message.the-variants as M
 use Rattle.packets.specs.declared.packet.Packet.{Packet}
-use Rattle.runs.specs.InWords.{EpochEnds, InWords}
+use Rattle.packets.specs.Packet.{Formed}
+use Rattle.groups.specs.InWords.{EpochEnds, InWords}
+use Rattle.in_order.specs.InOrder.{InOrder}
 use Rattle.epochs.specs.Search.{names}
 use Rattle.epochs.specs.Collator.{fedFrame, made}
-use Rattle.epochs.specs.Epoch.{ownPacket, after, reports, reportsOf, EndsEpoch, Epochs, contentsOf}
+use Rattle.epochs.specs.Epoch.{ownPacket, after, reports, reportsOf, EndsEpoch, BringsCopy, Epochs, contentsOf}
+use Rattle.epochs.specs.Arrival.{InAnyOrder}
 use Rattle.captures.specs.Capture.{collated}
 use Rattle.epochs.specs.declared.collating.Report.{Report}
 use Rattle.epochs.specs.declared.collating.Happened.the-variants as H
@@ -123,7 +126,7 @@ pub record Reported (x : Content) (e : Report) : Type 0 where
   pub tow : e .tow ≡ numberAt 4 (x .payload) 0
   pub n : e .n ≡ numberAt 1 (x .payload) 6 / 16
 
--- "an epoch is reported exactly when its packets stand as document 01 says, once each"
+-- "an epoch is reported exactly when its packets stand as document 01 says, once each", document 01's epoch being replaced by document 02's (P7)
 pub record EpochsReported : Type 0 where
   -- after any frames, feeding one more reports an epoch exactly when that frame ends it
   pub reported-exactly : (roster : List ℕ) → made roster .number ≡ 0 → (xs : List Content) (x : Content) (e : Report)
@@ -132,8 +135,15 @@ pub record EpochsReported : Type 0 where
   pub well-formed : (x : Content) (p : Packet) → (ownPacket x ≡ given p) ↔ WellFormed x p
   -- what is reported of an epoch: its sender, and wn, tow and n of its last frame
   pub report-numbers : (roster : List ℕ) (xs : List Content) (x : Content) (e : Report) → EndsEpoch roster xs x e → Reported x e
-  -- when it ends is, packet by packet, what document 01 says
-  pub in-words : (p : Packet) (past : List Packet) (total : ℕ) → 1 ≤ p .key .n → EpochEnds p past total ↔ InWords p past total
+  -- when it ends is, packet by packet, what document 02 says (P7): all of 0 to n - 1 have come in its group, and this one brought the last
+  pub in-words : (p : Packet) (past : List Packet) (total : ℕ) → Formed p → EpochEnds p past total ↔ InWords p past total
+  -- "one whose counter has come already is answered 47"
+  pub copies : (roster : List ℕ) → made roster .number ≡ 0 → (xs : List Content) (x : Content)
+      → (fedFrame (after (made roster .collator) xs) x .happened ≡ H.Refused 47) ↔ BringsCopy roster xs x
+  -- within a sender, the order in which the packets of one group arrive changes nothing about its report
+  pub any-order : (roster : List ℕ) → made roster .number ≡ 0 → InAnyOrder roster
+  -- packets that come in counter order, without copies, end the epochs that document 01 gave before P7
+  pub in-order : InOrder
   -- once each: a frame ends one epoch at most
   pub one-at-most : (roster : List ℕ) → made roster .number ≡ 0 → (xs : List Content) (x : Content) (d e : Report)
       → EndsEpoch roster xs x d → EndsEpoch roster xs x e → d ≡ e

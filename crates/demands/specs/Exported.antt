@@ -3,7 +3,7 @@
 -- in `linked_calls`, by its own contract; how it refuses, and that a refusal leaves all as it was, in demand 1.
 use mathlib.Core.Path.{_≡_}
 use mathlib.Core.Bool.{true, cond}
-use mathlib.Core.List.{List, []}
+use mathlib.Core.List.{List, [], _++_}
 use mathlib.Core.Logic.{_↔_}
 use Prim.Native.Nat.{ℕ, _/_, _%_, _≤_, _<_}
 use lib.Dec.{eqb}
@@ -12,7 +12,9 @@ use Rattle.frames.specs.Frame.{Content}
 use Rattle.row_reader.specs.ReadsTyped.{AllRead}
 use Rattle.row_writer.specs.WritesTyped.{AllWritten}
 use Rattle.epochs.specs.Search.{names}
-use Rattle.epochs.specs.Epoch.{reportsIn, reportsOf, SameFrames, EndsEpoch, Epochs}
+use Rattle.groups.specs.AnyOrder.{Reordered}
+use Rattle.epochs.specs.Epoch.{reportsIn, reportsOf, SameFrames, EndsEpoch, BringsCopy, Epochs}
+use Rattle.epochs.specs.Arrival.{OneGroup}
 use Rattle.epochs.specs.declared.collating.Report.{Report}
 use Rattle.epochs.specs.declared.collating.Happened.the-variants as H
 use Rattle.senders.specs.Carries.{CarriesLinked}
@@ -57,13 +59,13 @@ pub record FlagsByType : Type 0 where
   pub above-sea : (flags : ℕ) → aboveSeaAnswer 0x0201 flags ≡ flags / 8 % 2
   pub above-sea-others : (kind flags : ℕ) → (kind ≡ 0x0201 → ⊥) → aboveSeaAnswer kind flags ≡ 21
 
--- ---- a collator has 105 bytes, and no other byte that is lent for it changes
+-- ---- a collator has 113 bytes, and no other byte that is lent for it changes
 
 pub record OtherBytes : Type 0 where
-  pub collator : (roster s : List ℕ) → drop 105 (madeStored roster s) ≡ drop 105 s
-  pub growing-collator : (s : List ℕ) → drop 105 (growingStored s) ≡ drop 105 s
-  pub enlist : (s : List ℕ) (kind sender : ℕ) → drop 105 (enlistStored s kind sender) ≡ drop 105 s
-  pub feed : (s : List ℕ) (x : Content) (report : List ℕ) → drop 105 (fedIn s x report .state) ≡ drop 105 s
+  pub collator : (roster s : List ℕ) → drop 113 (madeStored roster s) ≡ drop 113 s
+  pub growing-collator : (s : List ℕ) → drop 113 (growingStored s) ≡ drop 113 s
+  pub enlist : (s : List ℕ) (kind sender : ℕ) → drop 113 (enlistStored s kind sender) ≡ drop 113 s
+  pub feed : (s : List ℕ) (x : Content) (report : List ℕ) → drop 113 (fedIn s x report .state) ≡ drop 113 s
 
 -- ---- all of them
 
@@ -88,6 +90,14 @@ pub record Exported : Type 0 where
       → reportsOf sender (reportsIn (toldIn (madeStored roster s) report xs)) ≡ reportsOf sender (reportsIn (toldIn (madeStored roster t) other ys))
   pub same-state : (roster s t report other : List ℕ) (xs ys : List Content) → Filled roster s report xs → Filled roster t other ys → SameFrames roster xs ys
       → stateIn (afterIn (madeStored roster s) report xs) ≡ stateIn (afterIn (madeStored roster t) other ys)
+  -- the packets of one group in any other order: the same reports, and the same end
+  pub any-order : (roster s t report other : List ℕ) (xs ys zs : List Content) → Filled roster s report (xs ++ ys) → Filled roster t other (xs ++ zs)
+      → (sender : ℕ) → names roster sender ≡ true → OneGroup sender xs ys → Reordered ys zs
+      → (reportsIn (toldIn (madeStored roster s) report (xs ++ ys)) ≡ reportsIn (toldIn (madeStored roster t) other (xs ++ zs)))
+      × (stateIn (afterIn (madeStored roster s) report (xs ++ ys)) ≡ stateIn (afterIn (madeStored roster t) other (xs ++ zs)))
+  -- a copy is told by 47
+  pub copies-told : (roster s report : List ℕ) (xs : List Content) → Filled roster s report xs → (x : Content) → AsSent x → (lent : List ℕ) → 11 ≤ length lent
+      → (fedIn (afterIn (madeStored roster s) report xs) x lent .answer ≡ 47) ↔ BringsCopy roster xs x
   -- a roster that grows: frame by frame the bytes tell what a collator tells that was made of the first eight senders
   pub growing : Grows
   -- who sends: a sender of 16 bits is written as it is, 0 too; any number above stands for none, and then the own number is written

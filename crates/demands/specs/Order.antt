@@ -1,6 +1,6 @@
 -- Document 01, "Order" and "Numbers given back", number by number: of each call the numbers of its refusals in order, and when each is given.
 -- A call is refused exactly when one of its own cases holds, by the first (`in-order`, Demand1.antt).
-use Prim.Native.Nat.{ℕ, _+_, _-_, _*_, _/_, _%_, _≤_, _<_}
+use Prim.Native.Nat.{ℕ, _+_, _-_, _*_, _/_, _%_, _^_, _≤_, _<_}
 use mathlib.Core.Path.{_≡_}
 use mathlib.Core.Bool.{Bool, true, false, cond, _&&_}
 use mathlib.Core.List.{List, [], _∷_, _++_}
@@ -31,8 +31,10 @@ use Rattle.formats.specs.Digits.{frontOf}
 use Rattle.row_reader.specs.ReadRow.{readingRow, readingOne}
 use Rattle.row_writer.specs.WriteRow.{alone, bodyOf, writingRow}
 use Rattle.row_writer.specs.WriteObsRow.{writingObsRow}
-use Rattle.epochs.specs.Search.{names}
-use Rattle.epochs.specs.Collator.{placing, feeding, rostering, rosterOf}
+use Rattle.epochs.specs.Search.{seatOf, names}
+use Rattle.groups.specs.declared.grouping.Part.{Part}
+use Rattle.groups.specs.declared.grouping.Group.the-variants.{Open}
+use Rattle.epochs.specs.Collator.{seatNumber, placing, idle, feeding, rostering, rosterOf}
 use Rattle.epochs.specs.declared.collating.Collator.{Collator}
 use Rattle.listing.specs.Listing.{textOf, listing}
 use Rattle.frame_rows.specs.Found.{finding}
@@ -94,6 +96,18 @@ frameCases roster x =
     (44, nIn (x .payload) ≡ 0) ∷
     (45, nIn (x .payload) ≤ counterIn (x .payload)) ∷
     []
+
+-- document 02, P7: "whose counter has come already", at the sender's own place, which is open with the frame's tow, wn and n; bit i is counter i
+pub record HasCome (c : Collator) (x : Content) : Type 0 where
+  pub part : Part
+  pub open-there : getD (c .places) (seatNumber (seatOf (rosterOf c) (x .sender) 0)) idle .group ≡ Open part
+  pub tow : part .key .tow ≡ numberAt 4 (x .payload) 0
+  pub wn : part .key .wn ≡ numberAt 2 (x .payload) 4
+  pub n : part .key .n ≡ nIn (x .payload)
+  pub bit : part .come / 2 ^ counterIn (x .payload) % 2 ≡ 1
+
+abbrev pub feedCases : Collator → Content → Cases
+feedCases c x = frameCases (rosterOf c) x ++ (47, HasCome c x) ∷ []
 
 -- one observation, of a payload of k
 abbrev pub indexCases : List ℕ → ℕ → Cases
@@ -167,8 +181,8 @@ pub record Order : Type 1 where
   pub bytes-buffer : (n room : ℕ) → InOrder (bufferCases n room) (planning n room .tests)
   -- "Roster: 41, 42."
   pub roster : (roster : List ℕ) → InOrder (rosterCases roster) (rostering roster .tests)
-  -- "Feeding: 46, 22, 43, 44, 45."
-  pub frame : (c : Collator) (x : Content) → InOrder (frameCases (rosterOf c) x) (feeding c x .tests)
+  -- "Feeding: 46, 22, 43, 44, 45.", then 47, which looks at the collator's place
+  pub frame : (c : Collator) (x : Content) → InOrder (feedCases c x) (feeding c x .tests)
   pub frame-place : (roster : List ℕ) (x : Content) → InOrder (frameCases roster x) (placing roster x .tests)
   -- 33: outside -549755813888 to 549755813887
   pub phase : (z : ℤ) → InOrder ((33, (leZ (negℤ (pos 549755813888)) z && leZ z (pos 549755813887)) ≡ false) ∷ []) (readingPhase z .tests)
@@ -179,11 +193,11 @@ pub record Order : Type 1 where
 pub record LinkedOrder : Type 1 where
   pub next : (s : List ℕ) (at : ℕ) (opened : Bool) (room : ℕ) → InOrder (roomCases 53 room) (finding s at opened room .tests)
   pub totals : (s : List ℕ) (room : ℕ) → InOrder (roomCases 32 room) (totalling s room .tests)
-  pub collator : (roster : List ℕ) (room : ℕ) → InOrder (rosterCases roster ++ roomCases 105 room) (making roster room .tests)
-  pub growing-collator : (room : ℕ) → InOrder (roomCases 105 room) (growing room .tests)
-  pub enlist : (state : List ℕ) (kind sender : ℕ) → InOrder (roomCases 105 (length state)) (enlisting state kind sender .tests)
+  pub collator : (roster : List ℕ) (room : ℕ) → InOrder (rosterCases roster ++ roomCases 113 room) (making roster room .tests)
+  pub growing-collator : (room : ℕ) → InOrder (roomCases 113 room) (growing room .tests)
+  pub enlist : (state : List ℕ) (kind sender : ℕ) → InOrder (roomCases 113 (length state)) (enlisting state kind sender .tests)
   pub feed : (state : List ℕ) (room : ℕ) (x : Content)
-      → InOrder (roomCases 105 (length state) ++ roomCases 11 room ++ frameCases (rosterOf (stateIn state)) x) (feedingIn state room x .tests)
+      → InOrder (roomCases 113 (length state) ++ roomCases 11 room ++ feedCases (stateIn state) x) (feedingIn state room x .tests)
   pub observation : (kind : ℕ) (s : List ℕ) (i room : ℕ)
       → InOrder ((21, Not (kind ≡ 0x0049)) ∷ indexCases s i ++ roomCases 8 room) (readingOne kind s i room .tests)
   -- a payload's own tests come before the room for its numbers

@@ -9,7 +9,7 @@ use contract.Monad.{Fun}
 use Rattle.determined.proofs.Public as public
 use Rattle.determined.proofs.Determining as by
 
-ruleset determinations = (id⊢, by.plain, by.stored, by.plain-stored, by.plain-stored-stored, by.written-stored, by.reader, by.asked, by.stepped, by.gps-time, by.dilutions, by.pos-ecef, by.pos-llh, by.ecef-vector, by.ned-vector, by.baseline-heading, by.base-pos-llh, by.base-pos-ecef, by.ephemeris-gps, by.ephemeris-sbas, by.ephemeris-glo, by.ionosphere, by.sv-configuration-gps, by.group-delay, by.obs, by.one-observation, by.phase-parts, by.log, by.empty, by.read-by-index-req, by.start-up, by.heart-beat, by.reading, by.packet-read, by.recognised, by.written)
+ruleset determinations = (id⊢, by.plain, by.stored, by.plain-stored, by.plain-stored-stored, by.written-stored, by.reader, by.asked, by.stepped, by.gps-time, by.dilutions, by.pos-ecef, by.pos-llh, by.ecef-vector, by.ned-vector, by.baseline-heading, by.base-pos-llh, by.base-pos-ecef, by.ephemeris-gps, by.ephemeris-sbas, by.ephemeris-glo, by.ionosphere, by.sv-configuration-gps, by.group-delay, by.obs, by.one-observation, by.phase-parts, by.log, by.empty, by.read-by-index-req, by.start-up, by.heart-beat, by.reading, by.packet-read, by.place-step, by.recognised, by.written)
 
 -- of what an index is asked, and of walked functions, which say all in one clause
 ruleset indexed = (by.plain, by.plain-stored, by.both, by.three, by.sought, by.counted)
@@ -101,6 +101,9 @@ module _ {M : Type 1} (𝓤 : URA M) (H : Heap 𝓤) (A : Atoms 𝓤) (mem : Mem
 
   pub runs : public.Runs 𝓤 H A mem run
   runs = search determinations
+
+  pub groups : public.Groups 𝓤 H A mem run
+  groups = search determinations
 
   pub epochs : public.Epochs 𝓤 H A mem run
   epochs = search determinations

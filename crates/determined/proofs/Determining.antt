@@ -64,6 +64,8 @@ use Rattle.index.specs.declared.asking.Sought.the-variants as Sought
 use Rattle.index.specs.declared.counting.Counted.the-variants as Counted
 use Rattle.packets.specs.Packet as Packet
 use Rattle.packets.specs.declared.packet.PacketRead.the-variants as PacketRead
+use Rattle.groups.specs.Group as Group
+use Rattle.groups.specs.declared.grouping.Answered.the-variants as PlaceStep
 use Rattle.epochs.specs.Collator as Collator
 use Rattle.epochs.specs.declared.recognising.Recognised.the-variants as Recognised
 use Rattle.calls.specs.Replies.{variantOf, soughtOf}
@@ -190,6 +192,9 @@ module _ {M : Type 1} (𝓤 : URA M) where
 
   pub packet-read : Answered Packet.packetAnswer
   packet-read = enum Packet.packetAnswer PacketRead.Record PacketRead.Refused variants.packet-read
+
+  pub place-step : Answered Group.stepAnswer
+  place-step = enum Group.stepAnswer PlaceStep.To PlaceStep.Refused variants.place-step
 
   pub recognised : Answered Collator.recognisedAnswer
   recognised = enum Collator.recognisedAnswer (λ x. Recognised.For (x .0) (x .1)) Recognised.Refused variants.recognised

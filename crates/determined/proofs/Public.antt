@@ -39,6 +39,7 @@ use Rattle.row_reader.proofs as row_reader
 use Rattle.row_writer.proofs as row_writer
 use Rattle.packets.proofs as packets
 use Rattle.runs.proofs as runs
+use Rattle.groups.proofs as groups
 use Rattle.epochs.proofs as epochs
 use Rattle.captures.proofs as captures
 use Rattle.enlisting.proofs as enlisting
@@ -276,6 +277,9 @@ module _ {M : Type 1} (𝓤 : URA M) (H : Heap 𝓤) (A : Atoms 𝓤) (mem : Mem
 
   pub record Runs : Type 1 where
     pub step : Determined 𝓤 runs.step.ended (runs.step.clauses 𝓤 H A mem run)
+
+  pub record Groups : Type 1 where
+    pub step : Determined 𝓤 groups.step.ended (groups.step.clauses 𝓤 H A mem run)
 
   pub record Epochs : Type 1 where
     pub feed : Determined 𝓤 epochs.collating.Collator.feed.ended (epochs.collating.Collator.feed.clauses 𝓤 H A mem run)

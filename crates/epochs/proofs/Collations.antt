@@ -15,15 +15,13 @@ use Rattle.frames.specs.Frame.{Content}
 use Rattle.packets.specs.Packet.{AllFormed}
 use Rattle.packets.specs.declared.packet.Packet.{Packet}
 use Rattle.packets.proofs.Recognitions.{formed, n-small}
-use Rattle.runs.specs.Run.{runOf}
-use Rattle.runs.specs.declared.running.Ended.{Ended}
-use Rattle.runs.specs.declared.running.Ended.the-variants.{Not, Whole}
-use Rattle.runs.specs.declared.running.Stepped.{Stepped}
-use Rattle.runs.proofs.StepCases.{not-whole}
-use Rattle.runs.proofs.Fronts.{total-small}
-use Rattle.runs.proofs.WholeEpochs.{whole-epoch}
+use Rattle.groups.specs.Group.{leftOpen, stepping, endedOf}
+use Rattle.groups.specs.declared.grouping.Ended.{Ended}
+use Rattle.groups.specs.declared.grouping.Ended.the-variants.{Not, Whole}
+use Rattle.groups.specs.declared.grouping.Stepped.{Stepped}
+use Rattle.groups.proofs.StepCases.{not-whole}
+use Rattle.groups.proofs.WholeGroups.{whole-epoch, total-small}
 use Rattle.epochs.specs.Search.{names}
-use Rattle.epochs.specs.Stepping.{stepping, endedOf}
 use Rattle.epochs.specs.Collator.{idle, outcome, cameTo, fedFrame, made}
 use Rattle.epochs.specs.Epoch.{ownPacket, kept, packetsOf, ofSender, historyOf, after, outcomes, reportIn, reportsIn, reports, reportsOf, EndsEpoch, CameTo, Epochs, none, ending, passing, Seated, SameFrames, contentsOf}
 use Rattle.epochs.specs.declared.collating.Place.{Place}
@@ -88,7 +86,7 @@ ownReports s past (x ∷ xs) = reportIn (comesTo s past (ownPacket x)) (ownRepor
 comes-own : (s : ℕ) (past : List Packet) (a : Answer Packet) (rs : List Report) → reportsOf s (reportIn (comesTo s past a) rs) ≡ reportIn (comesTo s past a) (reportsOf s rs)
 unfolding reportsOf
 comes-own s past (refused n) rs = refl
-comes-own s past (given p) rs = by-step (reply (stepping (runOf past) p))
+comes-own s past (given p) rs = by-step (reply (stepping (leftOpen past) p))
   where
     by : (e : Ended) → reportsOf s (reportIn (outcome s p e) rs) ≡ reportIn (outcome s p e) (reportsOf s rs)
     by Not = refl
@@ -131,20 +129,20 @@ module _ (roster : List ℕ) (is : Seated roster) where
         listed-comes : names roster (x .sender) ≡ true → fedFrame (stateOf roster past) x .happened ≡ comesTo (x .sender) (past (x .sender)) (ownPacket x)
         listed-comes n = ap (λ (f : Fed). f .happened) (fed-listed roster (is .few) (is .once) past x n)
 
-        by-ended : names roster (x .sender) ≡ true → (p : Packet) → ownPacket x ≡ given p → (d : Ended) → endedOf (reply (stepping (runOf (past (x .sender))) p)) ≡ d
+        by-ended : names roster (x .sender) ≡ true → (p : Packet) → ownPacket x ≡ given p → (d : Ended) → endedOf (reply (stepping (leftOpen (past (x .sender))) p)) ≡ d
             → outcome (x .sender) p d ≡ H.Epoch e → EndsEpoch roster xs x e
         by-ended n p q Not r h = absurd (never-taken h)
         by-ended n p q (Whole t) r h =
             record { packet = p; total = t; listed = n; formed = q; ends = whole-epoch p (past (x .sender)) t (formed-on q) .0 r; report = sym (same-report h) }
 
-        by-step : names roster (x .sender) ≡ true → (p : Packet) → ownPacket x ≡ given p → (a : Answer Stepped) → reply (stepping (runOf (past (x .sender))) p) ≡ a
+        by-step : names roster (x .sender) ≡ true → (p : Packet) → ownPacket x ≡ given p → (a : Answer Stepped) → reply (stepping (leftOpen (past (x .sender))) p) ≡ a
             → cameTo (x .sender) p a ≡ H.Epoch e → EndsEpoch roster xs x e
         by-step n p q (refused m) r h = absurd (never-refused h)
         by-step n p q (given y) r h = by-ended n p q (y .ended) (ap endedOf r) h
 
         by-own : names roster (x .sender) ≡ true → (a : Answer Packet) → ownPacket x ≡ a → comesTo (x .sender) (past (x .sender)) a ≡ H.Epoch e → EndsEpoch roster xs x e
         by-own n (refused m) q h = absurd (never-refused h)
-        by-own n (given p) q h = by-step n p q (reply (stepping (runOf (past (x .sender))) p)) refl h
+        by-own n (given p) q h = by-step n p q (reply (stepping (leftOpen (past (x .sender))) p)) refl h
 
         there : (t : Bool) → names roster (x .sender) ≡ t → fedFrame (stateOf roster past) x .happened ≡ H.Epoch e → EndsEpoch roster xs x e
         there true n h = by-own n (ownPacket x) refl (sym (listed-comes n) ∙ h)
@@ -160,7 +158,7 @@ module _ (roster : List ℕ) (is : Seated roster) where
         back w =
             listed-comes (w .listed)
             ∙ ap (comesTo (x .sender) (past (x .sender))) (w .formed)
-            ∙ came-whole (w .packet) (reply (stepping (runOf (past (x .sender))) (w .packet))) (whole-epoch (w .packet) (past (x .sender)) (w .total) (formed-on (w .formed)) .1 (w .ends))
+            ∙ came-whole (w .packet) (reply (stepping (leftOpen (past (x .sender))) (w .packet))) (whole-epoch (w .packet) (past (x .sender)) (w .total) (formed-on (w .formed)) .1 (w .ends))
             ∙ ap H.Epoch (sym (w .report))
 
     -- with at most 225 observations, where the payload is of bytes

@@ -14,14 +14,13 @@ use Rattle.refusals.proofs.Ordered.{exactly-all}
 use Rattle.refusals.proofs.Joined.{andThen, ordered-joined, ordered-mapped}
 use Rattle.frames.specs.Frame.{Content}
 use Rattle.packets.specs.declared.packet.Packet.{Packet}
-use Rattle.runs.specs.Run.{stepped}
-use Rattle.runs.specs.declared.running.Run.{Run}
-use Rattle.runs.specs.declared.running.Ended.{Ended}
-use Rattle.runs.specs.declared.running.Ended.the-variants.{Not, Whole}
-use Rattle.runs.specs.declared.running.Stepped.{Stepped}
-use Rattle.runs.proofs.StepCases.{whole-rests}
+use Rattle.groups.specs.Group.{stepped, stepping}
+use Rattle.groups.specs.declared.grouping.Group.{Group}
+use Rattle.groups.specs.declared.grouping.Ended.{Ended}
+use Rattle.groups.specs.declared.grouping.Ended.the-variants.{Not, Whole}
+use Rattle.groups.specs.declared.grouping.Stepped.{Stepped}
+use Rattle.groups.proofs.StepCases.{whole-rests}
 use Rattle.epochs.specs.Search.{seatOf}
-use Rattle.epochs.specs.Stepping.{stepping}
 use Rattle.epochs.specs.Collator.{ownPlace, placing, idle, outcome, forPlace, Move, moveTo, feeding, moved, rosterOf, fedFrame}
 use Rattle.epochs.specs.Epoch.{ownPacket, reportIn, reportsOf}
 use Rattle.epochs.specs.declared.seating.Seat.the-variants.{At}
@@ -43,28 +42,28 @@ never-taken e = let z : _≡_ {A = ℕ} 0 1 = cc in omega arith
 
 -- what a packet's place answers, and what is then moved
 abbrev pub stepAt : Collator → ℕ → Packet → Answer Stepped
-stepAt c i p = reply (stepping (getD (c .places) i idle .run) p)
+stepAt c i p = reply (stepping (getD (c .places) i idle .group) p)
 
 abbrev pub movedBy : Collator → ℕ → ℕ → Packet → Answer Stepped → Fed
 movedBy c sender i p a = moved c (mapped (moveTo sender i p) a)
 
 -- the packet's place takes it
 abbrev pub taken : Collator → ℕ → ℕ → Packet → Fed
-taken c sender i p = movedBy c sender i p (given (stepped (getD (c .places) i idle .run) p))
+taken c sender i p = movedBy c sender i p (given (stepped (getD (c .places) i idle .group) p))
 
 module _ (c : Collator) (x : Content) where
   abbrev sender : ℕ
   sender = x .sender
 
   abbrev step : ℕ × Packet → Answer Move
-  step o = ordered (stepping (getD (c .places) (o .0) idle .run) (o .1) .tests) (moveTo sender (o .0) (o .1) (stepping (getD (c .places) (o .0) idle .run) (o .1) .value))
+  step o = ordered (stepping (getD (c .places) (o .0) idle .group) (o .1) .tests) (moveTo sender (o .0) (o .1) (stepping (getD (c .places) (o .0) idle .group) (o .1) .value))
 
   -- the frame's own tests come first
   in-two : reply (feeding c x) ≡ andThen (forPlace (rosterOf c) x) (step (ownPlace (rosterOf c) x))
   unfolding forPlace
   in-two =
       let own = ownPlace (rosterOf c) x in
-      ordered-joined own (feeding c x .value) (stepping (getD (c .places) (own .0) idle .run) (own .1) .tests) (placing (rosterOf c) x .tests)
+      ordered-joined own (feeding c x .value) (stepping (getD (c .places) (own .0) idle .group) (own .1) .tests) (placing (rosterOf c) x .tests)
 
   pub replied-refused : {n : ℕ} → forPlace (rosterOf c) x ≡ refused n → reply (feeding c x) ≡ refused n
   replied-refused e = in-two ∙ ap (λ (a : Answer (ℕ × Packet)). andThen a (step (ownPlace (rosterOf c) x))) e
@@ -75,21 +74,21 @@ module _ (c : Collator) (x : Content) where
       in-two
       ∙ ap (λ (a : Answer (ℕ × Packet)). andThen a (step (ownPlace (rosterOf c) x))) e
       ∙ ap step (exactly-all (ownPlace (rosterOf c) x) (placing (rosterOf c) x .tests) (i, p) .0 e .1)
-      ∙ ordered-mapped (moveTo sender i p) (stepping (getD (c .places) i idle .run) p .value) (stepping (getD (c .places) i idle .run) p .tests)
+      ∙ ordered-mapped (moveTo sender i p) (stepping (getD (c .places) i idle .group) p .value) (stepping (getD (c .places) i idle .group) p .tests)
 
   -- what moves is the packet's own place, by its step
   pub replied-moves : {m : Move} → reply (feeding c x) ≡ given m
-      → (i : ℕ) × (p : Packet) × (forPlace (rosterOf c) x ≡ given (i, p)) × (m ≡ moveTo sender i p (stepped (getD (c .places) i idle .run) p))
+      → (i : ℕ) × (p : Packet) × (forPlace (rosterOf c) x ≡ given (i, p)) × (m ≡ moveTo sender i p (stepped (getD (c .places) i idle .group) p))
   replied-moves {m} e = by (forPlace (rosterOf c) x) refl
     where
-      by-step : (i : ℕ) (p : Packet) (a : Answer Stepped) → stepAt c i p ≡ a → mapped (moveTo sender i p) a ≡ given m → m ≡ moveTo sender i p (stepped (getD (c .places) i idle .run) p)
+      by-step : (i : ℕ) (p : Packet) (a : Answer Stepped) → stepAt c i p ≡ a → mapped (moveTo sender i p) a ≡ given m → m ≡ moveTo sender i p (stepped (getD (c .places) i idle .group) p)
       by-step i p (refused n) q h = absurd (never-both h refl)
       by-step i p (given s) q h =
-          let there = getD (c .places) i idle .run in
+          let there = getD (c .places) i idle .group in
           same-given h refl ∙ ap (moveTo sender i p) (sym (exactly-all (stepping there p .value) (stepping there p .tests) s .0 q .1))
 
       by : (a : Answer (ℕ × Packet)) → forPlace (rosterOf c) x ≡ a
-          → (i : ℕ) × (p : Packet) × (forPlace (rosterOf c) x ≡ given (i, p)) × (m ≡ moveTo sender i p (stepped (getD (c .places) i idle .run) p))
+          → (i : ℕ) × (p : Packet) × (forPlace (rosterOf c) x ≡ given (i, p)) × (m ≡ moveTo sender i p (stepped (getD (c .places) i idle .group) p))
       by (refused n) q = absurd (never-both e (replied-refused q))
       by (given (i, p)) q = (i, p, q, by-step i p (stepAt c i p) refl (sym (replied-for q) ∙ e))
 
@@ -101,7 +100,7 @@ module _ (c : Collator) (x : Content) where
   pub moves-told : {m : Move} → reply (feeding c x) ≡ given m → (m .happened ≡ H.Taken) ⊎ ((r : Report) × (m .happened ≡ H.Epoch r))
   moves-told {m} e =
       let w = replied-moves e in
-      subst (λ (m : Move). (m .happened ≡ H.Taken) ⊎ ((r : Report) × (m .happened ≡ H.Epoch r))) (sym (w .3)) (outcome-told (w .1) (stepped (getD (c .places) (w .0) idle .run) (w .1) .ended))
+      subst (λ (m : Move). (m .happened ≡ H.Taken) ⊎ ((r : Report) × (m .happened ≡ H.Epoch r))) (sym (w .3)) (outcome-told (w .1) (stepped (getD (c .places) (w .0) idle .group) (w .1) .ended))
 
   pub never-refuses : {m : Move} {n : ℕ} → reply (feeding c x) ≡ given m → m .happened ≡ H.Refused n → ⊥
   never-refuses {m} {n} e h = by (moves-told e)
@@ -120,9 +119,9 @@ module _ (c : Collator) (x : Content) where
 
   -- the same, from a step of the place that was found apart
   pub fed-taken : {i : ℕ} {p : Packet} {s : Stepped} {h : Happened} → forPlace (rosterOf c) x ≡ given (i, p) → given s ≡ stepAt c i p → h ≡ outcome sender p (s .ended)
-      → record { collator = record { places = set (c .places) i (record { run = s .run }); roster = c .roster; count = c .count }; happened = h } ≡ fedFrame c x
+      → record { collator = record { places = set (c .places) i (record { group = s .group }); roster = c .roster; count = c .count }; happened = h } ≡ fedFrame c x
   fed-taken {i} {p} {s} e q t =
-      ap (λ (h : Happened). record { collator = record { places = set (c .places) i (record { run = s .run }); roster = c .roster; count = c .count }; happened = h }) t
+      ap (λ (h : Happened). record { collator = record { places = set (c .places) i (record { group = s .group }); roster = c .roster; count = c .count }; happened = h }) t
       ∙ ap (movedBy c sender i p) q
       ∙ sym (fed-for e)
 
@@ -139,7 +138,7 @@ module _ (c : Collator) (x : Content) where
       stepping-at : (i : ℕ) (p : Packet) → P (taken c sender i p) → (a : Answer Stepped) → stepAt c i p ≡ a → P (movedBy c sender i p a)
       stepping-at i p took (refused n) q = unchanged n
       stepping-at i p took (given s) q =
-          let there = getD (c .places) i idle .run in
+          let there = getD (c .places) i idle .group in
           subst (λ (s : Stepped). P (movedBy c sender i p (given s))) (exactly-all (stepping there p .value) (stepping there p .tests) s .0 q .1) took
 
       by : (j : Answer (ℕ × Packet)) → forPlace (rosterOf c) x ≡ j → P (fedFrame c x)
@@ -149,7 +148,7 @@ module _ (c : Collator) (x : Content) where
 
   -- a refused frame changes no state
   pub refused-keeps : {n : ℕ} → fedFrame c x .happened ≡ H.Refused n → fedFrame c x .collator ≡ c
-  refused-keeps {n} = by-placing (λ (f : Fed). f .happened ≡ H.Refused n → f .collator ≡ c) (λ m e. refl) (λ i p s q e. absurd (never p (stepped (getD (c .places) i idle .run) p .ended) e))
+  refused-keeps {n} = by-placing (λ (f : Fed). f .happened ≡ H.Refused n → f .collator ≡ c) (λ m e. refl) (λ i p s q e. absurd (never p (stepped (getD (c .places) i idle .group) p .ended) e))
     where
       never : (p : Packet) (e : Ended) → outcome sender p e ≡ H.Refused n → ⊥
       never p Not e = let z : _≡_ {A = ℕ} 0 1 = cc in omega arith
@@ -171,9 +170,9 @@ module _ (c : Collator) (x : Content) where
 
       rests : (k : ℕ) (p : Packet) → seatOf (rosterOf c) sender 0 ≡ At k → taken c sender k p .happened ≡ H.Epoch r → getD (taken c sender k p .collator .places) i idle ≡ idle
       rests k p q e =
-          let run = getD (c .places) k idle .run in
+          let run = getD (c .places) k idle .group in
           let same : k ≡ i = same-seat (sym q ∙ s) in
-          ap₂ (λ (r : Run) (k : ℕ). getD (set (c .places) k (record { run = r })) i idle) (let w = ended p (stepped run p .ended) e in whole-rests p run (w .0) (w .1)) same
+          ap₂ (λ (r : Group) (k : ℕ). getD (set (c .places) k (record { group = r })) i idle) (let w = ended p (stepped run p .ended) e in whole-rests p run (w .0) (w .1)) same
           ∙ set-idle (c .places) i
 
   -- a place is touched by its own sender only
@@ -182,7 +181,7 @@ module _ (c : Collator) (x : Content) where
     where
       keeps : (i : ℕ) (p : Packet) → seatOf (rosterOf c) sender 0 ≡ At i → getD (taken c sender i p .collator .places) j idle ≡ getD (c .places) j idle
       keeps i p s =
-          getD-set-other (c .places) i j (record { run = stepped (getD (c .places) i idle .run) p .run }) idle
+          getD-set-other (c .places) i j (record { group = stepped (getD (c .places) i idle .group) p .group }) idle
           (λ e. other (ap (λ (k : ℕ). getD (rosterOf c) k 0) e ∙ seat-named (rosterOf c) sender s))
 
   -- and the senders stay the same
@@ -193,7 +192,7 @@ module _ (c : Collator) (x : Content) where
   pub report-own : {s : ℕ} (rs : List Report) → (sender ≡ s → ⊥) → reportsOf s (reportIn (fedFrame c x .happened) rs) ≡ reportsOf s rs
   unfolding reportsOf
   report-own {s} rs other =
-      by-placing (λ (f : Fed). reportsOf s (reportIn (f .happened) rs) ≡ reportsOf s rs) (λ n. refl) (λ i p s q. of p (stepped (getD (c .places) i idle .run) p .ended))
+      by-placing (λ (f : Fed). reportsOf s (reportIn (f .happened) rs) ≡ reportsOf s rs) (λ n. refl) (λ i p s q. of p (stepped (getD (c .places) i idle .group) p .ended))
     where
       of : (p : Packet) (e : Ended) → reportsOf s (reportIn (outcome sender p e) rs) ≡ reportsOf s rs
       of p Not = refl

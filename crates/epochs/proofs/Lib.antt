@@ -5,3 +5,5 @@ pub mod Feeding
 pub mod Reports
 pub mod Senders
 pub mod Collations
+pub mod Arrivals
+pub mod Copies

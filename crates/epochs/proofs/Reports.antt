@@ -6,12 +6,12 @@ use Rattle.wire.specs.Number.{Bytes}
 use Rattle.frames.specs.Frame.{Content}
 use Rattle.packets.specs.declared.packet.Packet.{Packet}
 use Rattle.packets.proofs.Recognitions.{formed, n-small, time-small}
-use Rattle.runs.specs.Run.{stepped}
-use Rattle.runs.specs.declared.running.Run.{Run}
-use Rattle.runs.specs.declared.running.Ended.{Ended}
-use Rattle.runs.specs.declared.running.Ended.the-variants.{Not, Whole}
-use Rattle.runs.specs.declared.running.Stepped.{Stepped}
-use Rattle.runs.proofs.StepCases.{step-cases}
+use Rattle.groups.specs.Group.{stepped}
+use Rattle.groups.specs.declared.grouping.Group.{Group}
+use Rattle.groups.specs.declared.grouping.Ended.{Ended}
+use Rattle.groups.specs.declared.grouping.Ended.the-variants.{Not, Whole}
+use Rattle.groups.specs.declared.grouping.Stepped.{Stepped}
+use Rattle.groups.proofs.StepCases.{step-cases}
 use Rattle.epochs.specs.Collator.{idle, outcome, fedFrame}
 use Rattle.epochs.specs.declared.collating.Collator.{Collator}
 use Rattle.epochs.specs.declared.collating.Report.{Report}
@@ -39,14 +39,14 @@ abbrev Within : Ended → Type 0
 Within Not = Unit {0}
 Within (Whole total) = total < 65536
 
-stepped-within : (run : Run) (p : Packet) → p .observations ≤ 15 → Within (stepped run p .ended)
-stepped-within run p few = step-cases (λ (s : Stepped). Within (s .ended)) p tt (λ total h. h (omega arith)) (λ total h. tt) run
+stepped-within : (group : Group) (p : Packet) → p .observations ≤ 15 → Within (stepped group p .ended)
+stepped-within group p few = step-cases (λ (s : Stepped). Within (s .ended)) p (λ total h. h (omega arith)) (λ come total c h. tt) group
 
 -- ---- the report
 
 pub report-small : (c : Collator) (x : Content) → Bytes (x .payload) → x .sender < 65536 → SmallIn (fedFrame c x .happened)
 report-small c x bytes s = by-placing c x (λ (f : Fed). SmallIn (f .happened)) (λ n. tt) λ i p seat own.
-    let run = getD (c .places) i idle .run in
+    let run = getD (c .places) i idle .group in
     ended p (time-small (x .kind) (x .payload) own bytes) (n-small (x .kind) (x .payload) own bytes)
     (stepped run p .ended) (stepped-within run p (formed (x .kind) (x .payload) own .few))
   where

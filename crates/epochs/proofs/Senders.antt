@@ -12,11 +12,10 @@ use borrow.Author.Tests.{eqb-true, eq-eqb, ne-eqb}
 use Rattle.refusals.specs.Refusals.{refused, given, Answer, mapped, reply}
 use Rattle.frames.specs.Frame.{Content}
 use Rattle.packets.specs.declared.packet.Packet.{Packet}
-use Rattle.runs.specs.Run.{stepped, runOf}
-use Rattle.runs.specs.declared.running.Run.{Run}
-use Rattle.runs.specs.declared.running.Stepped.{Stepped}
+use Rattle.groups.specs.Group.{stepped, leftOpen, stepping, leftOf}
+use Rattle.groups.specs.declared.grouping.Group.{Group}
+use Rattle.groups.specs.declared.grouping.Stepped.{Stepped}
 use Rattle.epochs.specs.Search.{seatOf, names, repeats}
-use Rattle.epochs.specs.Stepping.{stepping, leftOf}
 use Rattle.epochs.specs.Collator.{idle, cameTo, forPlace, rosterOf, fedFrame, fresh}
 use Rattle.epochs.specs.Epoch.{ownPacket, kept, packetsOf, ofSender, after}
 use Rattle.epochs.specs.declared.seating.Seat.the-variants.{At}
@@ -33,7 +32,7 @@ use Rattle.epochs.proofs.Feeding.{movedBy, fed-refused, fed-for}
 
 -- a sender's place after its packets, the latest first
 abbrev pub placeOf : List Packet → Place
-placeOf past = record { run = runOf past }
+placeOf past = record { group = leftOpen past }
 
 -- the places of a roster's senders, each after its own packets
 abbrev pub placesOf : List ℕ → (ℕ → List Packet) → List Place
@@ -51,11 +50,11 @@ heardBy x past s = cond (eqb (x .sender) s) (kept (ownPacket x) (past s)) (past 
 -- what a frame of a listed sender comes to
 abbrev pub comesTo : ℕ → List Packet → Answer Packet → Happened
 comesTo sender past (refused n) = H.Refused n
-comesTo sender past (given p) = cameTo sender p (reply (stepping (runOf past) p))
+comesTo sender past (given p) = cameTo sender p (reply (stepping (leftOpen past) p))
 
 -- the places alone count
-pub state-ext : (roster : List ℕ) (a b : ℕ → List Packet) → ((s : ℕ) → runOf (a s) ≡ runOf (b s)) → stateOf roster a ≡ stateOf roster b
-state-ext roster a b e = ap (λ (run : ℕ → Run). record { places = take 8 (map (λ (s : ℕ). record { run = run s }) roster ++ replicate 8 idle); roster = take 8 (roster ++ replicate 8 0); count = length roster }) (λ i s. e s i)
+pub state-ext : (roster : List ℕ) (a b : ℕ → List Packet) → ((s : ℕ) → leftOpen (a s) ≡ leftOpen (b s)) → stateOf roster a ≡ stateOf roster b
+state-ext roster a b e = ap (λ (group : ℕ → Group). record { places = take 8 (map (λ (s : ℕ). record { group = group s }) roster ++ replicate 8 idle); roster = take 8 (roster ++ replicate 8 0); count = length roster }) (λ i s. e s i)
 
 -- the frame's own sender, and the others
 heard-own : (x : Content) (past : ℕ → List Packet) → heardBy x past (x .sender) ≡ kept (ownPacket x) (past (x .sender))
@@ -70,7 +69,7 @@ module _ (roster : List ℕ) (few : length roster ≤ 8) where
 
   -- a made collator has heard nothing
   pub fresh-state : fresh roster ≡ stateOf roster (λ (s : ℕ). [])
-  unfolding runOf
+  unfolding leftOpen
   fresh-state = ap (λ (ps : List Place). record { places = ps; roster = take 8 (roster ++ replicate 8 0); count = length roster }) (sym (all-idle roster 8 8 (omega arith)))
     where
       all-idle : (xs : List ℕ) (m n : ℕ) → m ≤ n → take m (map (λ (s : ℕ). idle) xs ++ replicate n idle) ≡ replicate m idle
@@ -90,11 +89,11 @@ module _ (roster : List ℕ) (few : length roster ≤ 8) where
     fed-to places h = record { collator = record { places = places; roster = c .roster; count = c .count }; happened = h }
 
     -- a frame that is refused, by itself or by its place, leaves every sender's place as it was
-    unheard : runOf (past (x .sender)) ≡ runOf (kept (ownPacket x) (past (x .sender))) → c ≡ stateOf roster (heardBy x past)
+    unheard : leftOpen (past (x .sender)) ≡ leftOpen (kept (ownPacket x) (past (x .sender))) → c ≡ stateOf roster (heardBy x past)
     unheard e = state-ext roster past (heardBy x past) (λ s. by s (eqb (x .sender) s) refl)
       where
-        by : (s : ℕ) (t : Bool) → eqb (x .sender) s ≡ t → runOf (past s) ≡ runOf (cond t (kept (ownPacket x) (past s)) (past s))
-        by s true q = ap (λ (s : ℕ). runOf (past s)) (sym (eqb-true (x .sender) s q)) ∙ e ∙ ap (λ (s : ℕ). runOf (kept (ownPacket x) (past s))) (eqb-true (x .sender) s q)
+        by : (s : ℕ) (t : Bool) → eqb (x .sender) s ≡ t → leftOpen (past s) ≡ leftOpen (cond t (kept (ownPacket x) (past s)) (past s))
+        by s true q = ap (λ (s : ℕ). leftOpen (past s)) (sym (eqb-true (x .sender) s q)) ∙ e ∙ ap (λ (s : ℕ). leftOpen (kept (ownPacket x) (past s))) (eqb-true (x .sender) s q)
         by s false q = refl
 
     -- ---- a frame of a listed sender
@@ -118,13 +117,13 @@ module _ (roster : List ℕ) (few : length roster ≤ 8) where
           ∙ ap (λ (s : ℕ). placeOf (past s)) named
 
       -- and once it has the next packet the others are as they were
-      placed-on : {p : Packet} {s : Stepped} → ownPacket x ≡ given p → reply (stepping (runOf (past (x .sender))) p) ≡ given s
-          → set (c .places) i (record { run = s .run }) ≡ stateOf roster (heardBy x past) .places
-      unfolding runOf
+      placed-on : {p : Packet} {s : Stepped} → ownPacket x ≡ given p → reply (stepping (leftOpen (past (x .sender))) p) ≡ given s
+          → set (c .places) i (record { group = s .group }) ≡ stateOf roster (heardBy x past) .places
+      unfolding leftOpen
       placed-on {p} {s} q r =
-          let v : Place = record { run = s .run } in
+          let v : Place = record { group = s .group } in
           let next : v ≡ placeOf (heardBy x past (x .sender))
-          = ap (λ (a : Answer Stepped). record { run = leftOf (runOf (past (x .sender))) a }) (sym r) ∙ sym (ap placeOf (heard-own x past ∙ ap (λ (a : Answer Packet). kept a (past (x .sender))) q)) in
+          = ap (λ (a : Answer Stepped). record { group = leftOf (leftOpen (past (x .sender))) a }) (sym r) ∙ sym (ap placeOf (heard-own x past ∙ ap (λ (a : Answer Packet). kept a (past (x .sender))) q)) in
           sym (take-set-lt 8 (placesOf roster past ++ replicate 8 idle) i v (omega (arith, below)))
           ∙ ap (take 8) (set-append-left (placesOf roster past) (replicate 8 idle) i v inside)
           ∙ ap (λ (ps : List Place). take 8 (ps ++ replicate 8 idle))
@@ -132,22 +131,22 @@ module _ (roster : List ℕ) (few : length roster ≤ 8) where
           ∙ map-seat (x .sender) (λ y other. ap placeOf (heard-other x past y other)) roster i once below named)
 
       -- the place's answer decides
-      stepped-at : {p : Packet} → ownPacket x ≡ given p → (a : Answer Stepped) → reply (stepping (runOf (past (x .sender))) p) ≡ a
+      stepped-at : {p : Packet} → ownPacket x ≡ given p → (a : Answer Stepped) → reply (stepping (leftOpen (past (x .sender))) p) ≡ a
           → movedBy c (x .sender) i p a ≡ fed-to (stateOf roster (heardBy x past) .places) (cameTo (x .sender) p a)
-      unfolding runOf
+      unfolding leftOpen
       stepped-at {p} q (refused n) r =
-          let open-still = ap (leftOf (runOf (past (x .sender)))) (sym r) ∙ ap (λ (a : Answer Packet). runOf (kept a (past (x .sender)))) (sym q) in
+          let open-still = ap (leftOf (leftOpen (past (x .sender)))) (sym r) ∙ ap (λ (a : Answer Packet). leftOpen (kept a (past (x .sender)))) (sym q) in
           ap (λ (d : Collator). record { collator = d; happened = H.Refused n }) (unheard open-still)
       stepped-at {p} q (given s) r = ap (λ (ps : List Place). fed-to ps (cameTo (x .sender) p (given s))) (placed-on q r)
 
       fed-at : (a : Answer Packet) → ownPacket x ≡ a → fedFrame c x ≡ fed-to (stateOf roster (heardBy x past) .places) (comesTo (x .sender) (past (x .sender)) a)
       fed-at (refused n) q =
           fed-refused c x (at-roster ∙ placed-listed roster x e ∙ ap (mapped (at i)) q)
-          ∙ ap (λ (d : Collator). record { collator = d; happened = H.Refused n }) (unheard (ap (λ (a : Answer Packet). runOf (kept a (past (x .sender)))) (sym q)))
+          ∙ ap (λ (d : Collator). record { collator = d; happened = H.Refused n }) (unheard (ap (λ (a : Answer Packet). leftOpen (kept a (past (x .sender)))) (sym q)))
       fed-at (given p) q =
           fed-for c x (at-roster ∙ placed-listed roster x e ∙ ap (mapped (at i)) q)
-          ∙ ap (λ (place : Place). movedBy c (x .sender) i p (reply (stepping (place .run) p))) own-place
-          ∙ stepped-at q (reply (stepping (runOf (past (x .sender))) p)) refl
+          ∙ ap (λ (place : Place). movedBy c (x .sender) i p (reply (stepping (place .group) p))) own-place
+          ∙ stepped-at q (reply (stepping (leftOpen (past (x .sender))) p)) refl
 
     pub fed-listed : names roster (x .sender) ≡ true
         → fedFrame c x ≡ record { collator = stateOf roster (heardBy x past); happened = comesTo (x .sender) (past (x .sender)) (ownPacket x) }
@@ -189,4 +188,4 @@ module _ (roster : List ℕ) (few : length roster ≤ 8) where
   unfolding after packetsOf ofSender
   after-state once [] past = refl
   after-state once (x ∷ xs) past =
-      ap (λ (c : Collator). after c xs) (fed-state once past x) ∙ after-state once xs (heardBy x past) ∙ state-ext roster _ _ (λ s. ap runOf (packets-on x xs past s))
+      ap (λ (c : Collator). after c xs) (fed-state once past x) ∙ after-state once xs (heardBy x past) ∙ state-ext roster _ _ (λ s. ap leftOpen (packets-on x xs past s))

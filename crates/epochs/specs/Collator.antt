@@ -1,4 +1,4 @@
--- The collator step by step: a frame's own place takes its packet. What a packet is stands in `packets` and what a step does in `runs`; nothing
+-- The collator step by step: a frame's own place takes its packet. What a packet is stands in `packets` and what a step does in `groups`; nothing
 -- here looks inside either.
 use Prim.Native.Nat.{ℕ}
 use mathlib.Core.Bool.{_&&_, not}
@@ -9,11 +9,11 @@ use Rattle.refusals.specs.Refusals.{refused, given, Answer, Call, reply}
 use Rattle.frames.specs.Frame.{Content}
 use Rattle.packets.specs.Packet.{packetIn, shape, numbering}
 use Rattle.packets.specs.declared.packet.Packet.{Packet}
-use Rattle.runs.specs.declared.running.Run.the-variants.{Idle}
-use Rattle.runs.specs.declared.running.Ended.{Ended}
-use Rattle.runs.specs.declared.running.Ended.the-variants.{Not, Whole}
-use Rattle.runs.specs.declared.running.Stepped.{Stepped}
-use Rattle.epochs.specs.Stepping.{stepping}
+use Rattle.groups.specs.declared.grouping.Group.the-variants.{Idle}
+use Rattle.groups.specs.declared.grouping.Ended.{Ended}
+use Rattle.groups.specs.declared.grouping.Ended.the-variants.{Not, Whole}
+use Rattle.groups.specs.declared.grouping.Stepped.{Stepped}
+use Rattle.groups.specs.Group.{stepping}
 use Rattle.epochs.specs.Search.{seatOf, names, repeats}
 use Rattle.epochs.specs.declared.seating.Seat.{Seat}
 use Rattle.epochs.specs.declared.seating.Seat.the-variants.{At, Nowhere}
@@ -52,7 +52,7 @@ recognisedAnswer (R.Refused n) = refused n
 -- ---- the collator
 
 abbrev pub idle : Place
-idle = record { run = Idle }
+idle = record { group = Idle }
 
 -- an epoch of the sender that ends with this packet
 abbrev pub reportOf : ℕ → Packet → ℕ → Report
@@ -75,17 +75,17 @@ pub record Move : Type 0 where
   pub happened : Happened
 
 abbrev pub moveTo : ℕ → ℕ → Packet → Stepped → Move
-moveTo sender i p s = record { seat = i; place = record { run = s .run }; happened = outcome sender p (s .ended) }
+moveTo sender i p s = record { seat = i; place = record { group = s .group }; happened = outcome sender p (s .ended) }
 
 -- the senders that a collator lists
 abbrev pub rosterOf : Collator → List ℕ
 rosterOf c = take (c .count) (c .roster)
 
--- "Feeding: 46, 22, 43, 44, 45.", and then what the packet's own place refuses
+-- "Feeding: 46, 22, 43, 44, 45." (document 01), and then 47 by the packet's own place (document 02)
 abbrev pub feeding : Collator → Content → Call Move
 feeding c x =
     let own = ownPlace (rosterOf c) x in
-    let step = stepping (getD (c .places) (own .0) idle .run) (own .1) in
+    let step = stepping (getD (c .places) (own .0) idle .group) (own .1) in
     record { tests = placing (rosterOf c) x .tests ++ step .tests; value = moveTo (x .sender) (own .0) (own .1) (step .value) }
 
 -- no other place moves, and a refusal leaves the state as it was

@@ -1,4 +1,4 @@
--- Frames fed in order: the packets of each sender, what each frame comes to, and which frame ends an epoch in document 01's words. Nothing here
+-- Frames fed in order: the packets of each sender, what each frame comes to, and which frame ends an epoch in document 02's words. Nothing here
 -- looks inside a packet or a step.
 use Prim.Native.Nat.{ℕ, _≤_}
 use mathlib.Core.Path.{_≡_}
@@ -14,7 +14,7 @@ use Rattle.frames.specs.Reading.{closedSteps, framesOf}
 use Rattle.frames.specs.declared.step.Frame.{Frame}
 use Rattle.packets.specs.Packet.{recognised}
 use Rattle.packets.specs.declared.packet.Packet.{Packet}
-use Rattle.runs.specs.InWords.{EpochEnds}
+use Rattle.groups.specs.InWords.{isCopy, EpochEnds}
 use Rattle.epochs.specs.Search.{names, repeats}
 use Rattle.epochs.specs.Collator.{reportOf, fedFrame}
 use Rattle.epochs.specs.declared.collating.Collator.{Collator}
@@ -83,6 +83,13 @@ pub record EndsEpoch (roster : List ℕ) (xs : List Content) (x : Content) (e : 
   pub formed : ownPacket x ≡ given packet
   pub ends : EpochEnds packet (historyOf (x .sender) xs) total
   pub report : e ≡ reportOf (x .sender) packet total
+
+-- the frame x, fed after xs, is a copy: its sender is listed, it is well-formed, and its counter has come already in the open group of its key
+pub record BringsCopy (roster : List ℕ) (xs : List Content) (x : Content) : Type 0 where
+  pub packet : Packet
+  pub listed : names roster (x .sender) ≡ true
+  pub formed : ownPacket x ≡ given packet
+  pub copy : isCopy (historyOf (x .sender) xs) packet ≡ true
 
 -- each of the frames that come after those of the past came to an epoch exactly when it ends that epoch
 abbrev pub CameTo : List ℕ → List Content → List Content → List Happened → Type 0

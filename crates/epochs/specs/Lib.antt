@@ -1,4 +1,4 @@
 pub mod Search
-pub mod Stepping
 pub mod Collator
 pub mod Epoch
+pub mod Arrival

@@ -8,13 +8,14 @@ use crate::recognising::Recognised;
 use crate::recognising::recognise;
 use crate::seating::Seat;
 use crate::seating::search;
+use groups::Answered;
+use groups::Ended;
+use groups::Group;
 use packets::Packet;
-use runs::Ended;
-use runs::Run;
 
-// A listed sender's place: idle, or an open run.
+// A listed sender's place: idle, or an open group.
 pub struct Place {
-    pub run: Run,
+    pub group: Group,
 }
 
 // The senders are the first count of the roster, and place i is that of sender i.
@@ -55,7 +56,7 @@ fn fresh(roster: [u16; 8], count: usize) -> Collator
     ensures { λ r. ⌜ r ≡ record { places = replicate 8 idle; roster = roster; count = count } ⌝ }
 {
     Collator {
-        places: [Place { run: Run::Idle }; 8],
+        places: [Place { group: Group::Idle }; 8],
         roster,
         count,
     }
@@ -149,7 +150,7 @@ impl Collator {
         }
     }
 
-    // The frame's own place takes it; a refusal, 46, 22, 43, 44 or 45, leaves the collator as it was.
+    // The frame's own place takes it; a refusal, 46, 22, 43, 44, 45 or 47, leaves the collator as it was.
     pub fn feed(mut self, kind: u16, sender: u16, payload: &[u8]) -> Fed
         ensures { λ r. ⌜ r ≡ fedFrame self (record { kind = kind; sender = sender; payload = now (payload .entry) }) ⌝ }
     {
@@ -162,14 +163,22 @@ impl Collator {
             },
             Recognised::For(at, packet) => {
                 let place = self.places[at];
-                let run = place.run;
-                let next = runs::step(run, packet);
-                let after = next.run;
-                self.places[at] = Place { run: after };
-                let ended = next.ended;
-                Fed {
-                    collator: self,
-                    happened: outcome(sender, packet, ended),
+                let before = place.group;
+                let step = groups::step(before, packet);
+                match step {
+                    Answered::Refused(number) => Fed {
+                        collator: self,
+                        happened: Happened::Refused(number),
+                    },
+                    Answered::To(next) => {
+                        let group = next.group;
+                        self.places[at] = Place { group };
+                        let ended = next.ended;
+                        Fed {
+                            collator: self,
+                            happened: outcome(sender, packet, ended),
+                        }
+                    }
                 }
             }
         }

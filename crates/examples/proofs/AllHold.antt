@@ -10,7 +10,7 @@ use Rattle.observation.specs.Edition.{isObs}
 use Rattle.phases.specs.Phase.{readPhase}
 use Rattle.payloads.specs.Payloads.{entryFor}
 use Rattle.packets.specs.Packet.{packetIn, shape, numbering}
-use Rattle.runs.specs.Run.{stepped}
+use Rattle.groups.specs.Group.{stepped}
 use Rattle.epochs.specs.Search.{repeats}
 use Rattle.epochs.specs.Collator.{forPlace, fedFrame, made}
 use Rattle.examples.specs.Examples.{AllHold, table}

@@ -24,6 +24,7 @@ use Rattle.frame_rows.specs.Found.{nextFrom, nextAnswer}
 use Rattle.frame_rows.specs.Totals.{totalsFields, totalsRow, totalsStored}
 use Rattle.frame_rows.proofs.ReadBack.{read-back, counts-shown}
 use Rattle.states.specs.Feed.{madeStored, fedIn, afterIn}
+use Rattle.places.specs.State.{stateSize}
 use Rattle.told.specs.Told.{Sent, told, Filled}
 use Rattle.told.proofs.Lives.{tells-epoch}
 use Rattle.examples.specs.Examples.{blank, packetFrom}
@@ -147,17 +148,17 @@ module _ (m : LinkedCollator) (roster : List ℕ) where
   closing = packetFrom s 0x21
 
   abbrev fresh : List ℕ
-  fresh = m .make roster (zeros 105) .1
+  fresh = m .make roster (zeros stateSize) .1
 
   module _ (ok : made roster .number ≡ 0) (senders : (i : ℕ) → getD roster i 0 < 65536) (tells : TellsEpochs roster m) where
-    filled : (xs : List Content) → Sent xs → Filled roster (zeros 105) (zeros 11) xs
+    filled : (xs : List Content) → Sent xs → Filled roster (zeros stateSize) (zeros 11) xs
     filled xs sent = record { taken = ok; senders = senders; long = omega arith; room = omega arith; sent = sent }
 
     told-after : (xs : List Content) → Sent xs
         → (told (m .feed (bytesAfter m fresh (zeros 11) xs) closing (zeros 11)) ≡ H.Epoch (bothOf s)) ↔ EndsEpoch roster xs closing (bothOf s)
     told-after xs sent =
         let report = lend (zeros 11) refl refl in
-        tells (zeros 105) (zeros 11) xs (lend (zeros 105) refl refl) report (filled xs sent) closing (all-small (closing .payload) refl, senders 0)
+        tells (zeros stateSize) (zeros 11) xs (lend (zeros stateSize) refl refl) report (filled xs sent) closing (all-small (closing .payload) refl, senders 0)
         (zeros 11) report (omega arith) (bothOf s)
 
     never-moving : KeepsItsBytes m → ⊥

@@ -1,6 +1,6 @@
 -- An epoch of two packets: the second ends it where the first was heard, and ends nothing by itself.
 use mathlib.Core.Path.{_≡_, refl, sym, ap, subst}
-use mathlib.Core.Bool.{true}
+use mathlib.Core.Bool.{true, false≢true}
 use mathlib.Core.List.{List, [], _∷_}
 use Prim.Native.Nat.{ℕ}
 use borrow.Author.Tests.{eq-eqb}
@@ -10,8 +10,7 @@ use Rattle.refusals.proofs.Distinct.{same-given}
 use Rattle.observation.specs.Edition.{isObs}
 use Rattle.packets.specs.Packet.{packetIn, shape, numbering, sameKey}
 use Rattle.packets.specs.declared.packet.Packet.{Packet}
-use Rattle.runs.specs.InWords.{RunTo, begins, follows}
-use Rattle.runs.proofs.Fronts.{unroll}
+use Rattle.groups.specs.InWords.{has, hasAll, groupAt, observationsIn, EpochEnds}
 use Rattle.epochs.specs.Search.{names}
 use Rattle.epochs.specs.Epoch.{ownPacket, kept, historyOf, EndsEpoch}
 use Rattle.epochs.specs.declared.collating.Report.{Report}
@@ -37,21 +36,23 @@ module _ (s : ℕ) where
   unfolding historyOf
   heard-first = rw (eq-eqb s s refl) (ap (λ (a : Answer Packet). kept a []) first-is)
 
+  both-come : EpochEnds (numbered 1) (numbered 0 ∷ []) 0
+  unfolding has hasAll groupAt observationsIn sameKey
+  both-come = record { all-come = refl; sum = refl }
+
   module _ (roster : List ℕ) (listed : names roster s ≡ true) where
     pub second-ends : EndsEpoch roster (packetFrom s 0x20 ∷ []) (packetFrom s 0x21) (bothOf s)
-    unfolding sameKey
     second-ends = record {
       packet = numbered 1;
       total = 0;
       listed = listed;
       formed = second-is;
-      ends = record { last = refl; run = subst (λ (past : List Packet). RunTo (numbered 1 .key) 1 (numbered 1 ∷ past) 0) (sym heard-first) (follows (begins refl refl) refl refl) };
+      ends = subst (λ (past : List Packet). EpochEnds (numbered 1) past 0) (sym heard-first) both-come;
       report = refl;
     }
 
   pub second-alone : (roster : List ℕ) → EndsEpoch roster [] (packetFrom s 0x21) (bothOf s) → ⊥
-  unfolding historyOf
+  unfolding historyOf has hasAll groupAt
   second-alone roster w =
       let same : w .packet ≡ numbered 1 = same-given (w .formed) second-is in
-      let run = subst (λ (p : Packet). RunTo (p .key) (p .counter) (p ∷ []) (w .total)) same (w .ends .run) in
-      unroll (unroll run .2 .1)
+      false≢true (subst (λ (p : Packet). EpochEnds p [] (w .total)) same (w .ends) .all-come)

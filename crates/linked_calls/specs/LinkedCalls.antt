@@ -35,8 +35,8 @@ module _ {M : Type 1} (𝓤 : URA M) (H : Heap 𝓤) (A : Atoms 𝓤) (mem : Mem
     pub sbp-answer : Gives 𝓤 exports.sbp_answer.ended (exports.sbp_answer.clauses 𝓤 H A mem run) (λ κs. answerGives)
     pub sbp-read : Gives 𝓤 exports.sbp_read.ended (exports.sbp_read.clauses 𝓤 H A mem run) (λ κs. readGives)
     pub sbp-observation : Gives 𝓤 exports.sbp_observation.ended (exports.sbp_observation.clauses 𝓤 H A mem run) (λ κs. observationGives)
-    -- 0.13.0
-    pub sbp-version : Gives 𝓤 exports.sbp_version.ended (exports.sbp_version.clauses 𝓤 H A mem run) (λ κs. (1300, tt))
+    -- 0.14.0
+    pub sbp-version : Gives 𝓤 exports.sbp_version.ended (exports.sbp_version.clauses 𝓤 H A mem run) (λ κs. (1400, tt))
 
   -- frames written; a sender that 16 bits do not hold is none
   pub record Writes : Type 1 where

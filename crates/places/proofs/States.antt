@@ -12,9 +12,9 @@ use Rattle.layouts.specs.Field.{HeldRow, SettledRow, Row, size}
 use Rattle.layouts.proofs.Fields.{length-row}
 use Rattle.wire.specs.Tabulated.{tabulated}
 use Rattle.epochs.specs.Collator.{idle}
-use Rattle.runs.specs.declared.running.Part.{Part}
-use Rattle.runs.specs.declared.running.Run.{Run}
-use Rattle.runs.specs.declared.running.Run.the-variants.{Idle, Open}
+use Rattle.groups.specs.declared.grouping.Part.{Part}
+use Rattle.groups.specs.declared.grouping.Group.{Group}
+use Rattle.groups.specs.declared.grouping.Group.the-variants.{Idle, Open}
 use Rattle.epochs.specs.declared.collating.Place.{Place}
 use Rattle.epochs.specs.declared.collating.Collator.{Collator}
 use Rattle.places.specs.State.{countFields, seatFields, slot, slotFields, seatsAt, placesAt, stateSize, seatAt, slotAt, placeOf, slotFor, slotOf, placeIn, placeStored, sendersIn, seatIn, seatsIn, stateIn, countStored, seatRow, seatsStored, placeRow, collatorStored}
@@ -28,25 +28,25 @@ pub record SmallPart (x : Part) : Type 0 where
   pub tow : x .key .tow < 2 ^ 32
   pub wn : x .key .wn < 65536
   pub n : x .key .n < 256
-  pub next : x .next < 256
+  pub come : x .come < 65536
   pub total : x .total < 65536
 
-abbrev pub SmallRun : Run → Type 0
-SmallRun Idle = Unit {0}
-SmallRun (Open part) = SmallPart part
+abbrev pub SmallGroup : Group → Type 0
+SmallGroup Idle = Unit {0}
+SmallGroup (Open part) = SmallPart part
 
 abbrev pub Small : Place → Type 0
-Small place = SmallRun (place .run)
+Small place = SmallGroup (place .group)
 
-held : (r : Run) → SmallRun r → HeldRow slotFields (slot .row (slotFor r))
+held : (g : Group) → SmallGroup g → HeldRow slotFields (slot .row (slotFor g))
 held Idle h = search needs
 held (Open part) h = search needs
 
-settled : (r : Run) → SettledRow slotFields (slot .row (slotFor r))
-settled r = search needs
+settled : (g : Group) → SettledRow slotFields (slot .row (slotFor g))
+settled g = search needs
 
 -- a place comes back from its numbers
-back : (r : Run) → placeOf (slotFor r) ≡ record { run = r }
+back : (g : Group) → placeOf (slotFor g) ≡ record { group = g }
 back Idle = refl
 back (Open part) = refl
 
@@ -59,8 +59,8 @@ module _ (s : List ℕ) (long : stateSize ≤ length s) (i : ℕ) (h : i < 8) (p
   pub own-place : Small place → placeIn (placeStored s i place) i ≡ place
   own-place small =
       ap (λ (v : Row slotFields). placeOf (slot .make v))
-      (decode-stored slotFields (slot .row (slotOf place)) s (slotAt i) room (held (place .run) small) (settled (place .run)))
-      ∙ back (place .run)
+      (decode-stored slotFields (slot .row (slotOf place)) s (slotAt i) room (held (place .group) small) (settled (place .group)))
+      ∙ back (place .group)
 
   pub other-place : (j : ℕ) → (j ≡ i → ⊥) → placeIn (placeStored s i place) j ≡ placeIn s j
   other-place j other = by (ltb j i) refl
@@ -131,11 +131,11 @@ module _ (c : Collator) (h : Held c) (s : List ℕ) (long : stateSize ≤ length
 
   place-back : (j : ℕ) → j < 8 → placeIn (collatorStored c s) j ≡ getD (c .places) j idle
   place-back j b =
-      let run : ℕ → Run = λ k. getD (c .places) k idle .run in
+      let group : ℕ → Group = λ k. getD (c .places) k idle .group in
       ap (λ (v : Row slotFields). placeOf (slot .make v))
       (rows-own slotFields (placeRow (c .places)) (seatsStored (c .roster) (countStored (c .count) s)) placesAt 8 (omega (arith, seated-long))
-      (λ k d. (held (run k) (h .small k d), settled (run k))) j b)
-      ∙ back (run j)
+      (λ k d. (held (group k) (h .small k d), settled (group k))) j b)
+      ∙ back (group j)
 
   -- the bytes stand for that collator
   pub state-stored : stateIn (collatorStored c s) ≡ c

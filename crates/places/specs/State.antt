@@ -1,4 +1,4 @@
--- A collator in 105 bytes: how many senders are listed, the eight seats of the roster, the eight places.
+-- A collator in 113 bytes: how many senders are listed, the eight seats of the roster, the eight places.
 use Prim.Native.Nat.{ℕ, _+_, _*_}
 use mathlib.Core.Path.{refl}
 use mathlib.Core.Bool.{cond}
@@ -12,8 +12,8 @@ use Rattle.layouts.specs.Description.{Part}
 use Rattle.layouts.specs.Together.{takenAt, putAt}
 use Rattle.wire.specs.Tabulated.{tabulated}
 use Rattle.epochs.specs.Collator.{idle}
-use Rattle.runs.specs.declared.running.Run.{Run}
-use Rattle.runs.specs.declared.running.Run.the-variants.{Idle, Open}
+use Rattle.groups.specs.declared.grouping.Group.{Group}
+use Rattle.groups.specs.declared.grouping.Group.the-variants.{Idle, Open}
 use Rattle.epochs.specs.declared.collating.Place.{Place}
 use Rattle.epochs.specs.declared.collating.Collator.{Collator}
 use Rattle.lent_rows.specs.Lent.{firstRowsStored}
@@ -30,9 +30,9 @@ seatFields = any u16 ∷ []
 -- a place as numbers
 abbrev pub slot : Part Slot
 slot = record {
-  fields = any u8 ∷ any u32 ∷ any u16 ∷ any u8 ∷ any u8 ∷ any u16 ∷ [];
-  row = λ r. (r .opened, (r .tow, (r .wn, (r .n, (r .next, (r .total, tt))))));
-  make = λ v. record { opened = v .0; tow = v .1 .0; wn = v .1 .1 .0; n = v .1 .1 .1 .0; next = v .1 .1 .1 .1 .0; total = v .1 .1 .1 .1 .1 .0 };
+  fields = any u8 ∷ any u32 ∷ any u16 ∷ any u8 ∷ any u16 ∷ any u16 ∷ [];
+  row = λ r. (r .opened, (r .tow, (r .wn, (r .n, (r .come, (r .total, tt))))));
+  make = λ v. record { opened = v .0; tow = v .1 .0; wn = v .1 .1 .0; n = v .1 .1 .1 .0; come = v .1 .1 .1 .1 .0; total = v .1 .1 .1 .1 .1 .0 };
   row-make = λ v. refl;
   make-row = λ r. refl;
 }
@@ -62,14 +62,14 @@ slotAt i = placesAt + i * size slotFields
 abbrev pub placeOf : Slot → Place
 placeOf x =
     cond (eqb (x .opened) 0) idle
-    (record { run = Open (record { key = record { tow = x .tow; wn = x .wn; n = x .n }; next = x .next; total = x .total }) })
+    (record { group = Open (record { key = record { tow = x .tow; wn = x .wn; n = x .n }; come = x .come; total = x .total }) })
 
-abbrev pub slotFor : Run → Slot
-slotFor Idle = record { opened = 0; tow = 0; wn = 0; n = 0; next = 0; total = 0 }
-slotFor (Open part) = record { opened = 1; tow = part .key .tow; wn = part .key .wn; n = part .key .n; next = part .next; total = part .total }
+abbrev pub slotFor : Group → Slot
+slotFor Idle = record { opened = 0; tow = 0; wn = 0; n = 0; come = 0; total = 0 }
+slotFor (Open part) = record { opened = 1; tow = part .key .tow; wn = part .key .wn; n = part .key .n; come = part .come; total = part .total }
 
 abbrev pub slotOf : Place → Slot
-slotOf place = slotFor (place .run)
+slotOf place = slotFor (place .group)
 
 abbrev pub slotIn : List ℕ → ℕ → Slot
 slotIn s i = takenAt slot s (slotAt i)

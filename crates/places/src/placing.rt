@@ -2,8 +2,8 @@
 ghost use mathlib.Core.Path.{_≡_};
 ghost use Prim.Native.Nat.{_%_};
 ghost use Rattle.places.specs.State.{slotAt, placeOf, slotOf, slotIn, slotStored, placeIn, placeStored};
+use crate::sizes::COME_AT;
 use crate::sizes::N_AT;
-use crate::sizes::NEXT_AT;
 use crate::sizes::OPENED_AT;
 use crate::sizes::PLACES_AT;
 use crate::sizes::SLOT_SIZE;
@@ -11,9 +11,9 @@ use crate::sizes::TOTAL_AT;
 use crate::sizes::TOW_AT;
 use crate::sizes::WN_AT;
 use epochs::Place;
+use groups::Group;
+use groups::Part;
 use packets::Key;
-use runs::Part;
-use runs::Run;
 
 // A place as numbers; opened is 0 for one that is idle.
 pub struct Slot {
@@ -21,7 +21,7 @@ pub struct Slot {
     pub tow: u32,
     pub wn: u16,
     pub n: u8,
-    pub next: u8,
+    pub come: u16,
     pub total: u16,
 }
 
@@ -29,16 +29,16 @@ fn place_of(slot: Slot) -> Place
     ensures { λ r. ⌜ r ≡ placeOf slot ⌝ }
 {
     if slot.opened == 0 {
-        return Place { run: Run::Idle };
+        return Place { group: Group::Idle };
     }
     Place {
-        run: Run::Open(Part {
+        group: Group::Open(Part {
             key: Key {
                 tow: slot.tow,
                 wn: slot.wn,
                 n: slot.n,
             },
-            next: slot.next,
+            come: slot.come,
             total: slot.total,
         }),
     }
@@ -47,24 +47,24 @@ fn place_of(slot: Slot) -> Place
 fn slot_of(place: Place) -> Slot
     ensures { λ r. ⌜ r ≡ slotOf place ⌝ }
 {
-    let run = place.run;
-    match run {
-        Run::Idle => Slot {
+    let group = place.group;
+    match group {
+        Group::Idle => Slot {
             opened: 0,
             tow: 0,
             wn: 0,
             n: 0,
-            next: 0,
+            come: 0,
             total: 0,
         },
-        Run::Open(part) => {
+        Group::Open(part) => {
             let key = part.key;
             Slot {
                 opened: 1,
                 tow: key.tow,
                 wn: key.wn,
                 n: key.n,
-                next: part.next,
+                come: part.come,
                 total: part.total,
             }
         }
@@ -87,7 +87,7 @@ fn slot_in(s: &[u8], i: usize) -> Slot
         tow: wire::read_u32(s, at + TOW_AT),
         wn: wire::read_u16(s, at + WN_AT),
         n: wire::read_u8(s, at + N_AT),
-        next: wire::read_u8(s, at + NEXT_AT),
+        come: wire::read_u16(s, at + COME_AT),
         total: wire::read_u16(s, at + TOTAL_AT),
     }
 }
@@ -100,7 +100,7 @@ fn put_slot(s: &mut [u8], i: usize, slot: Slot)
     wire::store_u32(s, at + TOW_AT, slot.tow);
     wire::store_u16(s, at + WN_AT, slot.wn);
     wire::store_u8(s, at + N_AT, slot.n);
-    wire::store_u8(s, at + NEXT_AT, slot.next);
+    wire::store_u16(s, at + COME_AT, slot.come);
     wire::store_u16(s, at + TOTAL_AT, slot.total);
 }
 

@@ -14,8 +14,8 @@ pub(crate) const WN_AT: usize = TOW_AT + 4;
 
 pub(crate) const N_AT: usize = WN_AT + 2;
 
-pub(crate) const NEXT_AT: usize = N_AT + 1;
+pub(crate) const COME_AT: usize = N_AT + 1;
 
-pub(crate) const TOTAL_AT: usize = NEXT_AT + 1;
+pub(crate) const TOTAL_AT: usize = COME_AT + 2;
 
 pub const SLOT_SIZE: usize = TOTAL_AT + 2;

@@ -13,11 +13,10 @@ use Rattle.wire.proofs.Tables.{tabulated-at}
 use Rattle.frames.specs.Frame.{Content}
 use Rattle.packets.specs.declared.packet.Packet.{Packet}
 use Rattle.packets.proofs.Recognitions.{formed, n-small, time-small}
-use Rattle.runs.specs.declared.running.Stepped.{Stepped}
-use Rattle.runs.specs.declared.running.Run.{Run}
-use Rattle.runs.specs.Run.{stepped}
-use Rattle.runs.proofs.StepCases.{step-cases}
-use Rattle.epochs.specs.Stepping.{stepping}
+use Rattle.groups.specs.Group.{stepped, stepping}
+use Rattle.groups.specs.declared.grouping.Stepped.{Stepped}
+use Rattle.groups.specs.declared.grouping.Group.{Group}
+use Rattle.groups.proofs.StepCases.{step-cases}
 use Rattle.epochs.specs.Collator.{forPlace, idle, cameTo, Move, moveTo, feeding, moved, rosterOf, fedFrame}
 use Rattle.epochs.specs.declared.collating.Place.{Place}
 use Rattle.epochs.specs.declared.collating.Report.{Report}
@@ -30,7 +29,7 @@ use Rattle.epochs.proofs.Reports.{SmallIn, Small, report-small}
 use Rattle.places.specs.State.{stateSize, placeIn, stateIn}
 use Rattle.states.specs.Feed.{reportFields, reportSize, reportRow, happenedNumber, happenedStored, moveIn, FedIn, cameOut, fedIn, stepIn, placeLeft}
 use Rattle.lent_rows.proofs.Parts.{stored-front, decode-stored}
-use Rattle.places.proofs.States.{SmallRun, state-place}
+use Rattle.places.proofs.States.{SmallGroup, state-place}
 
 -- the place of a packet is one of the eight
 pub eight : (s : List ℕ) (x : Content) {i : ℕ} {p : Packet} → forPlace (rosterOf (stateIn s)) x ≡ given (i, p) → i < 8
@@ -72,7 +71,7 @@ module _ (s : List ℕ) (x : Content) (report : List ℕ) where
       came-taken {i} {p} e q r v w =
           let own : getD (tabulated (placeIn s) 8) i idle ≡ placeIn s i = tabulated-at (placeIn s) 8 i idle (eight s x e) in
           let here : moveIn s (length report) x ≡ mapped (moveTo (x .sender) i p) (stepIn s i p)
-          = as-collator ∙ replied-for (stateIn s) x e ∙ ap (λ (place : Place). mapped (moveTo (x .sender) i p) (reply (stepping (place .run) p))) own in
+          = as-collator ∙ replied-for (stateIn s) x e ∙ ap (λ (place : Place). mapped (moveTo (x .sender) i p) (reply (stepping (place .group) p))) own in
           let out = came here in
           let same = by (stepIn s i p) in (
             v ∙ ap happenedNumber q ∙ ap (λ (o : FedIn). o .answer) same ∙ out .0,
@@ -87,17 +86,17 @@ module _ (s : List ℕ) (x : Content) (report : List ℕ) where
 
 -- ---- tied to the collator
 
--- a packet whose numbers are small leaves a run whose numbers are
+-- a packet whose numbers are small leaves a group whose numbers are
 pub record SmallPacket (p : Packet) : Type 0 where
   pub tow : p .key .tow < 2 ^ 32
   pub wn : p .key .wn < 65536
   pub n : p .key .n < 256
   pub observations : p .observations < 65536
 
-pub stepped-small : (p : Packet) → SmallPacket p → (run : Run) → SmallRun (stepped run p .run)
+pub stepped-small : (p : Packet) → SmallPacket p → (group : Group) → SmallGroup (stepped group p .group)
 stepped-small p small =
-    step-cases (λ (s : Stepped). SmallRun (s .run)) p tt (λ total h. tt)
-    (λ total h. record { tow = small .tow; wn = small .wn; n = small .n; next = omega arith; total = h (small .observations) })
+    step-cases (λ (s : Stepped). SmallGroup (s .group)) p (λ total h. tt)
+    (λ come total c h. record { tow = small .tow; wn = small .wn; n = small .n; come = c; total = h (small .observations) })
 
 -- what came out of the bytes is what came out of the collator
 pub record Tied (out : FedIn) (f : Fed) (report : List ℕ) : Type 0 where
@@ -125,11 +124,11 @@ module _ (s : List ℕ) (x : Content) (report : List ℕ) (long : stateSize ≤ 
           let i = w .0 in
           let p = w .1 in
           let h : i < 8 = eight s x (w .2) in
-          let run = getD (stateIn s .places) i idle .run in
+          let group = getD (stateIn s .places) i idle .group in
           record {
             state =
                 ap (λ (m : Move). stateIn (cameOut s report (given m) .state)) (w .3)
-                ∙ state-place s long i h (record { run = stepped run p .run }) (stepped-small p (small (w .2)) run)
+                ∙ state-place s long i h (record { group = stepped group p .group }) (stepped-small p (small (w .2)) group)
                 ∙ ap (λ (m : Move). moved (stateIn s) (given m) .collator) (sym (w .3));
             answer = refl;
             reported = refl;

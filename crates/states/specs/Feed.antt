@@ -7,8 +7,8 @@ use Rattle.wire.specs.Value.{u8, u16, u32}
 use Rattle.layouts.specs.Field.{Field, any, Row, size}
 use Rattle.frames.specs.Frame.{Content}
 use Rattle.packets.specs.declared.packet.Packet.{Packet}
-use Rattle.runs.specs.declared.running.Stepped.{Stepped}
-use Rattle.epochs.specs.Stepping.{stepping}
+use Rattle.groups.specs.Group.{stepping}
+use Rattle.groups.specs.declared.grouping.Stepped.{Stepped}
 use Rattle.epochs.specs.Collator.{Move, feeding, fresh, rostering}
 use Rattle.epochs.specs.declared.collating.Collator.{Collator}
 use Rattle.epochs.specs.declared.collating.Report.{Report}
@@ -87,10 +87,10 @@ fedIn state x report = cameOut state report (moveIn state (length report) x)
 
 -- the answer of place i to a packet, and what it leaves of the place
 abbrev pub stepIn : List ℕ → ℕ → Packet → Answer Stepped
-stepIn state i p = reply (stepping (placeIn state i .run) p)
+stepIn state i p = reply (stepping (placeIn state i .group) p)
 
 abbrev pub placeLeft : List ℕ → ℕ → Answer Stepped → List ℕ
-placeLeft state i a = leaves (λ y s. placeStored s i (record { run = y .run })) a state
+placeLeft state i a = leaves (λ y s. placeStored s i (record { group = y .group })) a state
 
 -- frames fed one after the other
 unfoldable pub afterIn : List ℕ → List ℕ → List Content → List ℕ

@@ -12,6 +12,7 @@ use epochs::Happened;
 use epochs::Place;
 use epochs::Recognised;
 use epochs::Report;
+use groups::Answered;
 use packets::Packet;
 use places::place_in;
 use places::put_place;
@@ -56,12 +57,17 @@ fn take(s: &mut [u8], i: usize, sender: u16, packet: Packet) -> Happened
     ensures { λ _. ⌜ now (s .exit) ≡ placeLeft (now (s .entry)) i (stepIn (now (s .entry)) i packet) ⌝ }
 {
     let place = place_in(s, i);
-    let before = place.run;
-    let next = runs::step(before, packet);
-    let run = next.run;
-    put_place(s, i, Place { run });
-    let ended = next.ended;
-    epochs::outcome(sender, packet, ended)
+    let before = place.group;
+    let step = groups::step(before, packet);
+    match step {
+        Answered::Refused(number) => Happened::Refused(number),
+        Answered::To(next) => {
+            let group = next.group;
+            put_place(s, i, Place { group });
+            let ended = next.ended;
+            epochs::outcome(sender, packet, ended)
+        }
+    }
 }
 
 fn put_report(buf: &mut [u8], e: Report)
@@ -90,7 +96,7 @@ fn put_happened(buf: &mut [u8], happened: Happened) -> u8
     }
 }
 
-// 32 where state or report is too short, then 46, 22, 43, 44, 45; 0 taken; 1 an epoch, whose row is at the start of report.
+// 32 where state or report is too short, then 46, 22, 43, 44, 45, 47; 0 taken; 1 an epoch, whose row is at the start of report.
 pub fn feed(state: &mut [u8], kind: u16, sender: u16, payload: &[u8], report: &mut [u8]) -> u8
     ensures { λ r. ⌜ r ≡ fedIn (now (state .entry)) (record { kind = kind; sender = sender; payload = now (payload .entry) }) (now (report .entry)) .answer ⌝ }
     ensures { λ _. ⌜ now (state .exit) ≡ fedIn (now (state .entry)) (record { kind = kind; sender = sender; payload = now (payload .entry) }) (now (report .entry)) .state ⌝ }

@@ -8,15 +8,16 @@ use native.Mathlib.Omega.{arith}
 use lib.ListN.{length}
 use Rattle.frames.specs.Frame.{Content}
 use Rattle.epochs.specs.Collator.{fedFrame, made}
-use Rattle.epochs.specs.Epoch.{after, outcomes, EndsEpoch}
+use Rattle.epochs.specs.Epoch.{after, outcomes, EndsEpoch, BringsCopy}
 use Rattle.epochs.specs.declared.collating.Collator.{Collator}
 use Rattle.epochs.specs.declared.collating.Report.{Report}
 use Rattle.epochs.specs.declared.collating.Happened.{Happened}
 use Rattle.epochs.specs.declared.collating.Happened.the-variants as H
 use Rattle.epochs.proofs.Making.{seated}
 use Rattle.epochs.proofs.Collations.{epoch-outcome}
+use Rattle.epochs.proofs.Copies.{copy-outcome}
 use Rattle.places.specs.State.{stateSize, stateIn}
-use Rattle.states.specs.Feed.{reportSize, fedIn, afterIn, madeStored}
+use Rattle.states.specs.Feed.{reportSize, happenedNumber, fedIn, afterIn, madeStored}
 use Rattle.told.specs.Told.{AsSent, Sent, told, toldIn, Filled}
 use Rattle.states.proofs.Feeds.{feeds}
 use Rattle.states.proofs.Makes.{makes, length-made}
@@ -70,3 +71,17 @@ module _ (roster s report : List ℕ) (xs : List Content) (f : Filled roster s r
       = tells now x lent room (led .2) (sent .0) (sent .1) ∙ ap (λ (c : Collator). fedFrame c x .happened) stands in
       let there = epoch-outcome roster (seated roster (f .taken)) xs x e in
       (λ q. there .0 (sym own ∙ q), λ w. own ∙ there .1 w)
+
+  -- and 47 exactly where it is a copy
+  pub tells-copy : (x : Content) → AsSent x → (lent : List ℕ) → reportSize ≤ length lent → (fedIn now x lent .answer ≡ 47) ↔ BringsCopy roster xs x
+  tells-copy x sent lent room =
+      let h = fedFrame (after (made roster .collator) xs) x .happened in
+      let own : fedIn now x lent .answer ≡ happenedNumber h
+      = feeds now x lent (led .2) room (sent .0) .answer ∙ ap (λ (c : Collator). happenedNumber (fedFrame c x .happened)) stands in
+      let there = copy-outcome roster (seated roster (f .taken)) xs x in
+      (λ q. there .0 (by h (sym own ∙ q)), λ w. own ∙ ap happenedNumber (there .1 w))
+    where
+      by : (h : Happened) → happenedNumber h ≡ 47 → h ≡ H.Refused 47
+      by (H.Refused n) e = ap (λ (n : ℕ). H.Refused n) e
+      by H.Taken e = absurd (omega (arith, e))
+      by (H.Epoch r) e = absurd (omega (arith, e))

@@ -42,7 +42,7 @@ refused-from c x {n} = by (reply (feeding c x)) refl
     by : (a : Answer Move) → reply (feeding c x) ≡ a → moved c a .happened ≡ H.Refused n → 2 ≤ n
     by (refused m) q e =
         let same : m ≡ n = cc in
-        let from = first-from 22 (feeding c x .tests) (omega arith, (omega arith, (omega arith, (omega arith, (omega arith, tt))))) (exactly-first (feeding c x .value) (feeding c x .tests) m .0 q) in
+        let from = first-from 22 (feeding c x .tests) (omega arith, (omega arith, (omega arith, (omega arith, (omega arith, (omega arith, tt)))))) (exactly-first (feeding c x .value) (feeding c x .tests) m .0 q) in
         omega (arith, from)
     by (given m) q e = absurd (never-refuses c x q e)
 

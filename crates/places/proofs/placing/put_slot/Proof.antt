@@ -17,7 +17,7 @@ returns c =
     let called = k1 .before .before in
     let a = called .before .before .args in
     put-from slot (called .slot-at .ensures) (a .slot) (a .s .now)
-    (then _ _ _ (then _ _ _ (then _ _ _ (then _ _ _ (then _ _ _ (k1 .store-u8 .ensures) (k2 .store-u32 .ensures)) (k3 .store-u16 .ensures)) (k4 .store-u82 .ensures)) (k5 .store-u83 .ensures)) (k6 .store-u162 .ensures))
+    (then _ _ _ (then _ _ _ (then _ _ _ (then _ _ _ (then _ _ _ (k1 .store-u8 .ensures) (k2 .store-u32 .ensures)) (k3 .store-u16 .ensures)) (k4 .store-u82 .ensures)) (k5 .store-u162 .ensures)) (k6 .store-u163 .ensures))
 
 pub put-slot-spec : {M : Type 1} → statement M
 put-slot-spec =

@@ -13,8 +13,8 @@ returns c =
       tow = c .before .before .before .before .read-u32 .ensures i;
       wn = c .before .before .before .read-u16 .ensures i;
       n = c .before .before .read-u82 .ensures i;
-      next = c .before .read-u83 .ensures i;
-      total = c .read-u162 .ensures i;
+      come = c .before .read-u162 .ensures i;
+      total = c .read-u163 .ensures i;
     }
 
 pub slot-in-spec : {M : Type 1} → statement M

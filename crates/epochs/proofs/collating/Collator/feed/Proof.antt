@@ -4,9 +4,10 @@ use Prim.Native.Nat.{_<_}
 use native.Mathlib.Omega.{arith}
 use lib.ListN.{length, length-take}
 use Rattle.refusals.specs.Refusals.{given}
+use Rattle.groups.specs.Group.{stepAnswer}
 use Rattle.epochs.specs.Collator.{recognisedAnswer, forPlace, rosterOf}
 use Rattle.epochs.proofs.Placings.{placed-below}
-use Rattle.epochs.proofs.Feeding.{fed-refused, fed-taken}
+use Rattle.epochs.proofs.Feeding.{movedBy, fed-refused, fed-for, fed-taken}
 use borrow.Author.Needs.{needs}
 use Rattle.epochs.proofs.collating.Collator.feed.Statement.{statement}
 use Rattle.epochs.proofs.collating.Collator.feed.Tie as tie
@@ -29,11 +30,11 @@ mul-place c = omega (arith, within c)
 element-copy-out-place : tie.Need-element-copy-out-place
 element-copy-out-place c = within c
 
-mul-t20 : tie.Need-mul-t20
-mul-t20 c = omega (arith, within (c .before .before))
+mul-t30 : tie.Need-mul-t30
+mul-t30 c = omega (arith, within (c .before .before .before .before .before))
 
 element-set-from-self : tie.Need-element-set-from-self
-element-set-from-self c = within (c .before .before)
+element-set-from-self c = within (c .before .before .before .before .before)
 
 returns : tie.Need-returns
 returns c =
@@ -42,8 +43,19 @@ returns c =
 
 returns-2 : tie.Need-returns-2
 returns-2 c =
-    let a = c .before .before .before .before .before .before .before .before .before .args in
-    fed-taken (a .t1) (record { kind = a .kind; sender = a .sender; payload = a .payload .now }) (for (c .before .before .before)) (ap given (c .before .step .ensures)) (c .outcome .ensures)
+    let met = c .before .before .before .before .before in
+    let a = met .before .before .before .before .before .before .args in
+    ap (movedBy (a .t1) (a .sender) (met .before .found2 .given .0 .0) (met .before .found2 .given .0 .1 .0))
+    (ap stepAnswer (sym (c .before .step2 .given .1)) ∙ c .before .before .before .step .ensures)
+    ∙ sym (fed-for (a .t1) (record { kind = a .kind; sender = a .sender; payload = a .payload .now }) (for met))
+
+returns-3 : tie.Need-returns-3
+returns-3 c =
+    let told = c .before in
+    let met = told .before .before .before .before .before in
+    let a = met .before .before .before .before .before .before .args in
+    fed-taken (a .t1) (record { kind = a .kind; sender = a .sender; payload = a .payload .now }) (for met)
+    (ap stepAnswer (sym (told .before .step3 .given .1)) ∙ told .before .before .before .step .ensures) (c .outcome .ensures)
 
 pub feed-spec : {M : Type 1} → statement M
 feed-spec =
@@ -55,8 +67,11 @@ feed-spec =
     mul-place
     element-copy-out-place
     (λ c κs. tt)
-    mul-t20
+    (λ c. search needs)
+    (λ c. search needs)
+    mul-t30
     element-set-from-self
     (λ c κs. tt)
     returns
-    returns-2)
+    returns-2
+    returns-3)

@@ -1,0 +1,10 @@
+pub mod Answers
+pub mod AnyOrder
+pub mod Gathered
+pub mod LeftAlike
+pub mod Shifts
+pub mod StepCases
+pub mod Summaries
+pub mod Weighed
+pub mod WholeGroups
+pub mod Words

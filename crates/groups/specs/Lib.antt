@@ -1,0 +1,3 @@
+pub mod InWords
+pub mod Group
+pub mod AnyOrder
