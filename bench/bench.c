@@ -100,7 +100,7 @@ static void twins_reading(void) {
 static void rusts_reading(void) { rust_closed(capture, length, told); }
 static void sliced_reading(void) { rust_closed_sliced(capture, length, told); }
 
-/* Frames of a clean capture, one after the other: the epochs, and sums of all answers and of what the epochs say. */
+/* Frames of a capture without noise, one after the other: the epochs, and sums of all answers and of what the epochs say. */
 static void our_feeding(void) {
     const uint16_t roster[] = {1228, 0};
     uint8_t state[SBP_STATE], report[SBP_REPORT];
@@ -295,6 +295,10 @@ static void readings(const char *by_frame, const char *in_one, int rounds) {
     timed(in_one, rounds, 1, length, (const side[SIDES]){our_totals, twins_reading, rusts_reading, sliced_reading});
 }
 
+static void feeding(const char *name, int rounds) {
+    timed(name, rounds, 1, length, (const side[SIDES]){our_feeding, twins_feeding, rusts_feeding, NULL});
+}
+
 static void reading_rows(const char *name, int rounds) {
     same_rows();
     timed(name, rounds, 1, length, (const side[SIDES]){our_rows, twins_rows, rusts_rows, NULL});
@@ -315,7 +319,10 @@ int main(int argc, char **argv) {
     clean(most);
     timed("CRC of a long buffer", rounds, 1, length, (const side[SIDES]){our_crc, twins_crc, rusts_crc, sliced_crc});
     readings("closed reading, clean, frame by frame", "closed reading, clean, in one call", rounds);
-    timed("feeding epochs", rounds, 1, length, (const side[SIDES]){our_feeding, twins_feeding, rusts_feeding, NULL});
+    feeding("feeding epochs", rounds);
+    overtaken(most);
+    feeding("feeding epochs, out of order", rounds);
+    clean(most);
     time_indexing(rounds);
     texts(most);
     reading_rows("rows read of LOG, 80 bytes of text", rounds);

@@ -1,5 +1,6 @@
 #include "captures.h"
 
+#include <stdbool.h>
 #include <string.h>
 
 #include "twin.h"
@@ -41,19 +42,45 @@ static size_t put_frame(size_t at, uint16_t kind, uint16_t sender, uint8_t size,
     return at + size + 8;
 }
 
-void clean(size_t most) {
+/* The n_obs of an epoch's packets as they come; gives how many. */
+static size_t put_packets(uint8_t *packets, uint8_t n, bool overtaking) {
+    size_t count = 0;
+    while (count < n) {
+        packets[count] = (uint8_t)(n << 4 | count);
+        count++;
+    }
+    if (overtaking && any() % 8 == 0) {
+        packets[count++] = packets[any() % n];
+    }
+    for (size_t left = count; overtaking && left > 1; left--) {
+        size_t at = any() % left;
+        uint8_t last = packets[left - 1];
+        packets[left - 1] = packets[at];
+        packets[at] = last;
+    }
+    return count;
+}
+
+static void put_epochs(size_t most, bool overtaking) {
     length = 0;
     for (uint32_t tow = 0; length + 2000 < most; tow += 100) {
-        for (uint8_t i = 0; i < 3; i++) {
-            length = put_frame(length, 0x0049, 1228, 7 + 16 * 10, (uint8_t)(0x30 + i), tow);
-            if (i < 2) {
-                length = put_frame(length, 0x0049, 0, 7 + 16 * 8, (uint8_t)(0x20 + i), tow);
+        uint8_t base[4], rover[3];
+        size_t of_base = put_packets(base, 3, overtaking), of_rover = put_packets(rover, 2, overtaking);
+        for (size_t i = 0; i < of_base || i < of_rover; i++) {
+            if (i < of_base) {
+                length = put_frame(length, 0x0049, 1228, 7 + 16 * 10, base[i], tow);
+            }
+            if (i < of_rover) {
+                length = put_frame(length, 0x0049, 0, 7 + 16 * 8, rover[i], tow);
             }
         }
         length = put_frame(length, 0x0201, 0, 34, 0, tow);
         length = put_frame(length, 0xFFFF, 1228, 4, 0, tow);
     }
 }
+
+void clean(size_t most) { put_epochs(most, false); }
+void overtaken(size_t most) { put_epochs(most, true); }
 
 void mixed(size_t most) {
     static const struct {

@@ -12,6 +12,8 @@ extern size_t length;
 
 /* Epochs of a base and a rover, packet by packet, with positions between. */
 void clean(size_t most);
+/* The same with the packets of each epoch in any order, and in one epoch of eight a packet twice. */
+void overtaken(size_t most);
 /* Every kind of message by turns, all readable: ns and fix mode are 0, and four zeros pad the text of LOG. */
 void mixed(size_t most);
 /* LOGs of 80 bytes of text, with the same padding. */

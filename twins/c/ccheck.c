@@ -1,7 +1,7 @@
 /* Checks what clist and cindex do not show: the published CRC values, that a
  * message's fields fill its length, a LOG longer than any frame's, the
- * collator's making and refusals, an index's refusals, the counts of closed
- * reading, and who a frame goes out as. */
+ * collator's making, answers and refusals, an index's refusals, the counts of
+ * closed reading, and who a frame goes out as. */
 #include "fast.h"
 
 #include <stdbool.h>
@@ -181,7 +181,7 @@ static void check_senders(void)
 }
 
 /* Two recorders by turns on one line, with packets of one time: as one sender's
- * they would be no epochs of two. */
+ * they would be one epoch and copies. */
 static void check_recorders(void)
 {
     static char text[SBP_LIST_MAX];
@@ -204,6 +204,201 @@ static void check_recorders(void)
           "two recorders told apart");
 }
 
+/* ---- epochs, of a collator for senders 0, 65535 and 5 */
+
+static struct sbp_collator collator;
+static struct sbp_epoch reported;
+
+static void make_collator(void)
+{
+    static const uint16_t roster[3] = {0, 65535, 5};
+    check(sbp_collator_make(&collator, roster, 3) == 0, "roster");
+}
+
+/* A packet of wn 2. */
+static int feed(uint16_t sender, unsigned tow, unsigned n, unsigned i,
+                unsigned k)
+{
+    const uint8_t p[247] = {(uint8_t)tow, 0, 0, 0, 2, 0, (uint8_t)(n << 4 | i)};
+    return sbp_feed(&collator, 0x0049, sender, p, 7 + 16 * k, &reported);
+}
+
+static void check_reported(unsigned sender, unsigned tow, unsigned n,
+                           unsigned observations, const char *what)
+{
+    check(reported.sender == sender && reported.wn == 2 &&
+              reported.tow == tow && reported.n == n &&
+              reported.observations == observations,
+          what);
+}
+
+/* How many orders n packets have. */
+static unsigned orders(unsigned n)
+{
+    return n == 0 ? 1 : n * orders(n - 1);
+}
+
+/* The order of that number: each counter goes to one of the places there are
+ * when it is put in. */
+static void put_order(unsigned number, unsigned n, uint8_t *order)
+{
+    for (unsigned i = 0; i < n; i++) {
+        unsigned at = number % (i + 1);
+        number /= i + 1;
+        memmove(order + at + 1, order + at, i - at);
+        order[at] = (uint8_t)i;
+    }
+}
+
+/* The packets of sender 5 from one place of an order to another, of which
+ * counter i has i + 1 observations; none of them ends the epoch. */
+static void feed_part(unsigned n, const uint8_t *order, unsigned from,
+                      unsigned to)
+{
+    for (unsigned at = from; at < to; at++)
+        check(feed(5, 1, n, order[at], order[at] + 1u) == SBP_TAKEN, "taken");
+}
+
+static void feed_last(unsigned n, const uint8_t *order)
+{
+    unsigned last = order[n - 1];
+    check(feed(5, 1, n, last, last + 1) == SBP_EPOCH, "all have come");
+    check_reported(5, 1, n, n * (n + 1) / 2, "each counted once");
+}
+
+/* A copy of the packet at one place, with other observations, before the packet
+ * at another. */
+static void check_copy(unsigned n, const uint8_t *order, unsigned place,
+                       unsigned before)
+{
+    feed_part(n, order, 0, before);
+    check(feed(5, 1, n, order[place], 15) == 47, "a copy's 47");
+    feed_part(n, order, before, n - 1);
+    feed_last(n, order);
+}
+
+/* After the report it opens an epoch of its own, which the others end. */
+static void check_late_copy(unsigned n, const uint8_t *order, unsigned place)
+{
+    unsigned left = n - 1;
+    feed_part(n, order, 0, n - 1);
+    feed_last(n, order);
+    check(feed(5, 1, n, order[place], 15) == SBP_TAKEN, "a late copy");
+    for (unsigned at = 0; at < n; at++)
+        if (at != place)
+            check(feed(5, 1, n, order[at], 0) ==
+                      (--left > 0 ? SBP_TAKEN : SBP_EPOCH),
+                  "the others again");
+    check_reported(5, 1, n, 15, "an epoch of its own");
+}
+
+static void check_orders(void)
+{
+    make_collator();
+    for (unsigned n = 1; n <= 4; n++)
+        for (unsigned number = 0; number < orders(n); number++) {
+            uint8_t order[4];
+            put_order(number, n, order);
+            feed_part(n, order, 0, n - 1);
+            feed_last(n, order);
+            for (unsigned place = 0; n > 1 && place < n; place++) {
+                for (unsigned before = place + 1; before < n; before++)
+                    check_copy(n, order, place, before);
+                check_late_copy(n, order, place);
+            }
+        }
+}
+
+static void check_longest(void)
+{
+    make_collator();
+    for (unsigned i = 14; i > 0; i--) {
+        check(feed(5, 1, 15, i, 15) == SBP_TAKEN, "15 backwards");
+        check(feed(5, 1, 15, i, 15) == 47, "15 backwards, a copy");
+    }
+    check(feed(5, 1, 15, 0, 15) == SBP_EPOCH, "15 backwards, the last");
+    check_reported(5, 1, 15, 225, "15 backwards, whole");
+}
+
+/* A packet of another tow, wn or n drops the two that had come, and the one that
+ * was missing opens an epoch. */
+static void check_other_keys(void)
+{
+    for (unsigned field = 0; field < 7; field++) {
+        make_collator();
+        uint8_t p[7] = {1, 0, 0, 0, 2, 0, 0x30};
+        check(feed(5, 1, 3, 0, 1) == SBP_TAKEN, "open");
+        check(feed(5, 1, 3, 2, 1) == SBP_TAKEN, "open, the second");
+        p[field] ^= field < 6 ? 0x80 : 0x70; /* n becomes 4 */
+        check(sbp_feed(&collator, 0x0049, 5, p, 7, &reported) == SBP_TAKEN,
+              "another key");
+        check(feed(5, 1, 3, 1, 1) == SBP_TAKEN, "and back");
+        check(feed(5, 1, 3, 2, 2) == SBP_TAKEN, "again");
+        check(feed(5, 1, 3, 0, 4) == SBP_EPOCH, "again, the last");
+        check_reported(5, 1, 3, 7, "nothing of what was dropped");
+    }
+    /* An epoch of one packet drops too, and is one each time. */
+    check(feed(5, 1, 2, 1, 1) == SBP_TAKEN, "open");
+    check(feed(5, 1, 1, 0, 3) == SBP_EPOCH, "n of 1");
+    check(feed(5, 1, 1, 0, 3) == SBP_EPOCH, "n of 1 again");
+    check_reported(5, 1, 1, 3, "n of 1, whole");
+    check(feed(5, 1, 2, 0, 1) == SBP_TAKEN, "dropped by n of 1");
+}
+
+/* The refusals in their order, each with the faults that come after it, between
+ * any two packets of an epoch: nothing changes. */
+static void check_refusals(void)
+{
+    const uint8_t zeros[7] = {0};
+    make_collator();
+    for (unsigned i = 3; i-- > 0;) {
+        struct sbp_collator before;
+        memcpy(&before, &collator, sizeof before);
+        check(sbp_feed(&collator, 0x0048, 6, zeros, 6, &reported) == 46, "46");
+        check(sbp_feed(&collator, 0x0049, 6, zeros, 6, &reported) == 22, "22");
+        check(sbp_feed(&collator, 0x0049, 6, zeros, 7, &reported) == 43, "43");
+        check(feed(5, 1, 0, i, 0) == 44, "44");
+        check(feed(5, 1, 3, 3 + i, 0) == 45, "45");
+        if (i < 2)
+            check(feed(5, 1, 3, 2, 15) == 47, "47");
+        check(memcmp(&before, &collator, sizeof before) == 0, "untouched");
+        check(feed(5, 1, 3, i, 1) == (i > 0 ? SBP_TAKEN : SBP_EPOCH),
+              "whole all the same");
+    }
+    check_reported(5, 1, 3, 3, "nothing refused is counted");
+}
+
+/* Packets of one time, in every way that two senders can take turns. */
+static void check_turns(void)
+{
+    static const uint16_t senders[2] = {0, 65535};
+    static const unsigned packets[2] = {3, 2};
+    for (unsigned turns = 0; turns < 32; turns++) {
+        unsigned left[2] = {3, 2};
+        make_collator();
+        for (unsigned bit = 0; bit < 5; bit++) {
+            unsigned who = turns >> bit & 1;
+            if (left[who] == 0)
+                who = 1 - who;
+            unsigned n = packets[who], i = --left[who];
+            check(feed(senders[who], 1, n, i, n) ==
+                      (i > 0 ? SBP_TAKEN : SBP_EPOCH),
+                  "by turns");
+            if (i == 0)
+                check_reported(senders[who], 1, n, n * n, "its own");
+        }
+    }
+}
+
+static void check_rosters(void)
+{
+    const uint16_t nine[9] = {1, 1, 1, 1, 1, 1, 1, 1, 1};
+    const uint16_t twice[2] = {0, 0};
+    check(sbp_collator_make(&collator, twice, 0) == 41, "empty roster");
+    check(sbp_collator_make(&collator, nine, 9) == 41, "long roster");
+    check(sbp_collator_make(&collator, twice, 2) == 42, "sender twice");
+}
+
 int main(void)
 {
     check_lengths();
@@ -211,6 +406,12 @@ int main(void)
     check_index();
     check_senders();
     check_recorders();
+    check_rosters();
+    check_orders();
+    check_longest();
+    check_other_keys();
+    check_refusals();
+    check_turns();
 
     /* A letter after zeros. */
     uint8_t log[256] = {0};
@@ -218,32 +419,6 @@ int main(void)
     check(sbp_answer(0x0401, log, 254) == 0, "LOG of zeros");
     check(sbp_answer(0x0401, log, 255) == 23, "LOG's 23");
     check(sbp_answer(0x0401, log, 256) == 22, "LOG's 22 before 23");
-
-    struct sbp_collator c;
-    struct sbp_epoch e;
-    const uint16_t nine_senders[9] = {1, 1, 1, 1, 1, 1, 1, 1, 1};
-    const uint16_t twice[2] = {0, 0};
-    const uint16_t two[2] = {0, 65535};
-    check(sbp_collator_make(&c, two, 0) == 41, "empty roster");
-    check(sbp_collator_make(&c, nine_senders, 9) == 41, "long roster");
-    check(sbp_collator_make(&c, twice, 2) == 42, "sender twice");
-    check(sbp_collator_make(&c, two, 2) == 0, "roster");
-
-    uint8_t p[23] = {1, 0, 0, 0, 2, 0, 0x20};
-    check(sbp_feed(&c, 0x0048, 5, p, 6, &e) == 46, "46");
-    check(sbp_feed(&c, 0x0049, 5, p, 6, &e) == 22, "22");
-    check(sbp_feed(&c, 0x0049, 5, p, 7, &e) == 43, "43");
-    check(sbp_feed(&c, 0x0049, 65535, p, 23, &e) == SBP_TAKEN, "begun");
-    p[6] = 0x00;
-    check(sbp_feed(&c, 0x0049, 65535, p, 7, &e) == 44, "44");
-    p[6] = 0x22;
-    check(sbp_feed(&c, 0x0049, 65535, p, 7, &e) == 45, "45");
-    p[6] = 0x21;
-    check(sbp_feed(&c, 0x0049, 0, p, 7, &e) == SBP_TAKEN, "idle");
-    check(sbp_feed(&c, 0x0049, 65535, p, 23, &e) == SBP_EPOCH, "epoch");
-    check(e.sender == 65535 && e.wn == 2 && e.tow == 1 && e.n == 2 &&
-              e.observations == 2,
-          "epoch's fields");
 
     const uint8_t five[5] = {0x55, 0, 0, 0, 0};
     const uint8_t eight[8] = {0x55, 0, 0, 0, 0, 0, 0, 0};

@@ -204,23 +204,23 @@ int sbp_feed(struct sbp_collator *collator, uint16_t type, uint16_t sender,
     struct sbp_place *place = &collator->places[at];
     uint32_t tow = get32(payload);
     uint16_t wn = get16(payload + 4);
-    uint8_t k = (uint8_t)(length / 16);
-    if (i == 0) {
-        /* Counter 0 begins a run, whatever was open. */
+    uint16_t bit = (uint16_t)(1u << i), all = (uint16_t)((1u << n) - 1);
+    if (place->come == 0 || place->tow != tow || place->wn != wn ||
+        place->n != n) {
+        /* What was open is dropped. */
         place->tow = tow;
         place->wn = wn;
         place->n = n;
+        place->come = 0;
         place->observations = 0;
-    } else if (place->next != i || place->tow != tow || place->wn != wn ||
-               place->n != n) {
-        place->next = 0;
-        return SBP_TAKEN;
     }
-    place->next = (uint8_t)(i + 1);
-    place->observations = (uint8_t)(place->observations + k);
-    if (place->next < n)
+    if (place->come & bit)
+        return 47;
+    place->come |= bit;
+    place->observations = (uint8_t)(place->observations + length / 16);
+    if (place->come != all)
         return SBP_TAKEN;
-    place->next = 0;
+    place->come = 0;
     epoch->sender = sender;
     epoch->wn = wn;
     epoch->tow = tow;

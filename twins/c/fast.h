@@ -1,6 +1,6 @@
 /* SBP 1.1 frames (document 003) under the rules of document 01 and of requests
- * P1 to P3: CRC, closed reading, epochs, and the listing of a capture. No
- * memory is allocated. */
+ * P1 to P3 and P7: CRC, closed reading, epochs, and the listing of a capture.
+ * No memory is allocated. */
 #ifndef FAST_H
 #define FAST_H
 
@@ -23,13 +23,13 @@ struct sbp_counts {
     size_t short_;
 };
 
-/* A listed sender's place: next 0 is idle, else counters 0 .. next - 1 have
- * come, all with this tow, wn and n. */
+/* A listed sender's place: come has a bit for each counter that has come, all
+ * with this tow, wn and n; none is idle. */
 struct sbp_place {
     uint32_t tow;
     uint16_t wn;
+    uint16_t come;
     uint8_t n;
-    uint8_t next;
     uint8_t observations;
 };
 
@@ -64,7 +64,7 @@ int sbp_answer(uint16_t type, const uint8_t *payload, size_t length);
 int sbp_collator_make(struct sbp_collator *collator, const uint16_t *roster,
                       size_t count);
 
-/* SBP_TAKEN, or SBP_EPOCH with *epoch filled, or 46, 22, 43, 44, 45 with
+/* SBP_TAKEN, or SBP_EPOCH with *epoch filled, or 46, 22, 43, 44, 45, 47 with
  * nothing changed. */
 int sbp_feed(struct sbp_collator *collator, uint16_t type, uint16_t sender,
              const uint8_t *payload, size_t length, struct sbp_epoch *epoch);

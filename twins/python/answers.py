@@ -7,6 +7,7 @@ usage: answers.py > crates/vectors/stdout
        answers.py --asked
 """
 import binascii
+import itertools
 import struct
 import sys
 
@@ -325,12 +326,15 @@ def fed(name, sorter, *packets):
     return name + "".join(sorter.feed(OBS, sender, obs(*packet)) for sender, *packet in packets)
 
 
+def in_a_row(*packets):
+    return b"".join(frame(OBS, sender, obs(*packet)) for sender, *packet in packets)
+
+
 def two_captures():
     """The same frames for each sender, in order and shuffled between senders, with noise and an unlisted sender; and the epochs of both."""
     base = (1228, 10, 1900, 0x20, 1), (1228, 10, 1900, 0x21, 2), (1228, 20, 1900, 0x10, 3)
     rover = (0, 10, 1900, 0x20, 2), (0, 10, 1900, 0x21, 1), (0, 20, 1900, 0x20, 1)
     stranger = 77, 10, 1900, 0x21, 1
-    in_a_row = lambda *packets: b"".join(frame(OBS, sender, obs(*packet)) for sender, *packet in packets)
     yield "ordered", epochs_in(in_a_row(*base, *rover))
     yield "shuffled", epochs_in(bytes(3) + in_a_row(rover[0], base[0], stranger, base[1]) + bytes(5) + in_a_row(*rover[1:], base[2]))
 
@@ -355,7 +359,7 @@ def collated():
     c, zeros = Sorter(*three), obs(1, 2, 0, 1)
     yield (fed("refusals", c, (0, 5, 6, 0x20, 1)) + c.feed(0x004A, 9, zeros[:8]) + c.feed(OBS, 9, zeros[:8]) + c.feed(OBS, 9, zeros[:7])
            + c.feed(OBS, 0, zeros[:7]) + fed("", c, (0, 5, 6, 0x12, 1), (1228, 5, 6, 0x21, 1), (0, 5, 6, 0x21, 2)))
-    c = Sorter(*three)
+    c = Sorter(*three)  # it goes on from one line to the next
     yield fed("repeated", c, (0, 5, 6, 0x30, 1), (0, 5, 6, 0x31, 1), (0, 5, 6, 0x31, 1), (0, 5, 6, 0x32, 1))
     yield fed("begun-again", c, (0, 5, 6, 0x30, 1), (0, 5, 6, 0x31, 1), (0, 5, 6, 0x30, 4), (0, 5, 6, 0x31, 5), (0, 5, 6, 0x32, 6), (0, 5, 6, 0x32, 6))
     yield fed("other-week", c, (0, 5, 6, 0x20, 1), (0, 5, 7, 0x21, 1), (0, 5, 6, 0x21, 1))
@@ -372,6 +376,99 @@ def collated():
     yield "ticket %d %d" % (outcome.count(" epoch 1228 "), outcome.count(" epoch 0 "))
     for name, epochs in two_captures():
         yield name + "".join(epochs)
+
+
+def packet(n, i, count, sender=0):
+    return sender, 5, 6, 16 * n + i, count
+
+
+def orders(*sizes):
+    """The counters of so many packets in every order."""
+    return [order for n in sizes for order in itertools.permutations(range(n))]
+
+
+def copied(order):
+    """Packets in that order, packet i with 2^i observations; before each come copies of all before it, with more."""
+    n = len(order)
+    for place, i in enumerate(order):
+        yield from (packet(n, j, 15) for j in order[:place])
+        yield packet(n, i, 2**i)
+
+
+# like the first packet of three, each but for one thing, for which it is refused: the type, the length, the sender, n, the counter
+REFUSED = (
+    (0x004A, 0, obs(5, 6, 0x30, 1)), (OBS, 0, obs(5, 6, 0x30, 1) + b"\0"), (OBS, 9, obs(5, 6, 0x30, 1)), (OBS, 0, obs(5, 6, 0x00, 1)),
+    (OBS, 0, obs(5, 6, 0x33, 1)))
+
+
+def refused_after(c, order):
+    """What is said of three packets in that order, and of the frames that are refused after each of them."""
+    return "".join(fed("", c, packet(3, i, 2**i)) + "".join(c.feed(*one) for one in REFUSED) for i in order)
+
+
+def between():
+    """Of an epoch of three some packets; some of another; those of the first that are missing, and the others again."""
+    for tow, wn, n in (4, 6, 3), (5, 7, 3), (5, 6, 2), (5, 6, 1):
+        for came, others in itertools.product((1, 2), range(1, n + 1)):
+            whole = [packet(3, i, 2**i) for i in range(3)]
+            other = [(0, tow, wn, 16 * n + i, 9) for i in range(others)]
+            yield "between %d %d %d %d %d" % (tow, wn, n, came, others), whole[:came] + other + whole[came:] + whole[:came]
+
+
+def late():
+    """After an epoch one of its packets comes twice more, and then the others."""
+    for n in range(1, 5):
+        for i in range(n):
+            whole = [packet(n, k, 2**k) for k in range(n)]
+            yield "late %d %d" % (n, i), whole + [packet(n, i, 15)] * 2 + whole[:i] + whole[i + 1:]
+
+
+def queued(tow):
+    """An epoch of the base and one of the rover, a stranger's packet and a refused one: some go through one queue, some through the other, and the
+    bits of the time say from which of them the next one comes."""
+    queues = [(1228, 0x30, 12), (77, 0x20, 9), (0, 0x20, 9), (1228, 0x32, 1)], [(0, 0x00, 1), (1228, 0x31, 12), (0, 0x21, 4)]
+    for bit in range(7):
+        turn = tow >> bit & 1
+        sender, n_obs, count = (queues[turn] or queues[1 - turn]).pop(0)
+        yield sender, tow, 1900, n_obs, count
+
+
+def two_queues(epochs):
+    """Such epochs as a capture."""
+    return in_a_row(*(packet for tow in range(epochs) for packet in queued(tow)))
+
+
+def every_order():
+    """A capture of one to four packets in every order, with their copies."""
+    return in_a_row(*(packet for order in orders(1, 2, 3, 4) for packet in copied(order)))
+
+
+def numbered(name, order):
+    return name + "".join(" %d" % i for i in order)
+
+
+def out_of_order():
+    """P7: packets that overtake each other, and that come twice. Each collator goes on from one line to the next."""
+    c = Sorter(0)
+    for order in orders(1, 2, 3, 4):
+        yield fed(numbered("order", order), c, *(packet(len(order), i, 2**i) for i in order))
+    for order in orders(1, 2, 3, 4):
+        yield fed(numbered("copied", order), c, *copied(order))
+    for name, packets in (*late(), *between()):
+        yield fed(name, c, *packets)
+    for order in orders(3):
+        yield numbered("refused", order) + refused_after(c, order)
+    c = Sorter(0, 1228)
+    for order in orders(4):  # 0 and 1 are the packets of the one sender, 2 and 3 those of the other
+        yield fed(numbered("overtaking", order), c, *(packet(2, i % 2, 2**i, (0, 1228)[i // 2]) for i in order))
+    for n in range(1, 16):
+        yield fed("backwards %d" % n, c, *(packet(n, i, 15) for i in reversed(range(n))))
+    for n in range(1, 16):
+        yield fed("twice %d" % n, c, *(packet(n, i, count) for i in range(n) for count in (2, 3)))
+    c, epochs = Sorter(1228, 0, 65535), 400
+    for tow in range(epochs):
+        yield fed("queues %d" % tow, c, *queued(tow))
+    yield "two-queues %d %d" % (epochs, epochs)  # all of the base's and all of the rover's
 
 
 def indexed_capture():
@@ -465,7 +562,7 @@ def lines():
 
 def asked():
     """What tests/values prints: the published values again, and all that the linked functions can be asked."""
-    for part in published, sums, captures, written, senders, each, orbits, flags, observations, logs, types, collated, indexed:
+    for part in published, sums, captures, written, senders, each, orbits, flags, observations, logs, types, collated, out_of_order, indexed:
         yield from part()
 
 

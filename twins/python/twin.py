@@ -1,5 +1,5 @@
-"""A twin in Python, by the words of documents 01 and 003 and of requests P1, P2, P5 and P6, with Python's own codecs: frames, who sends them, payload
-answers, flags, epochs, the listing, an index beside a capture.
+"""A twin in Python, by the words of documents 01 and 003 and of requests P1, P2 and P5 to P7, with Python's own codecs: frames, who sends them,
+payload answers, flags, epochs, the listing, an index beside a capture.
 
 It has none of our code and looks at none.
 """
@@ -158,39 +158,54 @@ def made(roster):
 
 
 class Sorter:
-    """Document 01's epochs by their meaning: the well-formed frames of each listed sender, and whether the last n of them are one."""
+    """P7's epochs by their meaning: the well-formed frames of each listed sender in groups, and whether the last group is whole. A group has a key and
+    the packets that came, by their counters; a new one begins with the first frame, after a whole group, and where the key differs."""
 
     def __init__(self, *roster):
-        self.own = {sender: [] for sender in roster}
+        self.groups = {sender: [] for sender in roster}
 
     def feed(self, kind, sender, payload):
         if kind != OBS:
             return " refused 46"
         if not is_obs(len(payload)):
             return " refused 22"
-        if sender not in self.own:
+        if sender not in self.groups:
             return " refused 43"
         tow, wn, n_obs = struct.unpack_from("<IHB", payload)
         n, i = divmod(n_obs, 16)
         if not i < n:
             return " refused %d" % (45 if n else 44)
-        own = self.own[sender]
-        own.append((tow, wn, n, i, (len(payload) - 7) // 16))
-        run = own[-n:]
-        if [packet[:4] for packet in run] != [(tow, wn, n, k) for k in range(n)]:
+        packets = self.group(sender, (tow, wn, n))
+        if i in packets:
+            return " refused 47"
+        packets[i] = (len(payload) - 7) // 16
+        if set(packets) != set(range(n)):
             return " taken"
-        return " epoch %d %d %d %d %d" % (sender, wn, tow, n, sum(packet[4] for packet in run))
+        return " epoch %d %d %d %d %d" % (sender, wn, tow, n, sum(packets.values()))
+
+    def group(self, sender, key):
+        """The packets of the group that a frame with that key belongs to."""
+        groups = self.groups[sender]
+        if not groups or groups[-1][0] != key or set(groups[-1][1]) == set(range(key[2])):
+            groups.append((key, {}))
+        return groups[-1][1]
 
 
-def collated(data, most=None):
-    """Each frame with the numbers of the epoch that it ends, or None, and the counts; of the first so many senders."""
+def answered(data, most=None):
+    """Each frame with what a collator of the first so many senders says of it, a word and numbers, and the counts."""
     found, counts, _ = reading(data, False)
     senders = list(dict.fromkeys(sender for _, kind, sender, _ in found if kind == OBS))
     sorter, frames = Sorter(*senders[:most]), []
     for frame in found:
         word, *numbers = sorter.feed(*frame[1:]).split()
-        frames.append((frame, [int(n) for n in numbers] if word == "epoch" else None))
+        frames.append((frame, word, [int(n) for n in numbers]))
     return frames, counts
+
+
+def collated(data, most=None):
+    """Each frame with the numbers of the epoch that it ends, or None, and the counts; of the first so many senders."""
+    frames, counts = answered(data, most)
+    return [(frame, numbers if word == "epoch" else None) for frame, word, numbers in frames], counts
 
 
 def lines(data):

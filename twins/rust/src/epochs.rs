@@ -1,13 +1,17 @@
-//! Document 01's "Epochs": a collator for a roster of up to 8 senders.
+//! Document 01's "Epochs" as request P7 has them: a collator for a roster of up
+//! to 8 senders, whose packets may come in any order.
 
 use crate::messages::{observation_count, read_obs_header, OBS_TYPE};
 use crate::numbers::{
-    No, COUNTER_NOT_BELOW_N, NOT_OBS, NOT_ON_ROSTER, N_IS_ZERO, ROSTER_SIZE, ROSTER_TWICE,
+    No, COUNTER_AGAIN, COUNTER_NOT_BELOW_N, NOT_OBS, NOT_ON_ROSTER, N_IS_ZERO, ROSTER_SIZE,
+    ROSTER_TWICE,
 };
 
 pub const MAX_ROSTER: usize = 8;
+/// n is four bits.
+const MAX_PACKETS: usize = 15;
 
-/// A whole epoch, reported when its last frame is fed.
+/// A whole epoch, reported when the last of its frames to come is fed.
 #[derive(Clone, Copy, Debug, PartialEq, Eq)]
 pub struct Epoch {
     pub sender: u16,
@@ -18,24 +22,26 @@ pub struct Epoch {
     pub observations: usize,
 }
 
-/// One listed sender's place in the state.
+/// What the packets of an epoch share.
 #[derive(Clone, Copy, Debug, PartialEq, Eq)]
-enum Place {
-    Idle,
-    /// Counters 0 .. next - 1 have come, all with this tow, wn and n.
-    Open {
-        tow: u32,
-        wn: u16,
-        n: u8,
-        next: u8,
-        observations: usize,
-    },
+struct Key {
+    tow: u32,
+    wn: u16,
+    n: u8,
+}
+
+/// An epoch of which some packets have come, and some have not.
+#[derive(Clone, Copy, Debug, PartialEq, Eq)]
+struct Open {
+    key: Key,
+    /// By counter, how many observations came; None where no packet has come.
+    come: [Option<usize>; MAX_PACKETS],
 }
 
 #[derive(Clone, Debug, PartialEq, Eq)]
 pub struct Collator {
-    /// Each listed sender with its place.
-    listed: Vec<(u16, Place)>,
+    /// Each listed sender with its place, which is idle or has an open epoch.
+    listed: Vec<(u16, Option<Open>)>,
 }
 
 #[derive(Clone, Copy, Debug, PartialEq, Eq)]
@@ -64,7 +70,7 @@ impl Collator {
             }
         }
         Ok(Collator {
-            listed: roster.iter().map(|&sender| (sender, Place::Idle)).collect(),
+            listed: roster.iter().map(|&sender| (sender, None)).collect(),
         })
     }
 
@@ -78,7 +84,7 @@ impl Collator {
     pub fn enlist(mut self, msg_type: u16, sender: u16) -> Collator {
         let known = self.listed.iter().any(|&(listed, _)| listed == sender);
         if msg_type == OBS_TYPE && !known && self.listed.len() < MAX_ROSTER {
-            self.listed.push((sender, Place::Idle));
+            self.listed.push((sender, None));
         }
         self
     }
@@ -95,8 +101,8 @@ impl Collator {
         }
     }
 
-    /// 46, 22, 43, 44, 45 in that order, before anything changes: a refused
-    /// frame neither continues nor breaks a run.
+    /// 46, 22, 43, 44, 45, 47 in that order, before anything changes: a refused
+    /// frame is neither added nor drops what is open.
     fn try_feed(
         &mut self,
         msg_type: u16,
@@ -119,42 +125,41 @@ impl Collator {
         }
 
         let (tow, wn) = (header.tow, header.wn);
-        let observations = if counter == 0 {
-            // A counter of 0 begins a new run whatever was open.
-            k
-        } else {
-            match *place {
-                Place::Open {
-                    tow: open_tow,
-                    wn: open_wn,
-                    n: open_n,
-                    next,
-                    observations,
-                } if (open_tow, open_wn, open_n, next) == (tow, wn, n, counter) => observations + k,
-                _ => {
-                    *place = Place::Idle;
-                    return Ok(None);
-                }
-            }
-        };
-        let next = counter + 1;
-        if next == n {
-            *place = Place::Idle;
-            return Ok(Some(Epoch {
-                sender,
-                wn,
-                tow,
-                n,
-                observations,
-            }));
+        let key = Key { tow, wn, n };
+        // An epoch of another key is dropped.
+        let continued = place.filter(|open| open.key == key);
+        let mut open = continued.unwrap_or(Open::of(key));
+        let came = &mut open.come[usize::from(counter)];
+        if came.is_some() {
+            return Err(COUNTER_AGAIN);
         }
-        *place = Place::Open {
-            tow,
-            wn,
-            n,
-            next,
-            observations,
+        *came = Some(k);
+        let Some(observations) = open.observations() else {
+            *place = Some(open);
+            return Ok(None);
         };
-        Ok(None)
+        *place = None;
+        Ok(Some(Epoch {
+            sender,
+            wn,
+            tow,
+            n,
+            observations,
+        }))
+    }
+}
+
+impl Open {
+    fn of(key: Key) -> Open {
+        Open {
+            key,
+            come: [None; MAX_PACKETS],
+        }
+    }
+
+    /// How many there are in all, once all n packets have come.
+    fn observations(&self) -> Option<usize> {
+        let come = self.come.iter().take(self.key.n.into());
+        come.copied().sum()
     }
 }

@@ -1,4 +1,4 @@
-//! Document 01's "Numbers given back", and those of request P5.
+//! Document 01's "Numbers given back", and those of requests P5 and P7.
 
 /// A refusal is carried as its number in document 01.
 pub type No = u8;
@@ -17,5 +17,6 @@ pub const NOT_ON_ROSTER: No = 43;
 pub const N_IS_ZERO: No = 44;
 pub const COUNTER_NOT_BELOW_N: No = 45;
 pub const NOT_OBS: No = 46;
+pub const COUNTER_AGAIN: No = 47;
 pub const LIST_SHORT: No = 51;
 pub const CAPTURE_SHORT: No = 52;

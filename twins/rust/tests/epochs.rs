@@ -1,14 +1,20 @@
-//! The collator. A packet is written as (tow, n_obs, k); wn is 7.
+//! The collator, and the fast one beside it.
 
 use twin::epochs::{Collator, Epoch, Outcome};
+use twin::fast;
 
 const TAKEN: Outcome = Outcome::Taken;
+const COPY: Outcome = Outcome::Refused(47);
 
-fn payload(tow: u32, n_obs: u8, k: usize) -> Vec<u8> {
-    let mut bytes = tow.to_le_bytes().to_vec();
-    bytes.extend_from_slice(&[7, 0, n_obs]);
-    bytes.resize(7 + 16 * k, 0);
-    bytes
+/// Type, sender and payload.
+type Frame = (u16, u16, Vec<u8>);
+
+/// An OBS of wn 7.
+fn packet(sender: u16, tow: u32, n_obs: u8, k: usize) -> Frame {
+    let mut payload = tow.to_le_bytes().to_vec();
+    payload.extend_from_slice(&[7, 0, n_obs]);
+    payload.resize(7 + 16 * k, 0);
+    (0x0049, sender, payload)
 }
 
 fn epoch(sender: u16, tow: u32, n: u8, observations: usize) -> Outcome {
@@ -21,16 +27,62 @@ fn epoch(sender: u16, tow: u32, n: u8, observations: usize) -> Outcome {
     })
 }
 
-/// Feeds packets of (sender, tow, n_obs, k) to a roster of 0, 65535 and 5.
-fn feed_all(packets: &[(u16, u32, u8, usize)]) -> Vec<Outcome> {
-    let mut collator = Collator::new(&[0, 65535, 5]).unwrap();
+fn of_fast(fed: Result<Option<fast::Epoch>, u8>) -> Outcome {
+    match fed {
+        Err(no) => Outcome::Refused(no),
+        Ok(None) => Outcome::Taken,
+        Ok(Some(e)) => Outcome::Epoch(Epoch {
+            sender: e.sender,
+            wn: e.wn,
+            tow: e.tow,
+            n: e.n,
+            observations: e.observations.into(),
+        }),
+    }
+}
+
+/// Feeds frames to a roster of 0, 65535 and 5; what is refused changes nothing.
+fn feed_all(frames: &[Frame]) -> Vec<Outcome> {
+    let roster = [0, 65535, 5];
+    let mut collator = Collator::new(&roster).unwrap();
+    let mut fast = fast::Collator::new(&roster).unwrap();
     let mut outcomes = Vec::new();
-    for &(sender, tow, n_obs, k) in packets {
-        let fed = collator.feed(0x0049, sender, &payload(tow, n_obs, k));
+    for (msg_type, sender, payload) in frames {
+        let fed = collator.clone().feed(*msg_type, *sender, payload);
+        if let Outcome::Refused(_) = fed.outcome {
+            assert_eq!(fed.collator, collator);
+        }
+        assert_eq!(of_fast(fast.feed(*msg_type, *sender, payload)), fed.outcome);
         collator = fed.collator;
         outcomes.push(fed.outcome);
     }
     outcomes
+}
+
+/// All orders of the counters 0 .. n - 1.
+fn orders(n: u8) -> Vec<Vec<u8>> {
+    let mut all = vec![Vec::new()];
+    for counter in 0..n {
+        all = all
+            .iter()
+            .flat_map(|order| (0..=order.len()).map(move |at| with(order, at, counter)))
+            .collect();
+    }
+    all
+}
+
+fn with<T: Clone>(all: &[T], at: usize, more: T) -> Vec<T> {
+    [&all[..at], &[more], &all[at..]].concat()
+}
+
+/// The packets of an epoch of sender 5, in an order; counter i has i + 1
+/// observations. With them what they are answered.
+fn whole(order: &[u8]) -> (Vec<Frame>, Vec<Outcome>) {
+    let n = order.len() as u8;
+    let packet_of = |&i: &u8| packet(5, 1, n << 4 | i, usize::from(i) + 1);
+    let mut outcomes = vec![TAKEN; order.len() - 1];
+    outcomes.push(epoch(5, 1, n, order.len() * (order.len() + 1) / 2));
+    (order.iter().map(packet_of).collect(), outcomes)
 }
 
 #[test]
@@ -43,104 +95,149 @@ fn rosters() {
 }
 
 #[test]
-fn refusals_in_order() {
-    let collator = Collator::new(&[5]).unwrap();
-    let no = |msg_type, sender, payload: &[u8]| {
-        let fed = collator.clone().feed(msg_type, sender, payload);
-        assert_eq!(fed.collator, collator);
-        fed.outcome
-    };
-    // Each call has all later faults too.
-    assert_eq!(no(0x0048, 6, &[0; 6]), Outcome::Refused(46));
-    assert_eq!(no(0x0049, 6, &[0; 6]), Outcome::Refused(22));
-    assert_eq!(no(0x0049, 6, &[0; 7]), Outcome::Refused(43));
-    assert_eq!(no(0x0049, 5, &[0; 7]), Outcome::Refused(44));
-    assert_eq!(no(0x0049, 5, &payload(1, 0x33, 0)), Outcome::Refused(45));
+fn every_order() {
+    for n in 1..=4 {
+        for order in orders(n) {
+            let (packets, outcomes) = whole(&order);
+            assert_eq!(feed_all(&packets), outcomes, "{order:?}");
+        }
+    }
 }
 
 #[test]
-fn whole_runs_of_interleaved_senders() {
-    // All of one time: runs are kept apart by sender.
-    let got = feed_all(&[
-        (0, 1, 0x20, 3),
-        (5, 1, 0x20, 1),
-        (65535, 1, 0x10, 0),
-        (5, 1, 0x21, 15),
-        (0, 1, 0x21, 4),
-    ]);
-    let expected = [
-        TAKEN,
-        TAKEN,
-        epoch(65535, 1, 1, 0),
-        epoch(5, 1, 2, 16),
-        epoch(0, 1, 2, 7),
-    ];
-    assert_eq!(got, expected);
+fn the_longest_epoch_backwards() {
+    let packets: Vec<_> = (0..15).rev().map(|i| packet(0, 9, 0xF0 | i, 15)).collect();
+    let mut outcomes = vec![TAKEN; 14];
+    outcomes.push(epoch(0, 9, 15, 225));
+    assert_eq!(feed_all(&packets), outcomes);
 }
 
+/// Of each packet, with other observations, in each place before the report.
 #[test]
-fn the_longest_epoch() {
-    let packets: Vec<_> = (0..15).map(|i| (0, 9, 0xF0 | i, 15)).collect();
-    assert_eq!(feed_all(&packets)[14], epoch(0, 9, 15, 225));
+fn a_copy_is_refused() {
+    for n in 2..=4 {
+        for order in orders(n) {
+            let (packets, outcomes) = whole(&order);
+            for (first, &counter) in order.iter().enumerate() {
+                let copy = packet(5, 1, n << 4 | counter, 15);
+                for at in first + 1..order.len() {
+                    let got = feed_all(&with(&packets, at, copy.clone()));
+                    assert_eq!(got, with(&outcomes, at, COPY), "{order:?}");
+                }
+            }
+        }
+    }
 }
 
+/// After the report a copy opens an epoch, which the other packets end.
 #[test]
-fn broken_runs() {
-    // A repeated counter breaks the run; the last one then finds it idle.
+fn a_copy_after_the_report() {
+    for n in 2..=4 {
+        for order in orders(n) {
+            let (mut packets, mut outcomes) = whole(&order);
+            packets.extend(whole(&order).0);
+            outcomes.extend(whole(&order).1);
+            assert_eq!(feed_all(&packets), outcomes, "{order:?}");
+        }
+    }
+    // Or the next epoch drops it.
     let got = feed_all(&[
-        (5, 1, 0x30, 0),
-        (5, 1, 0x31, 0),
-        (5, 1, 0x31, 0),
-        (5, 1, 0x32, 0),
+        packet(5, 1, 0x21, 1),
+        packet(5, 1, 0x20, 1),
+        packet(5, 1, 0x21, 1),
+        packet(5, 2, 0x20, 0),
+        packet(5, 2, 0x21, 0),
     ]);
-    assert_eq!(got, [TAKEN; 4]);
-    // Out of order.
+    let outcomes = [TAKEN, epoch(5, 1, 2, 2), TAKEN, TAKEN, epoch(5, 2, 2, 0)];
+    assert_eq!(got, outcomes);
+}
+
+/// A packet of another tow, wn or n drops the two that had come, and the one
+/// that was missing opens an epoch.
+#[test]
+fn another_key_and_back() {
+    for field in 0..7 {
+        let mut other = packet(5, 1, 0x30, 0);
+        other.2[field] ^= if field < 6 { 0x80 } else { 0x70 };
+        let got = feed_all(&[
+            packet(5, 1, 0x30, 1),
+            packet(5, 1, 0x32, 1),
+            other,
+            packet(5, 1, 0x31, 1),
+            packet(5, 1, 0x32, 2),
+            packet(5, 1, 0x30, 4),
+        ]);
+        let mut outcomes = vec![TAKEN; 5];
+        outcomes.push(epoch(5, 1, 3, 7));
+        assert_eq!(got, outcomes, "field {field}");
+    }
+    // Nor does what had come count for the other key.
     let got = feed_all(&[
-        (5, 1, 0x30, 0),
-        (5, 1, 0x32, 0),
-        (5, 1, 0x31, 0),
-        (5, 1, 0x32, 0),
+        packet(5, 1, 0x20, 0),
+        packet(5, 2, 0x21, 0),
+        packet(5, 1, 0x21, 0),
     ]);
-    assert_eq!(got, [TAKEN; 4]);
-    // Another tow, and another n, with the counter that would continue.
-    assert_eq!(feed_all(&[(5, 1, 0x20, 0), (5, 2, 0x21, 0)]), [TAKEN; 2]);
-    assert_eq!(feed_all(&[(5, 1, 0x30, 0), (5, 1, 0x21, 0)]), [TAKEN; 2]);
-    // A stranger's last packet does not bring the broken run back.
-    let got = feed_all(&[(5, 1, 0x20, 0), (5, 2, 0x21, 0), (5, 1, 0x21, 0)]);
     assert_eq!(got, [TAKEN; 3]);
 }
 
+/// Each time; they drop what is open too.
 #[test]
-fn counter_0_begins_anew() {
-    let got = feed_all(&[(5, 1, 0x20, 4), (5, 1, 0x20, 1), (5, 1, 0x21, 2)]);
-    assert_eq!(got, [TAKEN, TAKEN, epoch(5, 1, 2, 3)]);
-    // An epoch ended leaves nothing open.
-    let got = feed_all(&[(5, 1, 0x20, 4), (5, 1, 0x21, 1), (5, 1, 0x21, 2)]);
-    assert_eq!(got, [TAKEN, epoch(5, 1, 2, 5), TAKEN]);
-    // Epochs of one packet, each time; they close an open run too.
+fn epochs_of_one_packet() {
     let got = feed_all(&[
-        (5, 1, 0x20, 0),
-        (5, 1, 0x10, 1),
-        (5, 1, 0x10, 1),
-        (5, 1, 0x21, 0),
+        packet(5, 1, 0x20, 0),
+        packet(5, 1, 0x10, 1),
+        packet(5, 1, 0x10, 1),
+        packet(5, 1, 0x21, 0),
     ]);
     assert_eq!(got, [TAKEN, epoch(5, 1, 1, 1), epoch(5, 1, 1, 1), TAKEN]);
 }
 
+/// Packets of one time, in every way that two senders can take turns.
 #[test]
-fn refused_frames_do_not_break_a_run() {
-    let collator = Collator::new(&[5]).unwrap();
-    let mut fed = collator.feed(0x0049, 5, &payload(1, 0x20, 2));
-    for (msg_type, sender, between) in [
-        (0x0100, 5, payload(1, 0x21, 0)),
-        (0x0049, 5, vec![0; 8]),
-        (0x0049, 6, payload(1, 0x20, 0)),
-        (0x0049, 5, payload(1, 0x00, 0)),
-        (0x0049, 5, payload(1, 0x22, 0)),
-    ] {
-        fed = fed.collator.feed(msg_type, sender, &between);
-        assert!(matches!(fed.outcome, Outcome::Refused(_)));
+fn two_senders_by_turns() {
+    let of_0 = [packet(0, 1, 0x21, 3), packet(0, 1, 0x20, 4)];
+    let of_65535 = [2, 0, 1].map(|i| packet(65535, 1, 0x30 | i, 1));
+    let turns = (0..32_u8).filter(|turns| turns.count_ones() == 2);
+    for turns in turns {
+        let (mut left, mut others) = (of_0.iter(), of_65535.iter());
+        let next = |at: u8| match turns >> at & 1 {
+            1 => left.next().cloned(),
+            _ => others.next().cloned(),
+        };
+        let packets: Vec<_> = (0..5).filter_map(next).collect();
+        let mut reported = feed_all(&packets);
+        reported.retain(|outcome| *outcome != TAKEN);
+        let mut expected = [epoch(0, 1, 2, 7), epoch(65535, 1, 3, 3)];
+        // The last packet of all is bit 4's.
+        if turns >> 4 == 1 {
+            expected.reverse();
+        }
+        assert_eq!(reported, expected, "{turns:05b}");
     }
-    fed = fed.collator.feed(0x0049, 5, &payload(1, 0x21, 1));
-    assert_eq!(fed.outcome, epoch(5, 1, 2, 3));
+}
+
+/// Each with all faults that come after it, between any two packets.
+#[test]
+fn refusals_in_their_order() {
+    let mut frames = Vec::new();
+    let mut outcomes = Vec::new();
+    for (i, outcome) in [(2, TAKEN), (0, TAKEN), (1, epoch(5, 1, 3, 3))] {
+        for (msg_type, sender, payload, no) in [
+            (0x0048, 6, vec![0; 6], 46),
+            (0x0049, 6, vec![0; 6], 22),
+            (0x0049, 6, vec![0; 7], 43),
+            (0x0049, 5, packet(5, 1, 0x02, 0).2, 44),
+            (0x0049, 5, packet(5, 1, 0x33, 0).2, 45),
+        ] {
+            frames.push((msg_type, sender, payload));
+            outcomes.push(Outcome::Refused(no));
+        }
+        frames.push(packet(5, 1, 0x30 | i, 1));
+        outcomes.push(outcome);
+        if outcome == TAKEN {
+            frames.push(packet(5, 1, 0x30 | i, 15));
+            outcomes.push(COPY);
+        }
+    }
+    assert_eq!(feed_all(&frames), outcomes);
 }

@@ -71,7 +71,7 @@ fn readings_and_listings_agree() {
 
 #[test]
 fn collators_agree() {
-    let (mut epochs, mut refused) = (0, 0);
+    let (mut epochs, mut refused, mut copies) = (0, 0, 0);
     for seed in 0..2000 {
         let capture = gen::capture(seed);
         let reading = twin::frames::closed(&capture);
@@ -95,6 +95,7 @@ fn collators_agree() {
                 (Outcome::Refused(no), Err(theirs)) => {
                     assert_eq!(no, theirs, "seed {seed}");
                     refused += 1;
+                    copies += usize::from(no == 47);
                 }
                 (Outcome::Taken, Ok(None)) => {}
                 (Outcome::Epoch(e), Ok(Some(f))) => {
@@ -107,6 +108,7 @@ fn collators_agree() {
         }
     }
     assert!(epochs > 1000 && refused > 1000, "{epochs}, {refused}");
+    assert!(copies > 500, "{copies}");
 }
 
 #[test]

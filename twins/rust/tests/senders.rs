@@ -132,7 +132,7 @@ fn every_message_by_both_ways() {
     }
 }
 
-/// By turns, packets of one time: as one sender's they would be no epochs of two.
+/// By turns, packets of one time: as one sender's they would be one epoch.
 #[test]
 fn two_recorders_on_one_line() {
     let mut line = Vec::new();

@@ -3,14 +3,16 @@
 
 use super::answer::obs_length;
 
-/// `next` 0 is idle; otherwise counters 0 .. next - 1 have come.
+/// `missing` is how many of the open epoch's n packets have not come; 0 is idle.
 #[derive(Clone, Copy, Default)]
 struct Place {
     tow: u32,
     wn: u16,
     n: u8,
-    next: u8,
+    missing: u8,
     observations: u8,
+    /// By counter.
+    come: [bool; 16],
 }
 
 pub struct Collator {
@@ -53,7 +55,7 @@ impl Collator {
         }
     }
 
-    /// An epoch if the frame ends one; or 46, 22, 43, 44, 45 in that order,
+    /// An epoch if the frame ends one; or 46, 22, 43, 44, 45, 47 in that order,
     /// with nothing changed.
     #[inline]
     pub fn feed(
@@ -108,25 +110,26 @@ impl Collator {
         let wn = u16::from_le_bytes([w0, w1]);
         let k = (payload.len() >> 4) as u8;
         let place = &mut self.places[at];
-        if i == 0 {
+        if place.missing == 0 || place.tow != tow || place.wn != wn || place.n != n {
+            // What was open is dropped.
             *place = Place {
                 tow,
                 wn,
                 n,
-                next: 1,
-                observations: k,
+                missing: n,
+                ..Place::default()
             };
-        } else if place.next == i && place.tow == tow && place.wn == wn && place.n == n {
-            place.next += 1;
-            place.observations += k;
-        } else {
-            place.next = 0;
+        }
+        let come = &mut place.come[usize::from(i)];
+        if *come {
+            return Err(47);
+        }
+        *come = true;
+        place.missing -= 1;
+        place.observations += k;
+        if place.missing != 0 {
             return Ok(None);
         }
-        if place.next != n {
-            return Ok(None);
-        }
-        place.next = 0;
         Ok(Some(Epoch {
             sender,
             wn,

@@ -1,4 +1,5 @@
-//! Observation packets of several senders, with and without faults.
+//! Observation packets of several senders, in any order, with and without
+//! faults.
 
 use super::frame::{any_type, damaged, frame};
 use super::payload::{off_length, valid};
@@ -95,11 +96,26 @@ fn refused(rng: &mut Rng, key: Key, counter: u8) -> Vec<u8> {
     payload
 }
 
+/// The counters of an epoch as they come: packets overtake each other.
+fn order(rng: &mut Rng, n: u8) -> Vec<u8> {
+    let mut counters: Vec<u8> = (0..n).collect();
+    let at = rng.below(counters.len());
+    match rng.below(6) {
+        0 => counters.reverse(),
+        1 => counters.rotate_left(at),
+        2 => counters.swap(at, at.max(1) - 1),
+        3 => rng.shuffle(&mut counters),
+        _ => {}
+    }
+    counters
+}
+
 /// The packets of one epoch as payloads, perhaps with faults.
 fn epoch(rng: &mut Rng, key: Key, faults: Faults) -> Vec<Vec<u8>> {
     // Now and then full packets, for the largest sums.
     let full = rng.chance(1, 40);
-    let mut packets: Vec<Vec<u8>> = (0..key.n)
+    let mut packets: Vec<Vec<u8>> = order(rng, key.n)
+        .into_iter()
         .map(|i| {
             if full {
                 packet_of(rng, key, i, 15)
@@ -119,17 +135,17 @@ fn epoch(rng: &mut Rng, key: Key, faults: Faults) -> Vec<Vec<u8>> {
         }
         let at = rng.below(packets.len());
         let counter = rng.below(key.n.into()) as u8;
-        match rng.below(15) {
-            // Out of order.
-            0 if at > 0 => packets.swap(at, at - 1),
-            1 => {
-                let turn = rng.below(packets.len());
-                packets.rotate_left(turn);
+        match rng.below(16) {
+            // A copy: at once or later, or after all others.
+            0 | 1 => {
+                let to = rng.between(at, packets.len());
+                packets.insert(to, packets[at].clone());
             }
-            // Repeated: at once, or later.
-            2 | 3 => packets.insert(at, packets[at].clone()),
-            4 => packets.push(packets[at].clone()),
-            // Dropped.
+            2 => packets.push(packets[at].clone()),
+            // A counter twice, with other observations: between, or in place.
+            3 => packets.insert(at, packet(rng, key, counter)),
+            4 => packets[at] = packet(rng, key, counter),
+            // Lost.
             5 | 6 => {
                 packets.remove(at);
             }
@@ -153,13 +169,15 @@ fn epoch(rng: &mut Rng, key: Key, faults: Faults) -> Vec<Vec<u8>> {
                     }
                 }
             }
-            // Begun anew with the same key.
-            11 => {
-                let again: Vec<_> = (0..key.n).map(|i| packet(rng, key, i)).collect();
-                packets.truncate(at);
-                packets.extend(again);
+            // All of them again: instead of the rest, or after it.
+            11 | 12 => {
+                let keep = rng.pick(&[at, packets.len()]);
+                packets.truncate(keep);
+                for i in order(rng, key.n) {
+                    packets.push(packet(rng, key, i));
+                }
             }
-            // Refused packets between: these must not break the run.
+            // Refused packets between: these must not drop what is open.
             _ => packets.insert(at, refused(rng, key, counter)),
         }
     }
@@ -176,6 +194,7 @@ fn queue(
 ) -> VecDeque<Vec<u8>> {
     let mut frames = VecDeque::new();
     let mut key = start;
+    let mut late = None;
     for _ in 0..epochs {
         key.n = match rng.below(6) {
             0 => 15,
@@ -183,7 +202,15 @@ fn queue(
             2 => 1,
             _ => rng.between(2, 5) as u8,
         };
-        for payload in epoch(rng, key, faults) {
+        let mut packets = epoch(rng, key, faults);
+        let at = rng.below(packets.len() + 1);
+        if let Some(overtaken) = late.take() {
+            packets.insert(at, overtaken);
+        } else if faults != Faults::None && rng.chance(1, 8) {
+            // The next epoch overtakes its last packet.
+            late = packets.pop();
+        }
+        for payload in packets {
             let whole = frame(OBS, sender, &payload);
             if faults == Faults::Many && rng.chance(1, 30) {
                 // Damaged on the way, and perhaps sent again.

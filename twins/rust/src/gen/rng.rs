@@ -41,6 +41,13 @@ impl Rng {
         from[self.below(from.len())]
     }
 
+    /// Any order is as likely as any other.
+    pub fn shuffle<T>(&mut self, all: &mut [T]) {
+        for at in (1..all.len()).rev() {
+            all.swap(at, self.between(0, at));
+        }
+    }
+
     pub fn bytes(&mut self, count: usize) -> Vec<u8> {
         (0..count).map(|_| self.byte()).collect()
     }

@@ -2,16 +2,16 @@
 //! something.
 
 use super::{capture, RETIRED, TYPES};
-use crate::epochs::{Collator, Outcome};
-use crate::frames::{closed, open, step, Step};
+use crate::epochs::{Collator, Epoch, Outcome};
+use crate::frames::{closed, open, step, Frame, Step};
 use crate::listing::{roster, MAX_INPUT};
 use crate::messages::{answer, Log};
-use crate::numbers::{No, LENGTH_WRONG, TYPE_UNKNOWN};
+use crate::numbers::{No, COUNTER_AGAIN, LENGTH_WRONG, TYPE_UNKNOWN};
 use std::collections::BTreeMap;
 use std::fmt::Write;
 
 /// What the captures of a comparison have to reach, beside what `of_types` says.
-const WANTED: [&str; 32] = [
+const WANTED: [&str; 37] = [
     "step frame",
     "step junk",
     "step bad",
@@ -40,6 +40,11 @@ const WANTED: [&str; 32] = [
     "feed refused 44",
     "feed refused 45",
     "feed refused 46",
+    "feed refused 47",
+    "epoch in counter order",
+    "epoch in another order",
+    "epoch with a copy between",
+    "epoch of one key again",
     "epoch of n 01",
     "epoch of n 15",
     "epoch of sender 0",
@@ -111,6 +116,7 @@ impl Stats {
         let listed = roster(&reading.frames);
         self.add(&format!("roster of {}", listed.len()), 1);
         let mut collator = Collator::new(&listed).ok();
+        let mut packets = Packets::default();
         for frame in &reading.frames {
             let no = answer(frame.msg_type, frame.payload);
             self.add(&format!("answer {no:02}"), 1);
@@ -126,11 +132,15 @@ impl Stats {
             };
             let fed = before.feed(frame.msg_type, frame.sender, frame.payload);
             collator = Some(fed.collator);
+            packets.note(frame, &fed.outcome);
             match fed.outcome {
                 Outcome::Refused(no) => self.add(&format!("feed refused {no}"), 1),
                 Outcome::Taken => self.add("feed taken", 1),
                 Outcome::Epoch(epoch) => {
                     self.add("feed epoch", 1);
+                    for name in packets.end(epoch) {
+                        self.add(name, 1);
+                    }
                     self.add(&format!("epoch of n {:02}", epoch.n), 1);
                     if epoch.sender == 0 || epoch.sender == 65535 {
                         self.add(&format!("epoch of sender {}", epoch.sender), 1);
@@ -163,6 +173,49 @@ impl Stats {
             let _ = writeln!(text, "{count:>10}  {name}");
         }
         text
+    }
+}
+
+/// How each sender's packets came.
+#[derive(Default)]
+struct Packets {
+    /// The counters that were taken, and None for a copy that was refused.
+    came: BTreeMap<u16, Vec<Option<u8>>>,
+    last: BTreeMap<u16, Epoch>,
+}
+
+impl Packets {
+    fn note(&mut self, frame: &Frame, outcome: &Outcome) {
+        let counter = match outcome {
+            Outcome::Refused(COUNTER_AGAIN) => None,
+            Outcome::Refused(_) => return,
+            _ => Some(frame.payload[6] & 15),
+        };
+        self.came.entry(frame.sender).or_default().push(counter);
+    }
+
+    /// The names under which an epoch counts that was just reported.
+    fn end(&mut self, epoch: Epoch) -> Vec<&'static str> {
+        let came = self.came.entry(epoch.sender).or_default();
+        // Its packets are the last n that were taken.
+        let taken = (0..came.len()).rev().filter(|&at| came[at].is_some());
+        let first = taken.take(epoch.n.into()).last().unwrap_or(0);
+        let packets = &came[first..];
+        let mut names = Vec::new();
+        if packets.iter().flatten().copied().eq(0..epoch.n) {
+            names.push("epoch in counter order");
+        } else {
+            names.push("epoch in another order");
+        }
+        if packets.contains(&None) {
+            names.push("epoch with a copy between");
+        }
+        let key = |e: Epoch| (e.tow, e.wn, e.n);
+        let before = self.last.insert(epoch.sender, epoch);
+        if epoch.n > 1 && before.map(key) == Some(key(epoch)) {
+            names.push("epoch of one key again");
+        }
+        names
     }
 }
 

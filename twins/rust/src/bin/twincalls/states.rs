@@ -5,7 +5,7 @@ use twin::numbers::No;
 
 use crate::asked::{hash, lent, Asked, Question, Side};
 
-pub const STATE: usize = 105;
+pub const STATE: usize = 113;
 
 /// The twin's collator and what is known of the one asked. What a state's
 /// bytes are is not the twin's to know: only what leaves them as they are, and
