@@ -125,7 +125,8 @@ import random
 import struct
 import sys
 sys.dont_write_bytecode = True
-sys.path.insert(0, "tests/sample")
+sys.path[:0] = ["tests/sample", "twins/python"]
+import answers
 from make import capture, frame, packet
 
 work, times = sys.argv[1], int(sys.argv[2])
@@ -159,6 +160,9 @@ keep("crowd", frame(0x0049, 7, b"") + b"".join(crowd))
 # beginnings of frames everywhere
 dice = random.Random(8)
 keep("noise", b"".join(bytes(dice.choice([0x55, 0x55, 0x49, 0, 0xFF]) for _ in range(dice.randrange(300))) + one for one in crowd * 10))
+# packets that overtake each other, and copies
+keep("queues", answers.two_queues(64))
+keep("orders", answers.every_order())
 
 # each fix mode of each position
 modes = [(0x0200, ecef, ["single", "float", "fixed"]), (0x0201, llh, ["single", "fixed", "float"])]
@@ -182,7 +186,7 @@ PYTHON
 
 epochs() {
     local capture i
-    for capture in "$sample" "$work/crowd" "$work/noise"; do
+    for capture in "$sample" "$work/crowd" "$work/noise" "$work/queues" "$work/orders"; do
         listed "$capture" ET >"$work/lines"
         ends "epochs of ${capture##*/}" 0 "$work/epochs" "$capture"
         same "epochs of ${capture##*/}" "$work/lines" "$work/out"

@@ -523,7 +523,7 @@ static void answers(void) {
 static void sizes(void) {
     NAME(SBP_FOUND, 53);
     NAME(SBP_TOTALS, 32);
-    NAME(SBP_STATE, 105);
+    NAME(SBP_STATE, 113);
     NAME(SBP_REPORT, 11);
     NAME(SBP_INDEX, 208);
     NAME(SBP_PAYLOAD_MOST, 255);
@@ -569,10 +569,10 @@ static void fields(void) {
 
 static void version(void) {
     NAME(SBP_VERSION_MAJOR, 0);
-    NAME(SBP_VERSION_MINOR, 13);
+    NAME(SBP_VERSION_MINOR, 14);
     NAME(SBP_VERSION_PATCH, 0);
-    NAME(SBP_VERSION, 1300);
-    SAME("sbp_version()", sbp_version(), 1300);
+    NAME(SBP_VERSION, 1400);
+    SAME("sbp_version()", sbp_version(), 1400);
 }
 
 static const struct {
@@ -594,6 +594,7 @@ static const struct {
     REFUSAL(44, NO_PACKETS),
     REFUSAL(45, WRONG_COUNTER),
     REFUSAL(46, NOT_OBS),
+    REFUSAL(47, COPY),
     REFUSAL(51, LIST_SHORT),
     REFUSAL(52, CAPTURE_SHORT),
 };
@@ -649,6 +650,16 @@ static void report_has_room(void) {
     SAME("sbp_enlist with less", sbp_enlist(state, sizeof state - 1, SBP_MSG_OBS, 1228), SBP_NO_ROOM);
     SAME("sbp_feed", sbp_feed(state, sizeof state, SBP_MSG_OBS, 1228, packet, sizeof packet, row, SBP_REPORT), SBP_EPOCH);
     SAME("sbp_feed with less", sbp_feed(state, sizeof state, SBP_MSG_OBS, 1228, packet, sizeof packet, row, SBP_REPORT - 1), SBP_NO_ROOM);
+}
+
+/* What the library answers to a copy has the name that is looked at above. */
+static void copy_is_named(void) {
+    uint8_t state[SBP_STATE], row[SBP_REPORT];
+    const uint16_t roster[] = {1228};
+    const uint8_t packet[] = {0, 0, 0, 0, 0, 0, 0x21};
+    sbp_collator(state, sizeof state, roster, 1);
+    SAME("sbp_feed of a packet", sbp_feed(state, sizeof state, SBP_MSG_OBS, 1228, packet, sizeof packet, row, SBP_REPORT), SBP_TAKEN);
+    SAME("sbp_feed of its copy", sbp_feed(state, sizeof state, SBP_MSG_OBS, 1228, packet, sizeof packet, row, SBP_REPORT), SBP_COPY);
 }
 
 /* A type, the length of the shortest payload of it, and how many numbers that gives. */
@@ -948,6 +959,7 @@ int main(void) {
     rows_have_room();
     rosters_have_room();
     report_has_room();
+    copy_is_named();
     fields_have_room();
     observations_have_room();
     frames_have_room();

@@ -53,6 +53,8 @@ def cases():
     yield "65535 bytes of epochs", epoch * 4369, None
     yield "65536 bytes of 0x55", b"\x55" * 65536, None
     yield "ten senders", ten, None
+    yield "two queues", answers.two_queues(64), None
+    yield "packets in every order, with copies", answers.every_order(), None
     yield "unknown and malformed", b"".join(twin.frame(k, 9, bytes(n)) for k in (0x48, 0x49, 0x4A, 0x100, 0x200, 0x401) for n in (0, 7, 11, 24, 32, 255)), None
     yield "LOGs: text, and zeros after it", logs.CAPTURE, None
     yield "ephemerides: their lengths and one off", b"".join(twin.frame(k, 9, bytes(n + off)) for k, n in ORBITS.items() for off in (-1, 0, 1)), None

@@ -112,6 +112,16 @@ print("T", len(data), twin.row(twin.reading(data, False)[1]))
 END
     check "epochs of $(wc -c <"$work/long") bytes" prints "$work/lines-of-long" "$bin/epochs" "$work/long"
     check "epochs of a pipe" prints "$work/lines" "$bin/epochs" <(cat "$sample")
+
+    # packets that overtake each other, and copies
+    python3 -B - "$root/twins/python" <<'END' >"$work/orders"
+import sys
+sys.path.insert(0, sys.argv[1])
+import answers
+sys.stdout.buffer.write(answers.every_order())
+END
+    listed <"$work/orders" | grep '^[ET]' >"$work/lines-of-orders"
+    check "epochs of packets in every order" prints "$work/lines-of-orders" "$bin/epochs" "$work/orders"
     check "epochs of no file" ends 2 "$bin/epochs"
     check "epochs of two files" ends 2 "$bin/epochs" "$sample" "$sample"
     check "epochs of a missing file" ends 1 "$bin/epochs" "$work/nothing"

@@ -31,7 +31,7 @@ extern "C" {
 
 /* This header's version; sbp_version tells the library's in the same form. */
 #define SBP_VERSION_MAJOR 0
-#define SBP_VERSION_MINOR 13
+#define SBP_VERSION_MINOR 14
 #define SBP_VERSION_PATCH 0
 #define SBP_VERSION (10000 * SBP_VERSION_MAJOR + 100 * SBP_VERSION_MINOR + SBP_VERSION_PATCH)
 
@@ -88,6 +88,7 @@ extern "C" {
 #define SBP_NO_PACKETS 44          /* the frame says that its epoch has 0 packets */
 #define SBP_WRONG_COUNTER 45       /* the frame's counter is not below its epoch's number of packets */
 #define SBP_NOT_OBS 46             /* the frame fed is not OBS */
+#define SBP_COPY 47                /* the frame's counter has come already in the epoch that its sender has open */
 #define SBP_LIST_SHORT 51          /* the list is shorter than the frames that it has to hold */
 #define SBP_CAPTURE_SHORT 52       /* the capture is shorter than the position that its index has reached */
 
@@ -100,7 +101,7 @@ extern "C" {
 /* Bytes of the rows, of a collator's state and of an index's numbers. */
 #define SBP_FOUND 53
 #define SBP_TOTALS 32
-#define SBP_STATE 105
+#define SBP_STATE 113
 #define SBP_REPORT 11
 #define SBP_INDEX 208
 
@@ -263,9 +264,11 @@ uint8_t sbp_write_log(uint8_t *out, size_t room, uint16_t own, uint32_t sender, 
  * The caller keeps: room bytes to write are at out, n bytes at payload, and size points to an aligned uint64_t; none overlaps another. */
 uint8_t sbp_write_frame(uint8_t *out, size_t room, uint16_t kind, uint16_t own, uint32_t sender, const uint8_t *payload, size_t n, uint64_t *size);
 
-/* ---- epochs. The upper four bits of n_obs are the number n of an epoch's packets, the lower four a packet's counter i. An epoch of a sender is a
- * run of n packets, with nothing but frames of other senders, of other types or refused ones between them, all with the same tow, wn and n,
- * and with counters 0, 1, .. n - 1. Every number is an ordinary sender, 0 too, and no sender's packets count for another. */
+/* ---- epochs. The upper four bits of n_obs are the number n of an epoch's packets, the lower four a packet's counter i. An epoch of a sender is n
+ * packets with the same tow, wn and n and with the counters 0 to n - 1, which may come in any order. A sender has at most one epoch open. Where
+ * none is open, any packet opens one. A packet with another tow, wn or n drops the open epoch and opens its own. One whose counter has come already
+ * in the open epoch is a copy, and does not count. The epoch ends with the packet that brings the last of its counters; a copy that comes after
+ * that opens an epoch again. Every number is an ordinary sender, 0 too, and no sender's packets count for another. */
 
 /* A fresh collator in SBP_STATE bytes, for a roster of n senders: SBP_OK; or SBP_WRONG_ROSTER, SBP_SENDER_TWICE, SBP_NO_ROOM.
  * The caller keeps: room bytes to write are at state, and n aligned uint16_t, that are no part of them, at roster. */
@@ -281,7 +284,8 @@ uint8_t sbp_growing(uint8_t *state, size_t room);
 uint8_t sbp_enlist(uint8_t *state, size_t room, uint16_t kind, uint16_t sender);
 
 /* A frame fed to a collator: SBP_TAKEN; or SBP_EPOCH: it ended an epoch, and report[0 .. SBP_REPORT] has the row of sbp_report; or SBP_NO_ROOM
- * (state or report too short), SBP_NOT_OBS, SBP_WRONG_LENGTH, SBP_NOT_LISTED, SBP_NO_PACKETS, SBP_WRONG_COUNTER.
+ * (state or report too short), SBP_NOT_OBS, SBP_WRONG_LENGTH, SBP_NOT_LISTED, SBP_NO_PACKETS, SBP_WRONG_COUNTER, SBP_COPY: its sender's open epoch
+ * has a packet with this tow, wn, n and counter already. That one stays, whatever the copy holds. Of an epoch that is dropped nothing is told.
  * The caller keeps: room bytes to read and write are at state, n bytes at payload, report_room bytes to write at report; none overlaps another. */
 uint8_t sbp_feed(uint8_t *state, size_t room, uint16_t kind, uint16_t sender, const uint8_t *payload, size_t n, uint8_t *report, size_t report_room);
 
@@ -402,6 +406,7 @@ static inline const char *sbp_refusal_name(uint8_t number) {
     case SBP_NO_PACKETS: return "NO_PACKETS";
     case SBP_WRONG_COUNTER: return "WRONG_COUNTER";
     case SBP_NOT_OBS: return "NOT_OBS";
+    case SBP_COPY: return "COPY";
     case SBP_LIST_SHORT: return "LIST_SHORT";
     case SBP_CAPTURE_SHORT: return "CAPTURE_SHORT";
     default: return "";

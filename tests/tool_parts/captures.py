@@ -1,7 +1,8 @@
 """Captures to list, and the part `long`: captures beyond sbplist's 65536 bytes, against the Python twin's lines."""
 import random
 
-import common
+import common  # first: it says where the others are
+import answers
 import make
 import twin
 import twins
@@ -10,8 +11,8 @@ SAMPLE = make.capture()
 
 
 def many_senders(count):
-    """Epochs of two packets, the packets of all senders by turns; each third sender's second packet comes twice."""
-    packets = ((s, i) for i in (0, 1) for s in range(count) for _ in range(1 + (i == 1 and s % 3 == 0)))
+    """Epochs of two packets, the packets of all senders by turns; those of each third sender come twice."""
+    packets = ((s, i) for i in (0, 1) for s in range(count) for _ in range(1 + (s % 3 == 0)))
     return b"".join(twin.frame(twin.OBS, 65530 - s, twin.obs(5 + s, 6, 0x20 + i, s % 16)) for s, i in packets)
 
 
@@ -38,6 +39,7 @@ def long_ones():
     yield "all 0x55", b"\x55" * 70000
     yield "65537 bytes", bytes(65536) + b"\x55"
     yield "forty senders, many times", many_senders(40) * 60
+    yield "400 epochs of two queues", answers.two_queues(400)
 
 
 def cases():

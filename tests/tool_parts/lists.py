@@ -3,6 +3,7 @@ import itertools
 
 import captures
 import common
+import answers
 import logs
 import twin
 
@@ -19,6 +20,8 @@ def edges():
     yield "65536 bytes with a cut tail", (sample * 12)[:65536]
     yield "twelve senders", captures.many_senders(12)
     yield "malformed ones first", twin.frame(twin.OBS, 1, b"") + captures.many_senders(8)
+    yield "two queues", answers.two_queues(64)
+    yield "every order, with copies", answers.every_order()
     kinds = (0x48, 0x49, 0x4A, 0x100, 0x200, 0x401)
     yield "unknown and malformed", b"".join(twin.frame(k, 9, bytes(n)) for k in kinds for n in (0, 7, 11, 24, 32, 255))
     orbits = (0x47, 0x80, 0x81, 0x82, 0x83, 0x90, 0x91, 0x92)

@@ -4,23 +4,25 @@ import tempfile
 
 import captures
 import common
+import answers
 import twin
 
-HEADINGS = "sender epochs first_wn first_tow last_wn last_tow observations no_epoch".split()
+HEADINGS = "sender epochs first_wn first_tow last_wn last_tow observations no_epoch copies".split()
 
 
 def row(sender, frames):
-    """A sender's line: of its epochs (sender, wn, tow, n, observations), and of its frames that are in none."""
-    own = [epoch for (_, kind, by, _), epoch in frames if kind == twin.OBS and by == sender]
-    ended = [epoch for epoch in own if epoch is not None]
+    """A sender's line: of its epochs (sender, wn, tow, n, observations), of its frames that are in none, and of copies (47)."""
+    own = [told for (_, kind, by, _), *told in frames if kind == twin.OBS and by == sender]
+    ended = [numbers for word, numbers in own if word == "epoch"]
     first, last = (ended[0][1:3], ended[-1][1:3]) if ended else (["-", "-"], ["-", "-"])
-    cells = [sender, len(ended), *first, *last, sum(epoch[4] for epoch in ended), len(own) - sum(epoch[3] for epoch in ended)]
-    return [str(cell) for cell in cells]
+    copies = own.count(["refused", [47]])
+    lost = len(own) - sum(epoch[3] for epoch in ended) - copies
+    return [str(cell) for cell in (sender, len(ended), *first, *last, sum(epoch[4] for epoch in ended), lost, copies)]
 
 
 def table(data):
-    frames, _ = twin.collated(data)
-    senders = dict.fromkeys(sender for (_, kind, sender, _), _ in frames if kind == twin.OBS)
+    frames, _ = twin.answered(data)
+    senders = dict.fromkeys(sender for (_, kind, sender, _), *_ in frames if kind == twin.OBS)
     return [HEADINGS] + [row(sender, frames) for sender in senders]
 
 
@@ -43,6 +45,9 @@ def samples():
     yield "eight senders", captures.many_senders(8)
     yield "nine senders", captures.many_senders(9)
     yield "forty senders", captures.many_senders(40) * 3
+    yield "two queues", answers.two_queues(400)
+    yield "every order, with copies", answers.every_order()
+    yield "copies of what is lost", b"".join(twin.frame(twin.OBS, 3, twin.obs(tow, 6, 0x30, 1)) for tow in range(9) for _ in range(tow))
     yield "the end of every range", b"".join(twin.frame(twin.OBS, 65535, twin.obs(2**32 - 1, 65535, 0xF0 + i, 15)) for i in range(15))
     yield from captures.generated(150)
 

@@ -89,7 +89,7 @@ def told():
     yield "versions", common.run("--version"), (b"sbp %s (library %s)\n" % (version.encode(), version.encode()), b"", 0)
     asked = {(): "list json epochs find", ("list",): "F E T", ("find",): "F N C R TYPE SENDER OFFSET 21 52",
              ("json",): "offset answer preamble msg_type msg_name sender length payload crc padding common pos vel acc UNKNOWN",
-             ("epochs",): "sender epochs first_wn first_tow last_wn last_tow observations no_epoch"}
+             ("epochs",): "sender epochs first_wn first_tow last_wn last_tow observations no_epoch copies"}
     for command, words in asked.items():
         out, said, status = common.run(*command, "--help")
         lacking = [word for word in words.split() + ["Exit"] if word not in re.findall(r"\w+", out.decode())]

@@ -1,30 +1,7 @@
 /* Epochs: document 01's cases, the ticket that this project is about, and two captures that differ only between senders: sbp_collator, sbp_feed. */
-#include "values.h"
+#include "fed.h"
 
-enum { HEAD = 7, EACH = 16, LONGEST = HEAD + SBP_OBSERVATIONS_MOST * EACH };
-
-/* A frame to feed: its payload has a time, a week and n_obs, and zeros after them to its size. */
-struct frame {
-    uint16_t kind, sender;
-    uint32_t tow;
-    uint16_t wn;
-    uint8_t n_obs;
-    size_t size;
-};
-
-/* An OBS of so many observations. */
-#define PACKET(sender, tow, wn, n_obs, count) {SBP_MSG_OBS, sender, tow, wn, n_obs, HEAD + EACH * (count)}
-
-static uint8_t state[SBP_STATE];
-
-static void put_payload(uint8_t payload[LONGEST], const struct frame *f) {
-    memset(payload, 0, LONGEST);
-    put(payload, f->tow, 4);
-    put(payload + 4, f->wn, 2);
-    payload[6] = f->n_obs;
-}
-
-/* ---- collators made and fed */
+/* ---- single cases */
 
 /* The roster's answer; a refusal leaves the state as it was. */
 static void say_made(const uint16_t *roster, size_t n) {
@@ -35,52 +12,6 @@ static void say_made(const uint16_t *roster, size_t n) {
         expect_filled(state, sizeof state);
     }
 }
-
-static void collate(const uint16_t *roster, size_t n) {
-    if (sbp_collator(state, sizeof state, roster, n)) {
-        printf("no collator ");
-    }
-}
-
-static void collate_three(void) {
-    static const uint16_t roster[] = {1228, 0, 65535};
-    collate(roster, COUNT(roster));
-}
-
-/* A refusal leaves the state as it was, and all but an epoch the report. */
-static uint8_t feed(uint16_t kind, uint16_t sender, const uint8_t *payload, size_t n, uint8_t report[SBP_REPORT]) {
-    uint8_t before[SBP_STATE];
-    memcpy(before, state, sizeof state);
-    fill(report, SBP_REPORT);
-    const uint8_t answer = sbp_feed(state, sizeof state, kind, sender, payload, n, report, SBP_REPORT);
-    if (answer != SBP_EPOCH) {
-        expect_filled(report, SBP_REPORT);
-    }
-    if (answer != SBP_EPOCH && answer != SBP_TAKEN && memcmp(before, state, sizeof state) != 0) {
-        printf(" moved");
-    }
-    return answer;
-}
-
-static uint8_t feed_frame(const struct frame *f, uint8_t report[SBP_REPORT]) {
-    uint8_t payload[LONGEST];
-    put_payload(payload, f);
-    return feed(f->kind, f->sender, payload, f->size, report);
-}
-
-static void say_fed(const struct frame *f) {
-    uint8_t report[SBP_REPORT];
-    const uint8_t answer = feed_frame(f, report);
-    if (answer == SBP_EPOCH) {
-        say_epoch(report);
-    } else if (answer == SBP_TAKEN) {
-        printf(" taken");
-    } else {
-        say_refused(answer);
-    }
-}
-
-/* ---- single cases */
 
 static void rosters(void) {
     static const uint16_t plain[] = {1, 2, 3, 4, 5, 6, 7, 8, 9}, ends[] = {0, 65535}, twice[] = {5, 6, 5}, long_and_twice[] = {1, 1, 3, 4, 5, 6, 7, 8, 9};
@@ -116,13 +47,13 @@ static const struct frame HALVES[] = {
     PACKET(0, 1, 2, 0x02, 0), PACKET(0, 1, 2, 0x10, 15), PACKET(65535, 9, 8, 0x10, 0),
 };
 
-/* 46, 22, 43, 44, 45: each before the next, and none of them breaks the open run. */
+/* 46, 22, 43, 44, 45: each before the next, and none of them drops the open epoch. */
 static const struct frame REFUSALS[] = {
     PACKET(0, 5, 6, 0x20, 1), {0x004A, 9, 1, 2, 0, 8}, {SBP_MSG_OBS, 9, 1, 2, 0, 8}, PACKET(9, 1, 2, 0x00, 0),
     PACKET(0, 1, 2, 0x00, 0), PACKET(0, 5, 6, 0x12, 1), PACKET(1228, 5, 6, 0x21, 1), PACKET(0, 5, 6, 0x21, 2),
 };
 
-/* Runs that break, and runs that begin anew: from one line to the next the collator goes on. */
+/* Counters and keys that come again: from one line to the next the collator goes on. */
 static const struct frame REPEATED[] = {PACKET(0, 5, 6, 0x30, 1), PACKET(0, 5, 6, 0x31, 1), PACKET(0, 5, 6, 0x31, 1), PACKET(0, 5, 6, 0x32, 1)};
 static const struct frame BEGUN_AGAIN[] = {
     PACKET(0, 5, 6, 0x30, 1), PACKET(0, 5, 6, 0x31, 1), PACKET(0, 5, 6, 0x30, 4),
@@ -136,7 +67,7 @@ static const struct frame TWO_SENDERS[] = {
     PACKET(0, 5, 6, 0x20, 1), PACKET(1228, 5, 6, 0x20, 10), PACKET(0, 5, 6, 0x21, 2), PACKET(1228, 5, 6, 0x21, 5),
 };
 
-static void runs(void) {
+static void come_again(void) {
     static const struct line lines[] = {
         {"repeated", REPEATED, COUNT(REPEATED)},
         {"begun-again", BEGUN_AGAIN, COUNT(BEGUN_AGAIN)},
@@ -260,7 +191,7 @@ void collated(void) {
     say_line(&halves);
     collate_three();
     say_line(&refusals);
-    runs();
+    come_again();
     sizes();
     eight();
     ticket();

@@ -15,6 +15,7 @@ int main(void) {
     logs();
     types();
     collated();
+    out_of_order();
     indexed();
     return 0;
 }

@@ -34,6 +34,7 @@ void observations(void);
 void logs(void);
 void types(void);
 void collated(void);
+void out_of_order(void);
 void indexed(void);
 
 /* A line of a message by its name: its payload's fields and the frame that they are written as, or the refusal. */

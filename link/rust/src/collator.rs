@@ -5,11 +5,11 @@ use crate::raw;
 use crate::refusal::{Refusal, answered, never_refused};
 use crate::rows::number;
 
-const STATE: usize = 105;
+const STATE: usize = 113;
 const REPORT: usize = 11;
 
-/// A whole epoch of a sender: all of its packets came, in order, with no other
-/// packet of that sender between them.
+/// A whole epoch of a sender: all of its packets came, in any order, with no
+/// packet of another epoch of that sender between them.
 ///
 /// ```
 /// use yaqtumeer::{Collator, Epoch, Obs, Writer};
@@ -38,14 +38,18 @@ pub struct Epoch {
 /// packets of one sender never count for another, and every number from 0 to
 /// 65535 is an ordinary sender.
 ///
+/// A sender has at most one epoch open. Its packets may overtake each other, and
+/// a copy of one does not count. A packet of another epoch drops the open one,
+/// of which nothing is told, and opens its own.
+///
 /// ```
 /// use yaqtumeer::{Collator, Frames, Obs, Writer};
 ///
-/// // two packets of an epoch of 7, one of an epoch of 0 between them
+/// // two packets of an epoch of 7, the second first, and between them an epoch of 0
 /// let packet = |sender, n_obs| {
 ///     Obs { tow: 5000, wn: 2000, n_obs, observations: vec![] }.frame(Writer::new(sender)).unwrap()
 /// };
-/// let capture = [packet(7, 0x20), packet(0, 0x10), packet(7, 0x21)].concat();
+/// let capture = [packet(7, 0x21), packet(0, 0x10), packet(7, 0x20)].concat();
 ///
 /// let mut collator = Collator::growing();
 /// let mut senders = vec![];
@@ -102,11 +106,14 @@ impl Collator {
         Collator { state, grows: true }
     }
 
-    /// The epoch that a frame ends, if any.
+    /// The epoch that a frame ends, if any: it brings the last packet that the
+    /// epoch lacked.
     ///
     /// Refused: [`Refusal::NotObs`], [`Refusal::WrongLength`],
     /// [`Refusal::NotListed`], [`Refusal::NoPackets`],
-    /// [`Refusal::WrongCounter`]; no epoch is broken by such a frame.
+    /// [`Refusal::WrongCounter`], [`Refusal::CounterTwice`] (a copy: the open
+    /// epoch has a packet of that counter already); such a frame changes nothing.
+    /// A copy that comes after its epoch has ended opens one again, and is taken.
     ///
     /// ```
     /// use yaqtumeer::{Collator, Frames, Heartbeat, Refusal, Writer};
@@ -125,11 +132,13 @@ impl Collator {
     /// use yaqtumeer::{Collator, Obs, Refusal};
     ///
     /// let mut collator = Collator::new(&[7]).unwrap();
-    /// let first_of_two = [0, 0, 0, 0, 0, 0, 0x20];
-    /// assert_eq!(collator.feed_content(Obs::KIND, 7, &first_of_two), Ok(None));
-    /// let second = [0, 0, 0, 0, 0, 0, 0x21];
-    /// assert_eq!(collator.feed_content(Obs::KIND, 8, &second), Err(Refusal::NotListed));
-    /// let epoch = collator.feed_content(Obs::KIND, 7, &second).unwrap().unwrap();
+    /// let second_of_two = [0, 0, 0, 0, 0, 0, 0x21];
+    /// assert_eq!(collator.feed_content(Obs::KIND, 7, &second_of_two), Ok(None));
+    /// let copy = collator.feed_content(Obs::KIND, 7, &second_of_two);
+    /// assert_eq!(copy, Err(Refusal::CounterTwice));
+    /// let first = [0, 0, 0, 0, 0, 0, 0x20];
+    /// assert_eq!(collator.feed_content(Obs::KIND, 8, &first), Err(Refusal::NotListed));
+    /// let epoch = collator.feed_content(Obs::KIND, 7, &first).unwrap().unwrap();
     /// assert_eq!((epoch.sender, epoch.n), (7, 2));
     /// ```
     pub fn feed_content(

@@ -29,7 +29,7 @@ macro_rules! refusals {
             /// for refusal in Refusal::ALL {
             ///     println!("{} {}: {refusal}", refusal.number(), refusal.name());
             /// }
-            /// assert_eq!(Refusal::ALL.len(), 16);
+            /// assert_eq!(Refusal::ALL.len(), 17);
             /// ```
             pub const ALL: [Refusal; [$($number),*].len()] = [$(Refusal::$variant),*];
 
@@ -68,6 +68,7 @@ refusals! {
     NoPackets = 44, "NO_PACKETS": "the observation frame says that its epoch has no packets";
     WrongCounter = 45, "WRONG_COUNTER": "the observation frame's counter is not below its number of packets";
     NotObs = 46, "NOT_OBS": "the frame is no observation frame";
+    CounterTwice = 47, "COPY": "the observation frame's counter has come already in its sender's open epoch";
     ListShort = 51, "LIST_SHORT": "the list is shorter than the frames it has to hold";
     CaptureShort = 52, "CAPTURE_SHORT": "the capture is shorter than the position that its index has reached";
 }

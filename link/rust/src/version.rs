@@ -4,11 +4,11 @@ use std::fmt;
 
 use crate::raw;
 
-/// A version: printed as `0.13.0`.
+/// A version: printed as `0.14.0`.
 ///
 /// ```
-/// let version = yaqtumeer::Version { major: 0, minor: 13, patch: 0 };
-/// assert_eq!(version.to_string(), "0.13.0");
+/// let version = yaqtumeer::Version { major: 0, minor: 14, patch: 0 };
+/// assert_eq!(version.to_string(), "0.14.0");
 /// ```
 #[derive(Clone, Copy, Debug, PartialEq, Eq, PartialOrd, Ord, Hash)]
 pub struct Version {

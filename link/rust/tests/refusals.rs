@@ -43,6 +43,7 @@ fn numbers_names_and_texts() {
         (Refusal::NoPackets, 44, "NO_PACKETS", "no packets"),
         (Refusal::WrongCounter, 45, "WRONG_COUNTER", "counter"),
         (Refusal::NotObs, 46, "NOT_OBS", "no observation frame"),
+        (Refusal::CounterTwice, 47, "COPY", "come already"),
         (Refusal::ListShort, 51, "LIST_SHORT", "list is shorter"),
         (
             Refusal::CaptureShort,

@@ -170,7 +170,7 @@ fn versions() {
         version(),
         Version {
             major: 0,
-            minor: 13,
+            minor: 14,
             patch: 0
         }
     );

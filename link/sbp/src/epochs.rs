@@ -2,12 +2,12 @@
 
 use crate::input::{Reader, Totals};
 use std::collections::HashMap;
-use yaqtumeer::{Collator, Epoch, Frame, Obs};
+use yaqtumeer::{Collator, Epoch, Frame, Obs, Refusal};
 
 /// A collator lists at most so many senders.
 const SEATS: usize = 8;
 
-const COLUMNS: usize = 8;
+const COLUMNS: usize = 9;
 const HEADINGS: [&str; COLUMNS] = [
     "sender",
     "epochs",
@@ -17,6 +17,7 @@ const HEADINGS: [&str; COLUMNS] = [
     "last_tow",
     "observations",
     "no_epoch",
+    "copies",
 ];
 
 /// What is known of a sender.
@@ -26,9 +27,10 @@ struct Row {
     first: Option<Epoch>,
     last: Option<Epoch>,
     observations: u64,
-    /// Its observation frames, and those of them that are in an epoch.
+    /// Its observation frames; of these those that are in an epoch, and the copies.
     frames: u64,
     collated: u64,
+    copies: u64,
 }
 
 impl Row {
@@ -41,6 +43,7 @@ impl Row {
             observations: 0,
             frames: 0,
             collated: 0,
+            copies: 0,
         }
     }
 
@@ -63,7 +66,8 @@ impl Row {
             wn(self.last),
             tow(self.last),
             self.observations.to_string(),
-            (self.frames - self.collated).to_string(),
+            (self.frames - self.collated - self.copies).to_string(),
+            self.copies.to_string(),
         ]
     }
 }
@@ -104,10 +108,13 @@ impl Reader for Epochs {
             return;
         }
         let place = self.place(frame.sender);
-        self.rows[place].frames += 1;
-        // A refused frame is in no epoch.
-        if let Ok(Some(epoch)) = self.collators[place / SEATS].feed(frame) {
-            self.rows[place].take(epoch);
+        let row = &mut self.rows[place];
+        row.frames += 1;
+        match self.collators[place / SEATS].feed(frame) {
+            Ok(Some(epoch)) => row.take(epoch),
+            // What it brings is in the open epoch already, so that nothing is lost with it.
+            Err(Refusal::CounterTwice) => row.copies += 1,
+            Ok(None) | Err(_) => (),
         }
     }
 
@@ -149,7 +156,7 @@ mod tests {
         wide[1] = "12345".into();
         let mut text = Vec::new();
         push_table(&mut text, &[narrow, wide]);
-        let wanted = "1      1  1  1  1  1  1  1\n1  12345  1  1  1  1  1  1\n";
+        let wanted = "1      1  1  1  1  1  1  1  1\n1  12345  1  1  1  1  1  1  1\n";
         assert_eq!(String::from_utf8(text).expect("it is ASCII"), wanted);
     }
 }

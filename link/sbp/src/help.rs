@@ -77,6 +77,11 @@ Prints a line for each sender of observation frames, in order of appearance:
   last_wn last_tow    of its last
   observations        in its epochs
   no_epoch            its observation frames that are in no epoch, malformed ones too
+  copies              its packets that came again while their epoch was open
+
+The packets of an epoch may come in any order. One of another epoch of that sender drops
+the epoch that is open. Copies are not in no_epoch; but a copy that comes when its epoch
+is whole opens one again, as a new packet does.
 
 With several files each has a table of its own, below a line with its name. A table of
 a capture that could not be read to its end has what came before.

@@ -81,8 +81,8 @@ impl Observation {
     }
 }
 
-/// A packet of up to 15 observations. An epoch comes in up to 15 packets, which
-/// a [`Collator`](crate::Collator) collates.
+/// A packet of up to 15 observations. An epoch comes in up to 15 packets, in any
+/// order, which a [`Collator`](crate::Collator) collates.
 ///
 /// ```
 /// use yaqtumeer::{Obs, Observation, Writer};
