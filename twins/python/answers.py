@@ -313,6 +313,13 @@ def walks():
         yield line
 
 
+def in_counter_order():
+    """An epoch as document 01 had it before P7: n packets of one key that follow one another, with counters 0 to n - 1. Here three come, of n = 3, and
+    packet i has 8 + i observations."""
+    for came in (0, 1, 2), (0, 2, 1):
+        yield "run %d %d %d" % came + (" epoch %d" % sum(8 + i for i in came) if came == (0, 1, 2) else "")
+
+
 def types():
     """The lengths up to 264 at which zeros are taken, by type; then how many types answer 21 to an empty payload, and how many 22."""
     sizes = {kind: [struct.calcsize("<" + layout)] for kind, layout, _ in MESSAGES.values()}
@@ -556,7 +563,7 @@ def rewritten():
 
 def lines():
     """What vectors prints: the published values, and what no linked function reaches."""
-    for part in published, noise_around, sums_apart, numbers, doubles, log_texts, walks, counted:
+    for part in published, noise_around, sums_apart, numbers, doubles, log_texts, walks, counted, in_counter_order:
         yield from part()
 
 

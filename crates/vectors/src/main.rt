@@ -5,6 +5,7 @@
 mod apart;
 mod collated;
 mod doubles;
+mod in_counter_order;
 mod numbers;
 mod payload;
 mod print;
@@ -22,4 +23,5 @@ fn main() {
     texts::run();
     walks::run();
     collated::run();
+    in_counter_order::run();
 }
