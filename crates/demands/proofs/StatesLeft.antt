@@ -17,16 +17,16 @@ use Rattle.layouts.specs.Field.{Field, Row, formatOf, size, rowStored}
 use Rattle.lent_rows.specs.Lent.{firstRowsStored}
 use Rattle.frames.specs.Frame.{Content}
 use Rattle.observation.specs.Edition.{isObs}
-use Rattle.epochs.specs.Search.{seatOf}
-use Rattle.epochs.specs.Collator.{Move, feeding, rosterOf}
+use Rattle.epochs.specs.Collator.{Move, feeding}
 use Rattle.epochs.specs.declared.seating.Seat.{Seat}
 use Rattle.epochs.specs.declared.seating.Seat.the-variants.{At, Nowhere}
 use Rattle.epochs.specs.declared.collating.Collator.{Collator}
 use Rattle.epochs.specs.declared.collating.Place.{Place}
 use Rattle.epochs.proofs.Feeding.{replied-moves}
-use Rattle.places.specs.State.{stateSize, slotAt, slot, slotFields, seatFields, countFields, slotOf, seatRow, placeRow, sendersIn, countStored, placeStored, collatorStored, seatsStored, stateIn}
+use Rattle.enlisting.proofs.Seating.{seat-eight}
+use Rattle.places.specs.State.{stateSize, seatAt, slotAt, slot, slotFields, seatFields, countFields, slotOf, seatRow, placeRow, sendersIn, seatsIn, countStored, placeStored, collatorStored, seatsStored, stateIn}
 use Rattle.states.specs.Feed.{madeIn, madeStored, feedingIn, moveIn, cameOut, fedIn}
-use Rattle.states.specs.Enlist.{growingIn, growingStored, seatTaken, seatedBy, joinedIn, enlistedIn, enlistIn, enlistStored}
+use Rattle.states.specs.Enlist.{growingIn, growingStored, seatTaken, seatedBy, newSeatIn, joinedIn, enlistedIn, enlistIn, enlistStored}
 use Rattle.states.proofs.Feeds.{eight}
 use Rattle.demands.specs.Exported.{OtherBytes}
 
@@ -73,24 +73,19 @@ after-stored (refused n) s = refl
 
 -- a seat that is taken is one of eight
 module _ (s : List ℕ) (sender : ℕ) where
-  after-seat : (seat : Seat) → drop stateSize (seatedBy seat s sender) ≡ drop stateSize s
+  after-seat : (seat : Seat) → newSeatIn s sender ≡ seat → drop stateSize (seatedBy seat s sender) ≡ drop stateSize s
   unfolding seatTaken
-  after-seat (At i) = refl
-  after-seat Nowhere = by (leb 8 (sendersIn s)) refl
-    where
-      by : (t : Bool) → leb 8 (sendersIn s) ≡ t → drop stateSize (cond t s (seatTaken s sender)) ≡ drop stateSize s
-      by true e = refl
-      by false e =
-          let at = 1 + sendersIn s * 2 in
-          after-count (sendersIn s + 1) (rowStored seatFields (sender, tt) s at)
-          ∙ after-row stateSize seatFields (sender, tt) s at (omega (arith, leb-false 8 (sendersIn s) e))
+  after-seat Nowhere e = refl
+  after-seat (At i) e =
+      after-count (i + 1) (rowStored seatFields (sender, tt) s (seatAt i))
+      ∙ after-row stateSize seatFields (sender, tt) s (seatAt i) (omega (arith, seat-eight (seatsIn s) (sendersIn s) sender e))
 
   after-enlisted : (kind : ℕ) → drop stateSize (enlistedIn s kind sender) ≡ drop stateSize s
   unfolding enlistedIn
   after-enlisted kind = by (isObs kind)
     where
       by : (t : Bool) → drop stateSize (cond t (joinedIn s sender) s) ≡ drop stateSize s
-      by true = after-seat (seatOf (rosterOf (stateIn s)) sender 0)
+      by true = after-seat (newSeatIn s sender) refl
       by false = refl
 
 module _ (s : List ℕ) (x : Content) (report : List ℕ) where

@@ -292,6 +292,7 @@ module _ {M : Type 1} (𝓤 : URA M) (H : Heap 𝓤) (A : Atoms 𝓤) (mem : Mem
     pub collate : Determined 𝓤 captures.collate.ended (captures.collate.clauses 𝓤 H A mem run)
 
   pub record Enlisting : Type 1 where
+    pub new-seat : Determined 𝓤 enlisting.new_seat.ended (enlisting.new_seat.clauses 𝓤 H A mem run)
     pub enlist : Determined 𝓤 enlisting.enlist.ended (enlisting.enlist.clauses 𝓤 H A mem run)
 
   pub record Lines : Type 1 where

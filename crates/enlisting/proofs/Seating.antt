@@ -1,22 +1,22 @@
 -- The eight seats of a collator: what they hold of a roster, and that a sender joins them as it joins the roster.
 use mathlib.Core.Path.{_≡_, refl, sym, ap, ap₂, _∙_}
-use mathlib.Core.Bool.{Bool, true, false, cond, true≢false}
+use mathlib.Core.Bool.{Bool, true, false, cond, not, _&&_}
 use mathlib.Core.List.{List, [], _∷_, _++_}
 use Prim.Native.Nat.{ℕ, zero, suc, _+_, _≤_, _<_}
 use native.Mathlib.Omega.{arith}
+use lib.Dec.{ltb}
 use lib.ListN.{length, set, take, replicate, length-append}
-use borrow.Author.Tests.{le-leb, lt-leb}
+use borrow.Author.Tests.{ltb-true, lt-ltb, le-ltb}
 use Rattle.frames.specs.Frame.{Content}
 use Rattle.observation.specs.Edition.{isObs}
-use Rattle.epochs.specs.Search.{seatOf, isAt, names}
+use Rattle.epochs.specs.Search.{names}
 use Rattle.epochs.specs.Collator.{rosterOf}
 use Rattle.epochs.specs.declared.seating.Seat.{Seat}
 use Rattle.epochs.specs.declared.seating.Seat.the-variants.{At, Nowhere}
 use Rattle.epochs.specs.declared.collating.Place.{Place}
 use Rattle.epochs.specs.declared.collating.Collator.{Collator}
-use Rattle.epochs.proofs.Searches.{seat-listed}
 use Rattle.epochs.proofs.Senders.{roster-kept}
-use Rattle.enlisting.specs.Enlisting.{seatedIn, joinedTo, enlistedTo}
+use Rattle.enlisting.specs.Enlisting.{newSeat, seatedIn, joinedTo, enlistedTo}
 use Rattle.enlisting.proofs.Joining.{joined, enlisted, by-joining}
 
 -- a collator of a roster, with its places in any state
@@ -40,20 +40,27 @@ one-more [] (suc n) zero x h g = absurd (omega arith)
 one-more [] (suc n) (suc k) x h g = ap (λ (r : List ℕ). x ∷ r) (take-zeros n k (suc k) (omega arith) (omega arith))
 one-more (y ∷ xs) (suc n) k x h g = ap (λ (r : List ℕ). y ∷ r) (one-more xs n k x (omega arith) (omega arith))
 
--- ---- the three ways through `joined`
+-- ---- the three ways to a new seat
 
-module _ (c : Collator) (sender : ℕ) where
-  pub joins-listed : {i : ℕ} → seatOf (rosterOf c) sender 0 ≡ At i → c ≡ joinedTo c sender
-  joins-listed e = ap (λ (x : Seat). seatedIn x c sender) (sym e)
+module _ (roster : List ℕ) (count sender : ℕ) where
+  pub seat-had : names (take count roster) sender ≡ true → newSeat roster count sender ≡ Nowhere
+  seat-had n = rw n
 
-  module _ (e : seatOf (rosterOf c) sender 0 ≡ Nowhere) where
-    pub joins-full : 8 ≤ c .count → c ≡ joinedTo c sender
-    joins-full h = let kept : seatedIn Nowhere c sender ≡ c = rw (le-leb 8 (c .count) h) in sym kept ∙ ap (λ (x : Seat). seatedIn x c sender) (sym e)
+  module _ (n : names (take count roster) sender ≡ false) where
+    pub seat-full : 8 ≤ count → newSeat roster count sender ≡ Nowhere
+    seat-full h = rw (n, le-ltb count 8 h)
 
-    pub joins-last : c .count < 8 → record { places = c .places; roster = set (c .roster) (c .count) sender; count = c .count + 1 } ≡ joinedTo c sender
-    joins-last h =
-        let taken : seatedIn Nowhere c sender ≡ record { places = c .places; roster = set (c .roster) (c .count) sender; count = c .count + 1 } = rw (lt-leb 8 (c .count) h) in
-        sym taken ∙ ap (λ (x : Seat). seatedIn x c sender) (sym e)
+    pub seat-free : count < 8 → newSeat roster count sender ≡ At count
+    seat-free h = rw (n, lt-ltb count 8 h)
+
+  -- it is one of eight
+  pub seat-eight : {i : ℕ} → newSeat roster count sender ≡ At i → i < 8
+  seat-eight {i} e = by (not (names (take count roster) sender)) (ltb count 8) refl e
+    where
+      by : (new room : Bool) → ltb count 8 ≡ room → cond (new && room) (At count) Nowhere ≡ At i → i < 8
+      by true true q e = let same : count ≡ i = cc in omega (arith, ltb-true count 8 q)
+      by true false q e = let z : _≡_ {A = ℕ} 0 1 = cc in absurd (omega arith)
+      by false room q e = let z : _≡_ {A = ℕ} 0 1 = cc in absurd (omega arith)
 
 -- ---- and the two through `enlist`
 
@@ -66,30 +73,24 @@ module _ (c : Collator) (kind sender : ℕ) where
   unfolding enlistedTo
   enlists-none e = sym (ap (λ (t : Bool). cond t (joinedTo c sender) c) e)
 
--- a sender that is not named has no seat
-seat-unlisted : (xs : List ℕ) (sender : ℕ) → names xs sender ≡ false → seatOf xs sender 0 ≡ Nowhere
-unfolding names
-seat-unlisted xs sender n = by (seatOf xs sender 0) refl
-  where
-    by : (x : Seat) → seatOf xs sender 0 ≡ x → seatOf xs sender 0 ≡ Nowhere
-    by Nowhere e = e
-    by (At i) e = absurd (true≢false (ap isAt (sym e) ∙ n))
-
 -- ---- so a sender joins the seats as it joins the roster
 
 module _ (places : List Place) (roster : List ℕ) (few : length roster ≤ 8) where
   held-joined : (sender : ℕ) → joinedTo (heldIn places roster) sender ≡ heldIn places (joined roster sender)
   held-joined sender =
-      by-joining roster sender (λ (r : List ℕ). joinedTo c sender ≡ heldIn places r) (λ n. sym (joins-listed c sender (seat ∙ seat-listed roster sender n .1)))
-      (λ n h. sym (joins-full c sender (seat ∙ seat-unlisted roster sender n) h)) (λ n h. sym (joins-last c sender (seat ∙ seat-unlisted roster sender n) h) ∙ last h)
+      by-joining roster sender (λ (r : List ℕ). joinedTo c sender ≡ heldIn places r) (λ n. seated (seat-had (c .roster) (c .count) sender (listed ∙ n)))
+      (λ n h. seated (seat-full (c .roster) (c .count) sender (listed ∙ n) h)) (λ n h. seated (seat-free (c .roster) (c .count) sender (listed ∙ n) h) ∙ last h)
     where
       c : Collator
       c = heldIn places roster
 
-      seat : seatOf (rosterOf c) sender 0 ≡ seatOf roster sender 0
-      seat = ap (λ (xs : List ℕ). seatOf xs sender 0) (held-list places roster few)
+      listed : names (rosterOf c) sender ≡ names roster sender
+      listed = ap (λ (xs : List ℕ). names xs sender) (held-list places roster few)
 
-      last : length roster < 8 → record { places = places; roster = set (c .roster) (c .count) sender; count = c .count + 1 } ≡ heldIn places (roster ++ sender ∷ [])
+      seated : {x : Seat} → newSeat (c .roster) (c .count) sender ≡ x → joinedTo c sender ≡ seatedIn x c sender
+      seated e = ap (λ (x : Seat). seatedIn x c sender) e
+
+      last : length roster < 8 → seatedIn (At (c .count)) c sender ≡ heldIn places (roster ++ sender ∷ [])
       last h =
           ap₂ {C = Collator} (λ (ss : List ℕ) (n : ℕ). record { places = places; roster = ss; count = n }) (one-more roster 8 8 sender h (omega arith))
           (sym (length-append roster (sender ∷ [])))

@@ -2,14 +2,14 @@
 -- From nobody on it comes to the same as a collator of the first eight senders, made beforehand.
 use Prim.Native.Nat.{ℕ, _+_}
 use mathlib.Core.Path.{_≡_}
-use mathlib.Core.Bool.{cond}
+use mathlib.Core.Bool.{cond, not, _&&_}
 use mathlib.Core.List.{List, [], _∷_}
-use lib.Dec.{leb}
-use lib.ListN.{set}
+use lib.Dec.{ltb}
+use lib.ListN.{set, take}
 use Rattle.frames.specs.Frame.{Content}
 use Rattle.observation.specs.Edition.{isObs}
-use Rattle.epochs.specs.Search.{seatOf}
-use Rattle.epochs.specs.Collator.{rosterOf, fedFrame, made}
+use Rattle.epochs.specs.Search.{names}
+use Rattle.epochs.specs.Collator.{fedFrame, made}
 use Rattle.epochs.specs.Epoch.{after, outcomes}
 use Rattle.epochs.specs.declared.seating.Seat.{Seat}
 use Rattle.epochs.specs.declared.seating.Seat.the-variants.{At, Nowhere}
@@ -18,13 +18,17 @@ use Rattle.epochs.specs.declared.collating.Fed.{Fed}
 use Rattle.epochs.specs.declared.collating.Happened.{Happened}
 use Rattle.enlisting.specs.FirstEight.{firstEight}
 
--- a sender that has no seat yet gets the next one, while there is room
+-- the seat that a sender takes: the next one, where it has none yet and there is room
+abbrev pub newSeat : List ℕ → ℕ → ℕ → Seat
+newSeat roster count sender = cond (not (names (take count roster) sender) && ltb count 8) (At count) Nowhere
+
+-- a sender in its new seat, if it takes one
 abbrev pub seatedIn : Seat → Collator → ℕ → Collator
-seatedIn (At i) c sender = c
-seatedIn Nowhere c sender = cond (leb 8 (c .count)) c (record { places = c .places; roster = set (c .roster) (c .count) sender; count = c .count + 1 })
+seatedIn Nowhere c sender = c
+seatedIn (At i) c sender = record { places = c .places; roster = set (c .roster) i sender; count = i + 1 }
 
 abbrev pub joinedTo : Collator → ℕ → Collator
-joinedTo c sender = seatedIn (seatOf (rosterOf c) sender 0) c sender
+joinedTo c sender = seatedIn (newSeat (c .roster) (c .count) sender) c sender
 
 -- the sender of a frame of type OBS
 unfoldable pub enlistedTo : Collator → ℕ → ℕ → Collator

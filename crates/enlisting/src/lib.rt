@@ -2,26 +2,45 @@
 // Read specs/FirstEight.antt (who they are, in document 01's words) and specs/Enlisting.antt (how they come to their seats, and that it makes no
 // difference to a collator that was made of them) first.
 ghost use mathlib.Core.Path.{_≡_};
-ghost use Rattle.enlisting.specs.Enlisting.{joinedTo, enlistedTo};
+ghost use Prim.Native.Nat.{_<_};
+ghost use Rattle.epochs.specs.declared.seating.Seat.the-variants.{At};
+ghost use Rattle.enlisting.specs.Enlisting.{newSeat, seatedIn, joinedTo, enlistedTo};
 use epochs::Collator;
 use epochs::Seat;
 
-// A sender that has no seat yet gets the next one, while there is room.
+// The seat that a sender takes: the next one, where it has none yet and there is room.
+pub fn new_seat(roster: [u16; 8], count: usize, sender: u16) -> Seat
+    ensures { λ r. ⌜ r ≡ newSeat roster count sender ⌝ }
+{
+    let Seat::Nowhere = epochs::seat_of(roster, count, sender) else {
+        return Seat::Nowhere;
+    };
+    if 8 <= count {
+        return Seat::Nowhere;
+    }
+    Seat::At(count)
+}
+
+// A sender in the seat that it takes.
+fn seated(collator: Collator, i: usize, sender: u16) -> Collator
+    requires { ⌜ i < 8 ⌝ }
+    ensures { λ r. ⌜ r ≡ seatedIn (At i) collator sender ⌝ }
+{
+    let mut more = collator;
+    more.roster[i] = sender;
+    more.count = i + 1;
+    more
+}
+
 fn joined(collator: Collator, sender: u16) -> Collator
     ensures { λ r. ⌜ r ≡ joinedTo collator sender ⌝ }
 {
     let roster = collator.roster;
     let count = collator.count;
-    let Seat::Nowhere = epochs::seat_of(roster, count, sender) else {
+    let Seat::At(i) = new_seat(roster, count, sender) else {
         return collator;
     };
-    if 8 <= count {
-        return collator;
-    }
-    let mut more = collator;
-    more.roster[count] = sender;
-    more.count = count + 1;
-    more
+    seated(collator, i, sender)
 }
 
 // The sender of an observation frame has its seat before the frame is fed. Start with the collator of an empty roster, which lists nobody.

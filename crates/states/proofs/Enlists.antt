@@ -4,42 +4,29 @@ use mathlib.Core.Bool.{Bool, true, false, cond}
 use mathlib.Core.List.{List, []}
 use Prim.Native.Nat.{ℕ, _+_, _≤_, _<_}
 use native.Mathlib.Omega.{arith}
-use lib.Dec.{leb, ltb}
+use lib.Dec.{ltb}
 use lib.ListN.{length, set}
-use borrow.Author.Tests.{le-leb, lt-leb, leb-false, ltb-true, ltb-false}
+use borrow.Author.Tests.{le-leb, lt-leb, ltb-true, ltb-false}
 use Rattle.layouts.specs.Field.{Row, size, decode, rowStored}
 use Rattle.layouts.proofs.Fields.{length-row}
 use Rattle.wire.specs.Tabulated.{tabulated}
 use Rattle.observation.specs.Edition.{isObs}
-use Rattle.epochs.specs.Search.{seatOf}
-use Rattle.epochs.specs.Collator.{rosterOf, made}
+use Rattle.epochs.specs.Collator.{made}
 use Rattle.epochs.specs.declared.seating.Seat.{Seat}
 use Rattle.epochs.specs.declared.seating.Seat.the-variants.{At, Nowhere}
 use Rattle.epochs.specs.declared.collating.Collator.{Collator}
 use Rattle.epochs.specs.declared.collating.Made.{Made}
 use Rattle.epochs.proofs.Making.{nobody, made-seated}
 use Rattle.enlisting.specs.Enlisting.{seatedIn, enlistedTo}
-use Rattle.places.specs.State.{countFields, seatFields, slot, slotFields, stateSize, seatAt, slotAt, placeOf, placeIn, sendersIn, seatIn, stateIn, collatorStored}
-use Rattle.states.specs.Enlist.{growingIn, growingAnswer, growingStored, seatTaken, seatedBy, joinedIn, enlistedIn, enlistIn, enlistAnswer, enlistStored}
+use Rattle.enlisting.proofs.Seating.{seat-eight}
+use Rattle.places.specs.State.{countFields, seatFields, slot, slotFields, stateSize, seatAt, slotAt, placeOf, placeIn, sendersIn, seatIn, seatsIn, stateIn, collatorStored}
+use Rattle.states.specs.Enlist.{growingIn, growingAnswer, growingStored, seatTaken, seatedBy, newSeatIn, joinedIn, enlistedIn, enlistIn, enlistAnswer, enlistStored}
 use Rattle.lent_rows.proofs.Parts.{decode-stored, decode-before, decode-after}
 use Rattle.wire.proofs.Tables.{tabulated-set, tabulated-same}
 use Rattle.places.proofs.States.{state-stored, length-collator}
 use Rattle.states.proofs.Makes.{fresh-held}
 
--- ---- the three ways through `join`
-
-module _ (s : List ℕ) (sender : ℕ) where
-  pub has-seat : {i : ℕ} → seatOf (rosterOf (stateIn s)) sender 0 ≡ At i → s ≡ joinedIn s sender
-  has-seat e = ap (λ (x : Seat). seatedBy x s sender) (sym e)
-
-  module _ (e : seatOf (rosterOf (stateIn s)) sender 0 ≡ Nowhere) where
-    pub no-seat : 8 ≤ sendersIn s → s ≡ joinedIn s sender
-    no-seat h = rw (e, le-leb 8 (sendersIn s) h)
-
-    pub gets-seat : {t : List ℕ} → sendersIn s < 8 → t ≡ seatTaken s sender → t ≡ joinedIn s sender
-    gets-seat h q = rw (e, lt-leb 8 (sendersIn s) h) q
-
--- ---- and the two through `enlist`
+-- ---- the two ways through `enlist`
 
 module _ (s : List ℕ) (kind sender : ℕ) where
   pub enlists : {t : List ℕ} → isObs kind ≡ true → t ≡ joinedIn s sender → t ≡ enlistedIn s kind sender
@@ -87,82 +74,73 @@ grown-state s long =
 pub length-grown : (s : List ℕ) → stateSize ≤ length s → length (growingStored s) ≡ length s
 length-grown s long = ap length (sym (grows-put s {m = made []} refl long refl .1)) ∙ length-collator (made [] .collator) s
 
-module _ (s : List ℕ) (long : stateSize ≤ length s) (sender : ℕ) where
+module _ (s : List ℕ) (long : stateSize ≤ length s) (i sender : ℕ) where
   -- the bytes with the sender in its seat, before it is counted
   abbrev seated : List ℕ
-  seated = rowStored seatFields (sender, tt) s (seatAt (sendersIn s))
+  seated = rowStored seatFields (sender, tt) s (seatAt i)
 
   length-seated : length seated ≡ length s
-  length-seated = length-row seatFields (sender, tt) s (seatAt (sendersIn s))
+  length-seated = length-row seatFields (sender, tt) s (seatAt i)
 
-  length-taken : length (seatTaken s sender) ≡ length s
+  length-taken : length (seatTaken s i sender) ≡ length s
   unfolding seatTaken
-  length-taken = length-row countFields (sendersIn s + 1, tt) seated 0 ∙ length-seated
+  length-taken = length-row countFields (i + 1, tt) seated 0 ∙ length-seated
 
-  module _ (few : sendersIn s < 8) where
-    room : seatAt (sendersIn s) + size seatFields ≤ length s
+  module _ (few : i < 8) where
+    room : seatAt i + size seatFields ≤ length s
     room = omega arith
 
     counted-room : 0 + size countFields ≤ length seated
     counted-room = omega (arith, length-seated)
 
-    count-taken : sendersIn (seatTaken s sender) ≡ sendersIn s + 1
+    count-taken : sendersIn (seatTaken s i sender) ≡ i + 1
     unfolding seatTaken
-    count-taken = ap (λ (v : Row countFields). v .0) (decode-stored countFields (sendersIn s + 1, tt) seated 0 counted-room (record { fits = omega arith }, tt) (refl, tt))
+    count-taken = ap (λ (v : Row countFields). v .0) (decode-stored countFields (i + 1, tt) seated 0 counted-room (record { fits = omega arith }, tt) (refl, tt))
 
-    seat-own : sender < 65536 → seatIn (seatTaken s sender) (sendersIn s) ≡ sender
+    seat-own : sender < 65536 → seatIn (seatTaken s i sender) i ≡ sender
     unfolding seatTaken
     seat-own h =
         ap (λ (v : Row seatFields). v .0)
-        (decode-after countFields (sendersIn s + 1, tt) seated 0 counted-room seatFields (seatAt (sendersIn s)) (omega arith)
-        ∙ decode-stored seatFields (sender, tt) s (seatAt (sendersIn s)) room (record { fits = h }, tt) (refl, tt))
+        (decode-after countFields (i + 1, tt) seated 0 counted-room seatFields (seatAt i) (omega arith)
+        ∙ decode-stored seatFields (sender, tt) s (seatAt i) room (record { fits = h }, tt) (refl, tt))
 
-    seat-other : (j : ℕ) → (j ≡ sendersIn s → ⊥) → seatIn (seatTaken s sender) j ≡ seatIn s j
+    seat-other : (j : ℕ) → (j ≡ i → ⊥) → seatIn (seatTaken s i sender) j ≡ seatIn s j
     unfolding seatTaken
     seat-other j other =
-        ap (λ (v : Row seatFields). v .0) (decode-after countFields (sendersIn s + 1, tt) seated 0 counted-room seatFields (seatAt j) (omega arith) ∙ by (ltb j (sendersIn s)) refl)
+        ap (λ (v : Row seatFields). v .0) (decode-after countFields (i + 1, tt) seated 0 counted-room seatFields (seatAt j) (omega arith) ∙ by (ltb j i) refl)
       where
-        by : (t : Bool) → ltb j (sendersIn s) ≡ t → decode seatFields seated (seatAt j) ≡ decode seatFields s (seatAt j)
+        by : (t : Bool) → ltb j i ≡ t → decode seatFields seated (seatAt j) ≡ decode seatFields s (seatAt j)
         by true e =
-            let below : j < sendersIn s = ltb-true j (sendersIn s) e in
-            decode-before seatFields (sender, tt) s (seatAt (sendersIn s)) room seatFields (seatAt j) (omega arith)
+            let below : j < i = ltb-true j i e in
+            decode-before seatFields (sender, tt) s (seatAt i) room seatFields (seatAt j) (omega arith)
         by false e =
-            let above : sendersIn s ≤ j = ltb-false j (sendersIn s) e in
-            let apart : sendersIn s < j = omega arith in
-            decode-after seatFields (sender, tt) s (seatAt (sendersIn s)) room seatFields (seatAt j) (omega arith)
+            let above : i ≤ j = ltb-false j i e in
+            let apart : i < j = omega arith in
+            decode-after seatFields (sender, tt) s (seatAt i) room seatFields (seatAt j) (omega arith)
 
-    place-same : (j : ℕ) → placeIn (seatTaken s sender) j ≡ placeIn s j
+    place-same : (j : ℕ) → placeIn (seatTaken s i sender) j ≡ placeIn s j
     unfolding seatTaken
     place-same j =
         ap (λ (v : Row slotFields). placeOf (slot .make v))
-        (decode-after countFields (sendersIn s + 1, tt) seated 0 counted-room slotFields (slotAt j) (omega arith)
-        ∙ decode-after seatFields (sender, tt) s (seatAt (sendersIn s)) room slotFields (slotAt j) (omega arith))
+        (decode-after countFields (i + 1, tt) seated 0 counted-room slotFields (slotAt j) (omega arith)
+        ∙ decode-after seatFields (sender, tt) s (seatAt i) room slotFields (slotAt j) (omega arith))
 
-    state-taken : sender < 65536
-        → stateIn (seatTaken s sender) ≡ record { places = stateIn s .places; roster = set (stateIn s .roster) (sendersIn s) sender; count = sendersIn s + 1 }
+    state-taken : sender < 65536 → stateIn (seatTaken s i sender) ≡ seatedIn (At i) (stateIn s) sender
     state-taken h =
-        let t = seatTaken s sender in
+        let t = seatTaken s i sender in
         let places : tabulated (placeIn t) 8 ≡ tabulated (placeIn s) 8 = tabulated-same (placeIn t) (placeIn s) 8 (λ j b. place-same j) in
-        let seats : tabulated (seatIn t) 8 ≡ set (tabulated (seatIn s) 8) (sendersIn s) sender
-        = tabulated-set (seatIn s) (seatIn t) 8 (sendersIn s) few (λ j b. seat-other j) ∙ ap (set (tabulated (seatIn s) 8) (sendersIn s)) (seat-own h) in
+        let seats : tabulated (seatIn t) 8 ≡ set (tabulated (seatIn s) 8) i sender
+        = tabulated-set (seatIn s) (seatIn t) 8 i few (λ j b. seat-other j) ∙ ap (set (tabulated (seatIn s) 8) i) (seat-own h) in
         λ k. record { places = places k; roster = seats k; count = count-taken k }
 
-  joined-state : sender < 65536 → (x : Seat) → stateIn (seatedBy x s sender) ≡ seatedIn x (stateIn s) sender
-  joined-state h (At i) = refl
-  joined-state h Nowhere = by (leb 8 (sendersIn s)) refl
-    where
-      by : (t : Bool) → leb 8 (sendersIn s) ≡ t
-          → stateIn (cond t s (seatTaken s sender)) ≡ cond t (stateIn s) (record { places = stateIn s .places; roster = set (stateIn s .roster) (sendersIn s) sender; count = sendersIn s + 1 })
-      by true e = refl
-      by false e = state-taken (leb-false 8 (sendersIn s) e) h
+module _ (s : List ℕ) (long : stateSize ≤ length s) (sender : ℕ) where
+  joined-state : sender < 65536 → (x : Seat) → newSeatIn s sender ≡ x → stateIn (seatedBy x s sender) ≡ seatedIn x (stateIn s) sender
+  joined-state h Nowhere e = refl
+  joined-state h (At i) e = state-taken s long i sender (seat-eight (seatsIn s) (sendersIn s) sender e) h
 
   length-joined : (x : Seat) → length (seatedBy x s sender) ≡ length s
-  length-joined (At i) = refl
-  length-joined Nowhere = by (leb 8 (sendersIn s))
-    where
-      by : (t : Bool) → length (cond t s (seatTaken s sender)) ≡ length s
-      by true = refl
-      by false = length-taken
+  length-joined Nowhere = refl
+  length-joined (At i) = length-taken s long i sender
 
 module _ (s : List ℕ) (long : stateSize ≤ length s) (kind sender : ℕ) where
   stored-enlisted : enlistedIn s kind sender ≡ enlistStored s kind sender
@@ -174,10 +152,10 @@ module _ (s : List ℕ) (long : stateSize ≤ length s) (kind sender : ℕ) wher
   enlisted-state h = ap stateIn (sym stored-enlisted) ∙ by (isObs kind)
     where
       seat : Seat
-      seat = seatOf (rosterOf (stateIn s)) sender 0
+      seat = newSeatIn s sender
 
       by : (t : Bool) → stateIn (cond t (seatedBy seat s sender) s) ≡ cond t (seatedIn seat (stateIn s) sender) (stateIn s)
-      by true = joined-state s long sender h seat
+      by true = joined-state s long sender h seat refl
       by false = refl
 
   pub length-enlisted : length (enlistStored s kind sender) ≡ length s
@@ -185,5 +163,5 @@ module _ (s : List ℕ) (long : stateSize ≤ length s) (kind sender : ℕ) wher
   length-enlisted = ap length (sym stored-enlisted) ∙ by (isObs kind)
     where
       by : (t : Bool) → length (cond t (joinedIn s sender) s) ≡ length s
-      by true = length-joined s long sender (seatOf (rosterOf (stateIn s)) sender 0)
+      by true = length-joined s long sender (newSeatIn s sender)
       by false = refl

@@ -2,17 +2,16 @@
 use Prim.Native.Nat.{ℕ, _+_}
 use mathlib.Core.Bool.{cond}
 use mathlib.Core.List.{List, []}
-use lib.Dec.{leb}
 use lib.ListN.{length}
 use Rattle.refusals.specs.Refusals.{Answer, leaves, zeroOr, roomFor, Call, reply}
 use Rattle.layouts.specs.Field.{rowStored}
 use Rattle.observation.specs.Edition.{isObs}
-use Rattle.epochs.specs.Search.{seatOf}
-use Rattle.epochs.specs.Collator.{rosterOf, made}
+use Rattle.epochs.specs.Collator.{made}
 use Rattle.epochs.specs.declared.seating.Seat.{Seat}
 use Rattle.epochs.specs.declared.seating.Seat.the-variants.{At, Nowhere}
 use Rattle.epochs.specs.declared.collating.Collator.{Collator}
-use Rattle.places.specs.State.{stateSize, seatFields, seatAt, sendersIn, stateIn, countStored, collatorStored}
+use Rattle.enlisting.specs.Enlisting.{newSeat}
+use Rattle.places.specs.State.{stateSize, seatFields, seatAt, sendersIn, seatsIn, countStored, collatorStored}
 
 -- ---- a collator that lists nobody: 32
 
@@ -30,17 +29,20 @@ growingStored s = leaves collatorStored (growingIn (length s)) s
 
 -- ---- a sender is enlisted
 
--- the seat after the last, and one sender more
-unfoldable pub seatTaken : List ℕ → ℕ → List ℕ
-seatTaken s sender = countStored (sendersIn s + 1) (rowStored seatFields (sender, tt) s (seatAt (sendersIn s)))
+-- a sender in a seat, which is then the last
+unfoldable pub seatTaken : List ℕ → ℕ → ℕ → List ℕ
+seatTaken s i sender = countStored (i + 1) (rowStored seatFields (sender, tt) s (seatAt i))
 
--- a sender that has no seat yet gets the next one, while there is room
 abbrev pub seatedBy : Seat → List ℕ → ℕ → List ℕ
-seatedBy (At i) s sender = s
-seatedBy Nowhere s sender = cond (leb 8 (sendersIn s)) s (seatTaken s sender)
+seatedBy Nowhere s sender = s
+seatedBy (At i) s sender = seatTaken s i sender
+
+-- the seat that a sender takes, by the collator's own rule
+abbrev pub newSeatIn : List ℕ → ℕ → Seat
+newSeatIn s sender = newSeat (seatsIn s) (sendersIn s) sender
 
 abbrev pub joinedIn : List ℕ → ℕ → List ℕ
-joinedIn s sender = seatedBy (seatOf (rosterOf (stateIn s)) sender 0) s sender
+joinedIn s sender = seatedBy (newSeatIn s sender) s sender
 
 -- the sender of a frame of type OBS
 unfoldable pub enlistedIn : List ℕ → ℕ → ℕ → List ℕ

@@ -2,8 +2,7 @@
 ghost use mathlib.Core.Path.{_≡_};
 ghost use Prim.Native.Nat.{_<_};
 ghost use lib.ListN.{length};
-ghost use Rattle.places.specs.State.{sendersIn};
-ghost use Rattle.states.specs.Enlist.{growingAnswer, growingStored, seatTaken, joinedIn, enlistedIn, enlistAnswer, enlistStored};
+ghost use Rattle.states.specs.Enlist.{growingAnswer, growingStored, seatTaken, newSeatIn, joinedIn, enlistedIn, enlistAnswer, enlistStored};
 use crate::feeding::seats_in;
 use crate::making::put_collator;
 use crate::sizes::STATE_SIZE;
@@ -26,27 +25,30 @@ pub fn grow(state: &mut [u8]) -> u8
     0
 }
 
-// The seat after the last, and one sender more.
-fn take_seat(s: &mut [u8], count: usize, sender: u16)
-    requires { ⌜ count < 8 ⌝ }
-    requires { ⌜ count ≡ sendersIn (now s) ⌝ }
-    ensures { λ _. ⌜ now (s .exit) ≡ seatTaken (now (s .entry)) sender ⌝ }
+// A sender in the seat that it takes, which is then the last.
+fn take_seat(s: &mut [u8], i: usize, sender: u16)
+    requires { ⌜ i < 8 ⌝ }
+    ensures { λ _. ⌜ now (s .exit) ≡ seatTaken (now (s .entry)) i sender ⌝ }
 {
-    wire::store_u16(s, SEATS_AT + count * SEAT_SIZE, sender);
-    wire::store_u8(s, 0, (count + 1) as u8);
+    wire::store_u16(s, SEATS_AT + i * SEAT_SIZE, sender);
+    wire::store_u8(s, 0, (i + 1) as u8);
 }
 
-// A sender that has no seat yet gets the next one, while there is room.
-fn join(s: &mut [u8], sender: u16)
-    ensures { λ _. ⌜ now (s .exit) ≡ joinedIn (now (s .entry)) sender ⌝ }
+// The seat that a sender takes, by the collator's own rule.
+fn new_seat_in(s: &[u8], sender: u16) -> Seat
+    ensures { λ r. ⌜ r ≡ newSeatIn (now (s .entry)) sender ⌝ }
 {
     let roster = seats_in(s);
     let count = wire::read_u8(s, 0) as usize;
-    let seat = epochs::seat_of(roster, count, sender);
-    if let Seat::Nowhere = seat {
-        if count < 8 {
-            take_seat(s, count, sender);
-        }
+    enlisting::new_seat(roster, count, sender)
+}
+
+fn join(s: &mut [u8], sender: u16)
+    ensures { λ _. ⌜ now (s .exit) ≡ joinedIn (now (s .entry)) sender ⌝ }
+{
+    let seat = new_seat_in(s, sender);
+    if let Seat::At(i) = seat {
+        take_seat(s, i, sender);
     }
 }
 

@@ -1,8 +1,7 @@
 -- `states::growing::take_seat` meets its contract: the seat, then the count.
 use mathlib.Core.Path.{ap, _∙_}
-use Prim.Native.Nat.{ℕ, _+_}
-use Rattle.layouts.specs.Field.{rowStored}
-use Rattle.places.specs.State.{seatFields, seatAt, countStored}
+use Prim.Native.Nat.{_+_}
+use Rattle.places.specs.State.{countStored}
 use Rattle.states.specs.Enlist.{seatTaken}
 use borrow.Author.Needs.{needs}
 use Rattle.states.proofs.growing.take_seat.Statement.{statement}
@@ -13,11 +12,7 @@ unfolding seatTaken
 returns c =
     let k2 = c .before .before in
     let k1 = k2 .before .before .before .before in
-    let start = k1 .before .before .before in
-    let a = start .args in
-    k2 .store-u8 .ensures
-    ∙ ap (countStored (a .count + 1)) (k1 .store-u16 .ensures)
-    ∙ ap (λ (n : ℕ). countStored (n + 1) (rowStored seatFields (a .sender, tt) (a .s .now) (seatAt n))) (start .pre .1)
+    k2 .store-u8 .ensures ∙ ap (countStored (k1 .before .before .before .args .i + 1)) (k1 .store-u16 .ensures)
 
 pub take-seat-spec : {M : Type 1} → statement M
 take-seat-spec =
