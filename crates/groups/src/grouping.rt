@@ -37,7 +37,7 @@ pub enum Answered {
 fn bit_of(counter: u8) -> u16
     ensures { λ r. ⌜ r ≡ bitOf counter ⌝ }
 {
-    1u16 << (counter % 16)
+    1u16 << (counter & 15)
 }
 
 // Whether all of 0 to n - 1 have come, and nothing else.
