@@ -7,7 +7,7 @@ use mathlib.Core.Logic.{_↔_, _⊎_, inl, inr}
 use native.Mathlib.Omega.{arith}
 use lib.Dec.{leb, ltb, eqb}
 use lib.ListN.{length, getD}
-use borrow.Author.Tests.{leb-true, leb-false, ltb-false, eqb-true, eqb-false, lt-leb, le-leb, le-ltb, eq-eqb, ne-eqb}
+use borrow.Author.Tests.{leb-false, ltb-false, eqb-true, eqb-false, lt-leb, le-ltb, eq-eqb, ne-eqb}
 use Rattle.refusals.specs.Refusals.{Tests, roomFor}
 use Rattle.layouts.specs.Layout.{Layout, LengthOf, lengths}
 use Rattle.layouts.proofs.Layouts.{lengths-true, lengths-false}
@@ -38,7 +38,7 @@ use Rattle.places.specs.State.{stateSize, stateIn}
 use Rattle.epochs.specs.Collator.{seatNumber, placing, idle, feeding, rostering, rosterOf}
 use Rattle.epochs.specs.declared.collating.Place.{Place}
 use Rattle.epochs.specs.declared.collating.Collator.{Collator}
-use Rattle.epochs.proofs.Searches.{names-first, names-later, names-not, names-at, once-on, seat-listed, seat-named, seat-below}
+use Rattle.epochs.proofs.Searches.{names-at, seat-listed, seat-named, seat-below}
 use Rattle.demands.specs.Order.{Cases, InOrder, Not, ObsLength, NamesTwice, Unlisted, indexCases, frameCases, HasCome, feedCases, rosterCases, bufferCases, roomCases, columnOf, columnTests, Order, LinkedOrder, IndexOrder}
 
 -- ---- a test fails exactly in its case

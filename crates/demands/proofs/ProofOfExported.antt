@@ -1,5 +1,5 @@
 -- The demands hold of the functions that C and Rust link, all of it by citations.
-use mathlib.Core.Path.{_≡_, refl, sym, ap, _∙_}
+use mathlib.Core.Path.{sym, ap, _∙_}
 use mathlib.Core.List.{List, _++_}
 use Rattle.senders.proofs.Carrying.{carries-linked}
 use Rattle.row_reader.proofs.EachRead.{all-read}

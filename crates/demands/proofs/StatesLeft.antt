@@ -1,5 +1,5 @@
 -- What the calls of a collator leave of the bytes after its own.
-use mathlib.Core.Path.{_≡_, refl, sym, ap, _∙_}
+use mathlib.Core.Path.{_≡_, refl, ap, _∙_}
 use mathlib.Core.Bool.{Bool, true, false, cond}
 use mathlib.Core.List.{List, [], _∷_}
 use Prim.Native.Nat.{ℕ, zero, suc, _+_, _*_, _≤_, _<_}
@@ -7,7 +7,6 @@ use native.Mathlib.Omega.{arith}
 use lib.Dec.{leb}
 use lib.ListN.{length, drop, set}
 use lib.Seq.{sets, drop-set-lt}
-use borrow.Author.Tests.{leb-false}
 use Rattle.wire.specs.Number.{bytesOf, storedAt}
 use Rattle.wire.specs.Value.{width, bitsOf}
 use Rattle.wire.proofs.Numbers.{length-bytesOf}
@@ -21,12 +20,11 @@ use Rattle.epochs.specs.Collator.{Move, feeding}
 use Rattle.epochs.specs.declared.seating.Seat.{Seat}
 use Rattle.epochs.specs.declared.seating.Seat.the-variants.{At, Nowhere}
 use Rattle.epochs.specs.declared.collating.Collator.{Collator}
-use Rattle.epochs.specs.declared.collating.Place.{Place}
 use Rattle.epochs.proofs.Feeding.{replied-moves}
 use Rattle.enlisting.proofs.Seating.{seat-eight}
-use Rattle.places.specs.State.{stateSize, seatAt, slotAt, slot, slotFields, seatFields, countFields, slotOf, seatRow, placeRow, sendersIn, seatsIn, countStored, placeStored, collatorStored, seatsStored, stateIn}
-use Rattle.states.specs.Feed.{madeIn, madeStored, feedingIn, moveIn, cameOut, fedIn}
-use Rattle.states.specs.Enlist.{growingIn, growingStored, seatTaken, seatedBy, newSeatIn, joinedIn, enlistedIn, enlistIn, enlistStored}
+use Rattle.places.specs.State.{stateSize, seatAt, slotAt, slot, slotFields, seatFields, countFields, slotOf, seatRow, placeRow, sendersIn, seatsIn, countStored, collatorStored, seatsStored, stateIn}
+use Rattle.states.specs.Feed.{madeIn, feedingIn, moveIn, cameOut, fedIn}
+use Rattle.states.specs.Enlist.{growingIn, seatTaken, seatedBy, newSeatIn, joinedIn, enlistedIn, enlistIn, enlistStored}
 use Rattle.states.proofs.Feeds.{eight}
 use Rattle.demands.specs.Exported.{OtherBytes}
 

@@ -22,14 +22,12 @@ use Rattle.groups.proofs.AnyOrder.{any-order}
 use Rattle.groups.proofs.LeftAlike.{alike-open}
 use Rattle.epochs.specs.Search.{names}
 use Rattle.epochs.specs.Collator.{outcome, cameTo, fedFrame, made}
-use Rattle.epochs.specs.Epoch.{ownPacket, kept, packetsOf, ofSender, historyOf, after, outcomes, reportIn, reportsIn, reports, Seated}
+use Rattle.epochs.specs.Epoch.{ownPacket, kept, packetsOf, ofSender, historyOf, after, outcomes, reportIn, reports, Seated}
 use Rattle.epochs.specs.Arrival.{PacketsOf, InAnyOrder}
 use Rattle.epochs.specs.declared.collating.Collator.{Collator}
 use Rattle.epochs.specs.declared.collating.Report.{Report}
-use Rattle.epochs.specs.declared.collating.Happened.{Happened}
-use Rattle.epochs.specs.declared.collating.Happened.the-variants as H
 use Rattle.epochs.specs.declared.collating.Fed.{Fed}
-use Rattle.epochs.proofs.Senders.{stateOf, heardBy, comesTo, state-ext, fed-listed, fed-unlisted}
+use Rattle.epochs.proofs.Senders.{stateOf, heardBy, comesTo, state-ext, fed-listed}
 use Rattle.epochs.proofs.Collations.{history-formed, standing}
 
 -- ---- frames in another order have their packets in that order

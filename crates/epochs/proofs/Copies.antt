@@ -20,7 +20,6 @@ use Rattle.epochs.specs.Search.{names}
 use Rattle.epochs.specs.Collator.{placing, ownPlace, forPlace, outcome, cameTo, fedFrame, made}
 use Rattle.epochs.specs.Epoch.{ownPacket, historyOf, after, Seated, BringsCopy}
 use Rattle.epochs.specs.declared.collating.Collator.{Collator}
-use Rattle.epochs.specs.declared.collating.Happened.{Happened}
 use Rattle.epochs.specs.declared.collating.Happened.the-variants as H
 use Rattle.epochs.specs.declared.collating.Fed.{Fed}
 use Rattle.epochs.proofs.Searches.{seat-listed}

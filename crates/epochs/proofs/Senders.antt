@@ -12,7 +12,7 @@ use borrow.Author.Tests.{eqb-true, eq-eqb, ne-eqb}
 use Rattle.refusals.specs.Refusals.{refused, given, Answer, mapped, reply}
 use Rattle.frames.specs.Frame.{Content}
 use Rattle.packets.specs.declared.packet.Packet.{Packet}
-use Rattle.groups.specs.Group.{stepped, leftOpen, stepping, leftOf}
+use Rattle.groups.specs.Group.{leftOpen, stepping, leftOf}
 use Rattle.groups.specs.declared.grouping.Group.{Group}
 use Rattle.groups.specs.declared.grouping.Stepped.{Stepped}
 use Rattle.epochs.specs.Search.{seatOf, names, repeats}

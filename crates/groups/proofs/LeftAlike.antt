@@ -1,6 +1,6 @@
 -- Packets whose latest groups are alike leave the same open.
 use mathlib.Core.Path.{_≡_, refl, sym, _∙_}
-use mathlib.Core.Bool.{Bool, cond}
+use mathlib.Core.Bool.{cond}
 use mathlib.Core.List.{List, [], _∷_}
 use Prim.Native.Nat.{ℕ}
 use Rattle.packets.specs.Packet.{AllFormed}

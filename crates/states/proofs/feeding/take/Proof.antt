@@ -2,9 +2,8 @@
 use mathlib.Core.Path.{_≡_, sym, ap, _∙_}
 use Prim.Native.Nat.{ℕ, _%_}
 use native.Mathlib.Nat.{mod-eq-of-lt}
-use Rattle.refusals.specs.Refusals.{Answer, reply}
+use Rattle.refusals.specs.Refusals.{reply}
 use Rattle.groups.specs.Group.{stepping, stepAnswer}
-use Rattle.groups.specs.declared.grouping.Stepped.{Stepped}
 use Rattle.epochs.specs.Collator.{cameTo}
 use Rattle.epochs.specs.declared.collating.Place.{Place}
 use Rattle.places.specs.State.{placeIn, placeStored}
