@@ -2,9 +2,10 @@
 ghost use mathlib.Core.Path.{_≡_};
 ghost use Prim.Native.Nat.{_<_, _≤_};
 ghost use lib.ListN.{length};
+ghost use Rattle.wire.specs.Number.{numberAt};
 ghost use Rattle.layouts.specs.Field.{rowStored};
 ghost use Rattle.epochs.specs.Collator.{recognisedAnswer, forPlace, rosterOf, cameTo};
-ghost use Rattle.places.specs.State.{seatIn, seatsIn, stateIn};
+ghost use Rattle.places.specs.State.{stateSize, seatIn, seatsIn, stateIn};
 ghost use Rattle.states.specs.Feed.{reportFields, reportSize, reportRow, happenedNumber, happenedStored, stepIn, placeLeft, fedIn};
 use crate::sizes::REPORT_SIZE;
 use crate::sizes::STATE_SIZE;
@@ -19,14 +20,25 @@ use places::put_place;
 use places::sizes::SEAT_SIZE;
 use places::sizes::SEATS_AT;
 
-fn seat_in(s: &[u8], i: usize) -> u16
-    requires { ⌜ i < 8 ⌝ }
-    ensures { λ r. ⌜ r ≡ seatIn (now (s .entry)) i ⌝ }
+fn byte_in(s: &[u8], at: usize) -> u8
+    requires { ⌜ at < length (now s) ⌝ }
+    ensures { λ r. ⌜ r ≡ numberAt 1 (now (s .entry)) at ⌝ }
 {
-    wire::read_u16(s, SEATS_AT + i * SEAT_SIZE)
+    s[at]
 }
 
+fn seat_in(s: &[u8], i: usize) -> u16
+    requires { ⌜ i < 8 ⌝ }
+    requires { ⌜ stateSize ≤ length (now s) ⌝ }
+    ensures { λ r. ⌜ r ≡ seatIn (now (s .entry)) i ⌝ }
+{
+    let at = SEATS_AT + i * SEAT_SIZE;
+    (byte_in(s, at) as u16) + 0x100 * (byte_in(s, at + 1) as u16)
+}
+
+// The state's length was tested. With a test for each byte this was too long to be compiled into its callers, and feeding took twice as long.
 pub(crate) fn seats_in(s: &[u8]) -> [u16; 8]
+    requires { ⌜ stateSize ≤ length (now s) ⌝ }
     ensures { λ r. ⌜ r ≡ seatsIn (now (s .entry)) ⌝ }
 {
     [
@@ -43,6 +55,7 @@ pub(crate) fn seats_in(s: &[u8]) -> [u16; 8]
 
 // What the frame is to the collator.
 fn recognise_in(s: &[u8], kind: u16, sender: u16, payload: &[u8]) -> Recognised
+    requires { ⌜ stateSize ≤ length (now s) ⌝ }
     ensures { λ r. ⌜ recognisedAnswer r ≡ forPlace (rosterOf (stateIn (now (s .entry)))) (record { kind = kind; sender = sender; payload = now (payload .entry) }) ⌝ }
 {
     let roster = seats_in(s);

@@ -1,7 +1,8 @@
 // A collator in lent bytes whose roster takes senders as they come: the first eight different ones of observation frames.
 ghost use mathlib.Core.Path.{_≡_};
-ghost use Prim.Native.Nat.{_<_};
+ghost use Prim.Native.Nat.{_<_, _≤_};
 ghost use lib.ListN.{length};
+ghost use Rattle.places.specs.State.{stateSize};
 ghost use Rattle.states.specs.Enlist.{growingAnswer, growingStored, seatTaken, newSeatIn, joinedIn, enlistedIn, enlistAnswer, enlistStored};
 use crate::feeding::seats_in;
 use crate::making::put_collator;
@@ -36,6 +37,7 @@ fn take_seat(s: &mut [u8], i: usize, sender: u16)
 
 // The seat that a sender takes, by the collator's own rule.
 fn new_seat_in(s: &[u8], sender: u16) -> Seat
+    requires { ⌜ stateSize ≤ length (now s) ⌝ }
     ensures { λ r. ⌜ r ≡ newSeatIn (now (s .entry)) sender ⌝ }
 {
     let roster = seats_in(s);
@@ -44,6 +46,7 @@ fn new_seat_in(s: &[u8], sender: u16) -> Seat
 }
 
 fn join(s: &mut [u8], sender: u16)
+    requires { ⌜ stateSize ≤ length (now s) ⌝ }
     ensures { λ _. ⌜ now (s .exit) ≡ joinedIn (now (s .entry)) sender ⌝ }
 {
     let seat = new_seat_in(s, sender);
@@ -54,6 +57,7 @@ fn join(s: &mut [u8], sender: u16)
 
 // The sender of an observation frame has its seat before the frame is fed.
 fn enlist_in(s: &mut [u8], kind: u16, sender: u16)
+    requires { ⌜ stateSize ≤ length (now s) ⌝ }
     ensures { λ _. ⌜ now (s .exit) ≡ enlistedIn (now (s .entry)) kind sender ⌝ }
 {
     if observation::is_obs(kind) {

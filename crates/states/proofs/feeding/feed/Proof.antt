@@ -50,7 +50,7 @@ feed-spec =
     (tie.spec
     returns
     returns-2
-    (λ c κs. tt)
+    (λ c κs. search needs)
     (λ c. search needs)
     (λ c. search needs)
     take-requires

@@ -16,4 +16,4 @@ returns c =
 
 pub recognise-in-spec : {M : Type 1} → statement M
 recognise-in-spec =
-    tie.close (tie.spec (λ c κs. tt) (λ c κs. tt) (λ c. search needs) (λ c κs. tt) returns)
+    tie.close (tie.spec (λ c κs. search needs) (λ c κs. tt) (λ c. search needs) (λ c κs. tt) returns)

@@ -13,4 +13,4 @@ returns-2 c =
     enlist-put (a .state .now) (a .kind) (a .sender) (c .before .before .before .before .if1 .left) (c .before .before .enlist-in .ensures)
 
 pub enlist-spec : {M : Type 1} → statement M
-enlist-spec = tie.close (tie.spec returns (λ c κs. tt) (λ c. search needs) returns-2)
+enlist-spec = tie.close (tie.spec returns (λ c κs. search needs) (λ c. search needs) returns-2)

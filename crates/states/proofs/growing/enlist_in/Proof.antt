@@ -17,4 +17,4 @@ returns-2 c =
     enlists-none (a .s .now) (a .kind) (a .sender) (sym (c .before .is-obs .ensures) ∙ c .if1 .left)
 
 pub enlist-in-spec : {M : Type 1} → statement M
-enlist-in-spec = tie.close (tie.spec (λ c κs. tt) (λ c κs. tt) (λ c. search needs) returns returns-2)
+enlist-in-spec = tie.close (tie.spec (λ c κs. tt) (λ c κs. search needs) (λ c. search needs) returns returns-2)

@@ -31,7 +31,7 @@ pub join-spec : {M : Type 1} → statement M
 join-spec =
     tie.close
     (tie.spec
-    (λ c κs. tt)
+    (λ c κs. search needs)
     (λ c. search needs)
     take-seat-requires
     (λ c. search needs)

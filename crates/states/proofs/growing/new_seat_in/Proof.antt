@@ -13,4 +13,4 @@ returns c =
     c .new-seat .ensures ∙ ap₂ (λ (xs : List ℕ) (n : ℕ). newSeat xs n sender) (c .before .before .seats-in .ensures) (c .before .read-u8 .ensures)
 
 pub new-seat-in-spec : {M : Type 1} → statement M
-new-seat-in-spec = tie.close (tie.spec (λ c κs. tt) (λ c κs. tt) (λ c. search needs) (λ c κs. tt) returns)
+new-seat-in-spec = tie.close (tie.spec (λ c κs. search needs) (λ c κs. tt) (λ c. search needs) (λ c κs. tt) returns)
