@@ -2,9 +2,7 @@
 // Read specs/FirstEight.antt (who they are, in document 01's words) and specs/Enlisting.antt (how they come to their seats, and that it makes no
 // difference to a collator that was made of them) first.
 ghost use mathlib.Core.Path.{_≡_};
-ghost use Prim.Native.Nat.{_<_};
-ghost use Rattle.epochs.specs.declared.seating.Seat.the-variants.{At};
-ghost use Rattle.enlisting.specs.Enlisting.{newSeat, seatedIn, joinedTo, enlistedTo};
+ghost use Rattle.enlisting.specs.Enlisting.{newSeat, joinedTo, enlistedTo};
 use epochs::Collator;
 use epochs::Seat;
 
@@ -21,17 +19,7 @@ pub fn new_seat(roster: [u16; 8], count: usize, sender: u16) -> Seat
     Seat::At(count)
 }
 
-// A sender in the seat that it takes.
-fn seated(collator: Collator, i: usize, sender: u16) -> Collator
-    requires { ⌜ i < 8 ⌝ }
-    ensures { λ r. ⌜ r ≡ seatedIn (At i) collator sender ⌝ }
-{
-    let mut more = collator;
-    more.roster[i] = sender;
-    more.count = i + 1;
-    more
-}
-
+// A sender takes its new seat, if it has one to take.
 fn joined(collator: Collator, sender: u16) -> Collator
     ensures { λ r. ⌜ r ≡ joinedTo collator sender ⌝ }
 {
@@ -40,7 +28,10 @@ fn joined(collator: Collator, sender: u16) -> Collator
     let Seat::At(i) = new_seat(roster, count, sender) else {
         return collator;
     };
-    seated(collator, i, sender)
+    let mut more = collator;
+    more.roster[i] = sender;
+    more.count = i + 1;
+    more
 }
 
 // The sender of an observation frame has its seat before the frame is fed. Start with the collator of an empty roster, which lists nobody.
