@@ -13,8 +13,11 @@ use Rattle.epochs.specs.declared.collating.Collator.{Collator}
 use Rattle.epochs.specs.declared.collating.Report.{Report}
 use Rattle.epochs.specs.declared.collating.Happened.the-variants as H
 use Rattle.epochs.proofs.Feeding.{moves-told, never-refuses}
+use Rattle.frame_rows.specs.Found.{nextFrom}
+use Rattle.frame_rows.specs.Totals.{totalsFor}
 use Rattle.places.specs.State.{stateIn}
-use Rattle.states.specs.Feed.{happenedNumber, feedingIn, moveIn, fedIn, cameOut}
+use Rattle.states.specs.Feed.{happenedNumber, feedingIn, madeIn, moveIn, fedIn, cameOut}
+use Rattle.states.specs.Enlist.{growingIn, enlistIn}
 use Rattle.demands.specs.Demand1.{ReadOff}
 
 module _ {A : Type 0} (c : Call A) where
@@ -83,4 +86,17 @@ module _ (state report : List ℕ) (x : Content) (n : ℕ) where
       (ap (λ (a : Answer Move). cameOut state report a .state) e, ap (λ (a : Answer Move). cameOut state report a .report) e)
 
 pub read-off : ReadOff
-read-off = record { made-number = made-number; fed-refused = fed-refused; fed-number = fed-number; fed-untouched = fed-untouched }
+unfolding nextFrom totalsFor fedIn moveIn madeIn growingIn enlistIn
+read-off = record {
+  made-number = made-number;
+  fed-refused = fed-refused;
+  fed-number = fed-number;
+  next-number = λ s at opened room. refl;
+  next-in = λ s at opened row. refl;
+  totals-in = λ s row. refl;
+  made-in = λ roster s. refl;
+  grown-in = λ s. refl;
+  enlisted-in = λ s kind sender. refl;
+  fed-in = λ state report x. refl;
+  fed-untouched = fed-untouched;
+}

@@ -28,6 +28,7 @@ use Rattle.logs.proofs.Logs.{log-faithful}
 use Rattle.obs_reader.proofs.HandedOut.{whole-walk}
 use Rattle.obs_reader.proofs.Readers.{asked-times}
 use Rattle.payloads.proofs.Entries.{promised, obs-read, log-read}
+use Rattle.packets.proofs.Recognitions.{formed}
 use Rattle.groups.proofs.Words.{in-words}
 use Rattle.in_order.proofs.Meeting.{in-order}
 use Rattle.epochs.specs.Epoch.{after, reportsOf, Epochs, contentsOf}
@@ -108,6 +109,8 @@ epochs-reported = record {
   reported-exactly = λ roster ok. epoch-outcome roster (seated roster ok);
   well-formed = well-formed;
   report-numbers = report-numbers;
+  report-sum = λ roster xs x e w. ap (λ (r : Report). r .observations) (w .report);
+  formed = λ x p. formed (x .kind) (x .payload);
   in-words = in-words;
   copies = λ roster ok. copy-outcome roster (seated roster ok);
   any-order = λ roster ok. in-any-order roster (seated roster ok);

@@ -135,6 +135,10 @@ pub record EpochsReported : Type 0 where
   pub well-formed : (x : Content) (p : Packet) → (ownPacket x ≡ given p) ↔ WellFormed x p
   -- what is reported of an epoch: its sender, and wn, tow and n of its last frame
   pub report-numbers : (roster : List ℕ) (xs : List Content) (x : Content) (e : Report) → EndsEpoch roster xs x e → Reported x e
+  -- and the sum of its group's observations, each counter once
+  pub report-sum : (roster : List ℕ) (xs : List Content) (x : Content) (e : Report) (w : EndsEpoch roster xs x e) → e .observations ≡ w .total
+  -- what is asked of packets below holds of every well-formed frame's
+  pub formed : (x : Content) (p : Packet) → ownPacket x ≡ given p → Formed p
   -- when it ends is, packet by packet, what document 02 says (P7): all of 0 to n - 1 have come in its group, and this one brought the last
   pub in-words : (p : Packet) (past : List Packet) (total : ℕ) → Formed p → EpochEnds p past total ↔ InWords p past total
   -- "one whose counter has come already is answered 47"

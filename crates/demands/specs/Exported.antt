@@ -1,5 +1,5 @@
 -- The demands of the functions that C and Rust link, which live on lent bytes: the frames are those of the reading, an epoch is reported exactly
--- where document 01 says, senders don't mix, and what is read and written as numbers is what 003 has. That each function does what is said here is
+-- where document 02 says, senders don't mix, and what is read and written as numbers is what 003 has. That each function does what is said here is
 -- in `linked_calls`, by its own contract; how it refuses, and that a refusal leaves all as it was, in demand 1.
 use mathlib.Core.Path.{_≡_}
 use mathlib.Core.Bool.{true, cond}
@@ -20,9 +20,9 @@ use Rattle.epochs.specs.declared.collating.Happened.the-variants as H
 use Rattle.senders.specs.Carries.{CarriesLinked}
 use Rattle.flag_numbers.specs.Flagged.{fixAnswer, availableAnswer, repairedAnswer, aboveSeaAnswer}
 use Rattle.places.specs.State.{stateIn}
-use Rattle.states.specs.Feed.{madeStored, fedIn, afterIn}
+use Rattle.states.specs.Feed.{madeStored, fedIn}
 use Rattle.states.specs.Enlist.{growingStored, enlistStored}
-use Rattle.told.specs.Told.{AsSent, told, toldIn, Filled}
+use Rattle.told.specs.Told.{AsSent, told, toldIn, afterIn, Filled}
 use Rattle.told.specs.Growing.{Grows}
 use Rattle.frames_told.specs.FramesTold.{FramesTold}
 use Rattle.frames_told.specs.RowByRow.{RowsFollow}

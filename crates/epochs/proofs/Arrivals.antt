@@ -13,12 +13,12 @@ use Rattle.packets.specs.declared.packet.Key.{Key}
 use Rattle.packets.specs.declared.packet.Packet.{Packet}
 use Rattle.groups.specs.InWords.{whole, groupAt, observationsIn}
 use Rattle.groups.specs.Group.{stepping, endedOf, leftOpen}
-use Rattle.groups.specs.AnyOrder.{Reordered, none, first, AllCount, onto, endings}
+use Rattle.groups.specs.AnyOrder.{Reordered, none, first, AllCount}
 use Rattle.groups.specs.declared.grouping.Ended.{Ended}
 use Rattle.groups.specs.declared.grouping.Ended.the-variants.{Not, Whole}
 use Rattle.groups.specs.declared.grouping.Stepped.{Stepped}
 use Rattle.groups.proofs.WholeGroups.{whole-epoch}
-use Rattle.groups.proofs.AnyOrder.{any-order}
+use Rattle.groups.proofs.AnyOrder.{onto, endings, any-order}
 use Rattle.groups.proofs.LeftAlike.{alike-open}
 use Rattle.epochs.specs.Search.{names}
 use Rattle.epochs.specs.Collator.{outcome, cameTo, fedFrame, made}

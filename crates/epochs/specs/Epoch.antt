@@ -16,7 +16,7 @@ use Rattle.packets.specs.Packet.{recognised}
 use Rattle.packets.specs.declared.packet.Packet.{Packet}
 use Rattle.groups.specs.InWords.{isCopy, EpochEnds}
 use Rattle.epochs.specs.Search.{names, repeats}
-use Rattle.epochs.specs.Collator.{reportOf, fedFrame}
+use Rattle.epochs.specs.Collator.{fedFrame}
 use Rattle.epochs.specs.declared.collating.Collator.{Collator}
 use Rattle.epochs.specs.declared.collating.Report.{Report}
 use Rattle.epochs.specs.declared.collating.Happened.{Happened}
@@ -82,7 +82,7 @@ pub record EndsEpoch (roster : List ℕ) (xs : List Content) (x : Content) (e : 
   pub listed : names roster (x .sender) ≡ true
   pub formed : ownPacket x ≡ given packet
   pub ends : EpochEnds packet (historyOf (x .sender) xs) total
-  pub report : e ≡ reportOf (x .sender) packet total
+  pub report : e ≡ record { sender = x .sender; wn = packet .key .wn; tow = packet .key .tow; n = packet .key .n; observations = total }
 
 -- the frame x, fed after xs, is a copy: its sender is listed, it is well-formed, and its counter has come already in the open group of its key
 pub record BringsCopy (roster : List ℕ) (xs : List Content) (x : Content) : Type 0 where

@@ -23,9 +23,9 @@ use Rattle.payloads.proofs.Entries.{both}
 use Rattle.frame_rows.specs.Found.{nextFrom, nextAnswer}
 use Rattle.frame_rows.specs.Totals.{totalsFields, totalsRow, totalsStored}
 use Rattle.frame_rows.proofs.ReadBack.{read-back, counts-shown}
-use Rattle.states.specs.Feed.{madeStored, fedIn, afterIn}
+use Rattle.states.specs.Feed.{madeStored, fedIn}
 use Rattle.places.specs.State.{stateSize}
-use Rattle.told.specs.Told.{Sent, told, Filled}
+use Rattle.told.specs.Told.{Sent, told, afterIn, Filled}
 use Rattle.told.proofs.Lives.{tells-epoch}
 use Rattle.examples.specs.Examples.{blank, packetFrom}
 use Rattle.examples.specs.Idle.{invented}

@@ -31,7 +31,7 @@ pub extern "C" fn sbp_enlist(state: &mut [u8], kind: u16, sender: u16) -> u8
     states::enlist(state, kind, sender)
 }
 
-// 32 where state or report is too short, then 46, 22, 43, 44, 45; 0 taken; 1 an epoch, whose row is at the start of report.
+// 32 where state or report is too short, then 46, 22, 43, 44, 45, 47; 0 taken; 1 an epoch, whose row is at the start of report.
 #[no_mangle]
 pub extern "C" fn sbp_feed(
     state: &mut [u8],

@@ -10,8 +10,23 @@ use Rattle.packets.specs.Packet.{sameKey, Formed}
 use Rattle.packets.specs.declared.packet.Key.{Key}
 use Rattle.packets.specs.declared.packet.Packet.{Packet}
 use Rattle.groups.specs.InWords.{has, hasAll, whole, belongs, gathered, groupAt, isCopy, observationsIn, Come}
-use Rattle.groups.specs.AnyOrder.{Reordered, none, first, AllCount, onto, endings}
+use Rattle.groups.specs.AnyOrder.{Reordered, none, first, AllCount}
 use Rattle.groups.proofs.Words.{has-none, has-other, sum-new, missing, latest, joined, whole-at, belongs-at}
+
+-- ---- what packets end, and what they leave
+
+-- packets one after the other, onto those of the past
+unfoldable pub onto : List Packet → List Packet → List Packet
+onto past [] = past
+onto past (p ∷ ps) = onto (p ∷ past) ps
+
+-- the epochs that they end, each by its key and its sum
+unfoldable pub endings : List Packet → List Packet → List (Key × ℕ)
+unfolding groupAt observationsIn
+endings past [] = []
+endings past (p ∷ ps) =
+    let g = groupAt (p ∷ past) in
+    cond (whole g) ((p .key, observationsIn g) ∷ endings (p ∷ past) ps) (endings (p ∷ past) ps)
 
 -- ---- groups that are alike: all that later packets and their ends can see of a group
 

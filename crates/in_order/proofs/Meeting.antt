@@ -11,7 +11,7 @@ use Rattle.packets.specs.declared.packet.Key.{Key}
 use Rattle.packets.specs.declared.packet.Packet.{Packet}
 use Rattle.runs.specs.InWords.{RunTo}
 use Rattle.runs.specs.InWords as runs
-use Rattle.runs.proofs.Fronts.{unroll, run-head, first-of, next-of}
+use Rattle.runs.proofs.Fronts.{unroll, run-head, first-of, next-of, in-words}
 use Rattle.groups.specs.InWords.{has, belongs, groupAt, observationsIn}
 use Rattle.groups.specs.InWords as groups
 use Rattle.groups.proofs.Words.{has-none, has-other, has-iff, sum-new, all-iff, missing, latest, none-open, alone, joined, whole-at, belongs-at}
@@ -127,4 +127,4 @@ same-epochs p past total formed up = (to-groups, to-runs)
         record { last = last; run = subst (RunTo (p .key) (p .counter) (p ∷ past)) (e .sum) (o .run (λ i h. all i (omega arith))) }
 
 pub in-order : InOrder
-in-order = record { same-epochs = same-epochs }
+in-order = record { as-before = in-words; same-epochs = same-epochs }

@@ -91,9 +91,3 @@ stepIn state i p = reply (stepping (placeIn state i .group) p)
 
 abbrev pub placeLeft : List ℕ → ℕ → Answer Stepped → List ℕ
 placeLeft state i a = leaves (λ y s. placeStored s i (record { group = y .group })) a state
-
--- frames fed one after the other
-unfoldable pub afterIn : List ℕ → List ℕ → List Content → List ℕ
-unfolding fedIn
-afterIn state report [] = state
-afterIn state report (x ∷ xs) = let out = fedIn state x report in afterIn (out .state) (out .report) xs

@@ -17,8 +17,8 @@ use Rattle.epochs.proofs.Making.{seated}
 use Rattle.epochs.proofs.Collations.{epoch-outcome}
 use Rattle.epochs.proofs.Copies.{copy-outcome}
 use Rattle.places.specs.State.{stateSize, stateIn}
-use Rattle.states.specs.Feed.{reportSize, happenedNumber, fedIn, afterIn, madeStored}
-use Rattle.told.specs.Told.{AsSent, Sent, told, toldIn, Filled}
+use Rattle.states.specs.Feed.{reportSize, happenedNumber, fedIn, madeStored}
+use Rattle.told.specs.Told.{AsSent, Sent, told, toldIn, afterIn, Filled}
 use Rattle.states.proofs.Feeds.{feeds}
 use Rattle.states.proofs.Makes.{makes, length-made}
 use Rattle.told.proofs.Tells.{lengths, tells}

@@ -10,8 +10,8 @@ use Rattle.epochs.specs.Epoch.{after, outcomes}
 use Rattle.epochs.specs.declared.collating.Happened.{Happened}
 use Rattle.enlisting.specs.FirstEight.{firstEight}
 use Rattle.enlisting.specs.Enlisting.{enlistedTo, newOutcomes, newAfter}
-use Rattle.places.specs.State.{stateSize, stateIn}
-use Rattle.states.specs.Feed.{reportSize, FedIn, fedIn}
+use Rattle.places.specs.State.{stateIn}
+use Rattle.states.specs.Feed.{FedIn, fedIn}
 use Rattle.states.specs.Enlist.{growingStored, enlistStored}
 use Rattle.told.specs.Told.{Sent, told}
 
@@ -31,14 +31,14 @@ newAfterIn s report (x ∷ xs) = let out = fedNewIn s x report in newAfterIn (ou
 
 pub record Grows : Type 0 where
   -- fresh bytes list nobody
-  pub nobody : (s : List ℕ) → stateSize ≤ length s → stateIn (growingStored s) ≡ made [] .collator
+  pub nobody : (s : List ℕ) → 113 ≤ length s → stateIn (growingStored s) ≡ made [] .collator
   -- bytes of any state enlist as the collator does that they stand for
-  pub enlisted : (s : List ℕ) → stateSize ≤ length s → (kind sender : ℕ) → sender < 65536
+  pub enlisted : (s : List ℕ) → 113 ≤ length s → (kind sender : ℕ) → sender < 65536
       → stateIn (enlistStored s kind sender) ≡ enlistedTo (stateIn s) kind sender
   -- frame by frame the bytes of any state tell what that collator tells, and come to what it comes to
-  pub each : (s report : List ℕ) (xs : List Content) → stateSize ≤ length s → reportSize ≤ length report → Sent xs
+  pub each : (s report : List ℕ) (xs : List Content) → 113 ≤ length s → 11 ≤ length report → Sent xs
       → (newTold s report xs ≡ newOutcomes (stateIn s) xs) × (stateIn (newAfterIn s report xs) ≡ newAfter (stateIn s) xs)
   -- so from fresh bytes on they tell what a collator tells that was made of the first eight senders
-  pub first-eight : (s report : List ℕ) (xs : List Content) → stateSize ≤ length s → reportSize ≤ length report → Sent xs
+  pub first-eight : (s report : List ℕ) (xs : List Content) → 113 ≤ length s → 11 ≤ length report → Sent xs
       → (newTold (growingStored s) report xs ≡ outcomes (made (firstEight xs) .collator) xs)
       × (stateIn (newAfterIn (growingStored s) report xs) ≡ after (made (firstEight xs) .collator) xs)

@@ -11,8 +11,7 @@ use Rattle.epochs.specs.Collator.{made}
 use Rattle.epochs.specs.declared.collating.Report.{Report}
 use Rattle.epochs.specs.declared.collating.Happened.{Happened}
 use Rattle.epochs.specs.declared.collating.Happened.the-variants as H
-use Rattle.places.specs.State.{stateSize}
-use Rattle.states.specs.Feed.{reportSize, FedIn, fedIn}
+use Rattle.states.specs.Feed.{FedIn, fedIn}
 
 -- a frame as C has it: its payload is bytes, its sender a number of 16 bits
 abbrev pub AsSent : Content → Type 0
@@ -39,10 +38,16 @@ unfolding fedIn
 toldIn state report [] = []
 toldIn state report (x ∷ xs) = let out = fedIn state x report in told out ∷ toldIn (out .state) (out .report) xs
 
+-- and the state at the end
+unfoldable pub afterIn : List ℕ → List ℕ → List Content → List ℕ
+unfolding fedIn
+afterIn state report [] = state
+afterIn state report (x ∷ xs) = let out = fedIn state x report in afterIn (out .state) (out .report) xs
+
 -- bytes that were filled for a roster, and frames fed to them
 pub record Filled (roster s report : List ℕ) (xs : List Content) : Type 0 where
   pub taken : made roster .number ≡ 0
   pub senders : (i : ℕ) → getD roster i 0 < 65536
-  pub long : stateSize ≤ length s
-  pub room : reportSize ≤ length report
+  pub long : 113 ≤ length s
+  pub room : 11 ≤ length report
   pub sent : Sent xs
