@@ -13,12 +13,20 @@ use Rattle.epochs.specs.declared.collating.Collator.{Collator}
 use Rattle.epochs.specs.declared.collating.Report.{Report}
 use Rattle.epochs.specs.declared.collating.Happened.the-variants as H
 use Rattle.epochs.proofs.Feeding.{moves-told, never-refuses}
+use Rattle.layouts.specs.Description.{readAs}
+use Rattle.frame_writer.specs.Writer.{planned, withFrame}
+use Rattle.frame_writer.specs.Faithful.{writeAnswer, writtenAs}
+use Rattle.phases.specs.Phase.{readPhase}
+use Rattle.row_reader.specs.ReadRow.{readRow, readOne}
+use Rattle.row_writer.specs.WriteRow.{writeRow, rowWritten}
+use Rattle.row_writer.specs.WriteObsRow.{writeObsRow, obsRowWritten}
+use Rattle.listing.specs.Listing.{listAnswer}
 use Rattle.frame_rows.specs.Found.{nextFrom}
 use Rattle.frame_rows.specs.Totals.{totalsFor}
 use Rattle.places.specs.State.{stateIn}
 use Rattle.states.specs.Feed.{happenedNumber, feedingIn, madeIn, moveIn, fedIn, cameOut}
 use Rattle.states.specs.Enlist.{growingIn, enlistIn}
-use Rattle.demands.specs.Demand1.{ReadOff}
+use Rattle.demands.specs.ReadOff.{ReadOff}
 
 module _ {A : Type 0} (c : Call A) where
   pub apart : (number : A → ℕ) → ((x : A) → number x < 11) → (n : ℕ) → 11 ≤ n → (asNumber number (reply c) ≡ n) ↔ FirstFails (c .tests) n
@@ -86,8 +94,22 @@ module _ (state report : List ℕ) (x : Content) (n : ℕ) where
       (ap (λ (a : Answer Move). cameOut state report a .state) e, ap (λ (a : Answer Move). cameOut state report a .report) e)
 
 pub read-off : ReadOff
-unfolding nextFrom totalsFor fedIn moveIn madeIn growingIn enlistIn
+unfolding readAs listAnswer readRow readOne readPhase planned withFrame writeAnswer writtenAs writeRow rowWritten writeObsRow obsRowWritten nextFrom totalsFor fedIn moveIn madeIn growingIn enlistIn
 read-off = record {
+  record-read = λ R d s. refl;
+  listed = λ s room. refl;
+  listed-in = λ s buf. refl;
+  row-read = λ kind s room. refl;
+  one-read = λ kind s i room. refl;
+  phase-read = λ z. refl;
+  frame-planned = λ n room. refl;
+  frame-in = λ kind w payload buf. refl;
+  record-planned = λ R d r room. refl;
+  record-in = λ R d w r buf. refl;
+  row-planned = λ kind ns room. refl;
+  row-in = λ kind w ns buf. refl;
+  obs-planned = λ kind hs ns room. refl;
+  obs-in = λ kind w hs ns buf. refl;
   made-number = made-number;
   fed-refused = fed-refused;
   fed-number = fed-number;

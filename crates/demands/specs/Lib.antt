@@ -1,4 +1,5 @@
 pub mod Order
+pub mod ReadOff
 pub mod Demand1
 pub mod Demand2
 pub mod Demand3
