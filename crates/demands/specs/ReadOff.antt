@@ -58,7 +58,7 @@ pub record ReadOff : Type 1 where
   pub obs-in : (kind : ℕ) (w : Writer) (hs ns buf : List ℕ)
       → obsRowWritten kind w hs ns buf
       ≡ leaves (sent kind w (encodeBody (obs first .layout) (obs first .row (observedOf hs ns)))) (reply (writingObsRow kind hs ns (length buf))) buf
-  -- a collator by value
+  -- what a collator refuses, by value and in lent bytes
   pub made-number : (roster : List ℕ) → made roster .number ≡ zeroOr (reply (rostering roster))
   pub fed-refused : (c : Collator) (x : Content) (n : ℕ) → (fedFrame c x .happened ≡ H.Refused n) ↔ FirstFails (feeding c x .tests) n
   pub fed-number : (state report : List ℕ) (x : Content) (n : ℕ) → 11 ≤ n → (fedIn state x report .answer ≡ n) ↔ FirstFails (feedingIn state (length report) x .tests) n
