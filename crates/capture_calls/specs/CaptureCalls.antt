@@ -29,9 +29,9 @@ use Rattle.packets.specs.declared.packet.PacketRead.the-variants as PacketRead
 use Rattle.epochs.specs.declared.recognising.Recognised.the-variants as Recognised
 use Rattle.groups.specs.Group.{stepping}
 use Rattle.groups.specs.declared.grouping.Answered.the-variants as Answered
-use Rattle.epochs.specs.Collator.{placing, fedFrame, made}
+use Rattle.epochs.specs.Collator.{placing, outcome, fedFrame, made}
 use Rattle.captures.specs.Capture.{collated}
-use Rattle.enlisting.specs.Enlisting.{enlistedTo}
+use Rattle.enlisting.specs.Enlisting.{newSeat, enlistedTo}
 use Rattle.listing.specs.Listing.{textOf, listing}
 use Rattle.calls.specs.Replies.{variantOf, handsBack, puts}
 use Rattle.calls.specs.Gives.{Gives, GivesAs}
@@ -82,6 +82,8 @@ module _ {M : Type 1} (𝓤 : URA M) (H : Heap 𝓤) (A : Atoms 𝓤) (mem : Mem
         (λ κs p. handsBack PacketRead.Record PacketRead.Refused (record { tests = numbering p; value = p }))
     -- and the packet at that place: 47 for a counter that has come already
     pub place-step : Gives 𝓤 groups.step.ended (groups.step.clauses 𝓤 H A mem run) (λ κs group p. handsBack Answered.To Answered.Refused (stepping group p))
+    pub outcome : Gives 𝓤 epochs.outcome.ended (epochs.outcome.clauses 𝓤 H A mem run) (λ κs sender p ended. (outcome sender p ended, tt))
+    pub new-seat : Gives 𝓤 enlisting.new_seat.ended (enlisting.new_seat.clauses 𝓤 H A mem run) (λ κs roster count sender. (newSeat roster count sender, tt))
     pub collate : Gives 𝓤 captures.collate.ended (captures.collate.clauses 𝓤 H A mem run) (λ κs s roster. (collated (now s) (now roster), tt))
     pub enlist : Gives 𝓤 enlisting.enlist.ended (enlisting.enlist.clauses 𝓤 H A mem run) (λ κs c kind sender. (enlistedTo c kind sender, tt))
     pub list : Gives 𝓤 listings.list.ended (listings.list.clauses 𝓤 H A mem run) (λ κs s buf. puts (listing (now s) (length (now buf))) (textOf (now s)) (now buf))

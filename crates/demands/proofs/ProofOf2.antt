@@ -30,6 +30,7 @@ use Rattle.obs_reader.proofs.Readers.{asked-times}
 use Rattle.payloads.proofs.Entries.{promised, obs-read, log-read}
 use Rattle.packets.proofs.Recognitions.{formed}
 use Rattle.groups.proofs.Words.{in-words}
+use Rattle.groups.proofs.WholeGroups.{whole-epoch, copy-refused}
 use Rattle.in_order.proofs.Meeting.{in-order}
 use Rattle.epochs.specs.Epoch.{after, reportsOf, Epochs, contentsOf}
 use Rattle.epochs.specs.declared.collating.Report.{Report}
@@ -113,6 +114,8 @@ epochs-reported = record {
   formed = λ x p. formed (x .kind) (x .payload);
   in-words = in-words;
   copies = λ roster ok. copy-outcome roster (seated roster ok);
+  step-ends = whole-epoch;
+  step-copies = copy-refused;
   any-order = λ roster ok. in-any-order roster (seated roster ok);
   in-order = in-order;
   one-at-most = λ roster ok xs x d e v w. one-epoch roster (seated roster ok) v w;

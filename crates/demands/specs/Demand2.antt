@@ -11,7 +11,7 @@ use lib.IntN.{ℤ, pos, _+ℤ_, _*ℤ_}
 use lib.ListN.{length, getD, take, drop, replicate}
 use denote.Ref.{now}
 use Rattle.wire.specs.Number.{Bytes, numberAt}
-use Rattle.refusals.specs.Refusals.{given}
+use Rattle.refusals.specs.Refusals.{given, refused, reply}
 use Rattle.frames.specs.Frame.{frameBytes, Content, Sendable, AllSendable, frameOf, stream}
 use Rattle.frames.specs.Step.{stepAt, payloadIn}
 use Rattle.frames.specs.Reading.{Positioned, closedSteps, openSteps, Tiled, holding, beforeShort, framesOf}
@@ -36,8 +36,10 @@ use Rattle.obs_reader.specs.declared.ObsReader.{ObsReader}
 use Rattle.payloads.specs.Payloads.{answerFor, messages, Typed, Promised, AllOf}
 use Rattle.payloads.specs.declared.Message.the-variants as M
 use Rattle.packets.specs.declared.packet.Packet.{Packet}
-use Rattle.packets.specs.Packet.{Formed}
-use Rattle.groups.specs.InWords.{EpochEnds, InWords}
+use Rattle.packets.specs.Packet.{Formed, AllFormed}
+use Rattle.groups.specs.InWords.{isCopy, EpochEnds, InWords}
+use Rattle.groups.specs.Group.{stepping, endedOf, leftOpen}
+use Rattle.groups.specs.declared.grouping.Ended.the-variants.{Whole}
 use Rattle.in_order.specs.InOrder.{InOrder}
 use Rattle.epochs.specs.Search.{names}
 use Rattle.epochs.specs.Collator.{fedFrame, made}
@@ -144,6 +146,10 @@ pub record EpochsReported : Type 0 where
   -- "one whose counter has come already is answered 47"
   pub copies : (roster : List ℕ) → made roster .number ≡ 0 → (xs : List Content) (x : Content)
       → (fedFrame (after (made roster .collator) xs) x .happened ≡ H.Refused 47) ↔ BringsCopy roster xs x
+  -- both of the step itself, which `groups::step` makes by its line (`capture_calls`): from what a sender's packets have left open
+  pub step-ends : (p : Packet) (past : List Packet) (total : ℕ) → AllFormed (p ∷ past)
+      → (endedOf (reply (stepping (leftOpen past) p)) ≡ Whole total) ↔ EpochEnds p past total
+  pub step-copies : (p : Packet) (past : List Packet) → AllFormed (p ∷ past) → (reply (stepping (leftOpen past) p) ≡ refused 47) ↔ (isCopy past p ≡ true)
   -- within a sender, the order in which the packets of one group arrive changes nothing about its report
   pub any-order : (roster : List ℕ) → made roster .number ≡ 0 → InAnyOrder roster
   -- packets that come in counter order, without copies, end the epochs that document 01 gave before P7
