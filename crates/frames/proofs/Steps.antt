@@ -5,15 +5,13 @@ use mathlib.Core.List.{List}
 use Prim.Native.Nat.{ℕ, _+_, _-_, _≤_, _<_}
 use native.Mathlib.Nat.{add-zero, add-assoc}
 use native.Mathlib.Omega.{arith}
-use lib.Dec.{eqb, leb, ltb, lit<}
+use lib.Dec.{eqb, leb, ltb}
 use lib.ListN.{length, getD, take, drop, length-drop, List·getD-eq-default}
 use lib.Seq.{drop-drop, getD-drop}
 use borrow.Author.Tests.{eq-eqb, ne-eqb, lt-ltb, le-ltb, eqb-true, eqb-false, leb-true, leb-false, ltb-true, ltb-false}
-use Rattle.wire.specs.Number.{Bytes, numberAt}
-use Rattle.wire.proofs.Numbers.{bytes-take, bytes-drop, number-byte, number-past}
+use Rattle.wire.specs.Number.{numberAt}
+use Rattle.wire.proofs.Numbers.{number-byte, number-past}
 use Rattle.crc.specs.Crc.{crcFrom}
-use Rattle.crc.specs.Table.{Rule, crcBy}
-use Rattle.crc.proofs.ByTable.{crc-by-table}
 use Rattle.frames.specs.Step.{stepOf, stepAt, passed}
 use Rattle.frames.specs.Decides.{left, size, sum, sent, frame, Decides, finished, junk, headless, cut, bad, found}
 use Rattle.frames.specs.Reading.{stops}
@@ -48,16 +46,11 @@ module _ (s : List ℕ) (p : ℕ) where
   unfolding stepOf
   from-start = simp (length-drop, number-from, number-one, getD-drop, drop-drop, add-zero, ← add-assoc)
 
-  -- the bytes that the CRC covers, as `step_by` lends them: from first to end
-  abbrev part : List ℕ
-  part = take (p + size s p + 6 - (p + 1)) (drop (p + 1) s)
-
-  pub summed : {a : ℕ} (t : List ℕ) → Rule t → Bytes s → a ≡ crcBy t 0 part → a ≡ sum s p
-  summed t rule bytes e =
+  -- the CRC of the bytes that `step_at` lends: from first to end
+  pub summed : {a : ℕ} → a ≡ crcFrom 0 (take (p + size s p + 6 - (p + 1)) (drop (p + 1) s)) → a ≡ sum s p
+  summed e =
       let n : p + size s p + 6 - (p + 1) ≡ size s p + 5 = omega arith in
-      e
-      ∙ crc-by-table t rule 0 part (lit< tt) (bytes-take (p + size s p + 6 - (p + 1)) (drop (p + 1) s) (bytes-drop (p + 1) s bytes))
-      ∙ ap (λ (n : ℕ). crcFrom 0 (take n (drop (p + 1) s))) n
+      e ∙ ap (λ (n : ℕ). crcFrom 0 (take n (drop (p + 1) s))) n
 
   left-over : p < length s → stepAt s p ≡ marked
   left-over h = from-start ∙ rw (ne-eqb (left s p) 0 (omega arith))

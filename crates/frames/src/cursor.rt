@@ -8,7 +8,7 @@ ghost use Rattle.frames.specs.Cursors.{passes, past, over, ended, begun,
 use crate::junk::junk_run;
 use crate::step::Frame;
 use crate::step::Step;
-use crate::step::step_by;
+use crate::step::step_at;
 
 // The bytes in frames, and those passed over as junk, bad or short.
 pub struct Counts {
@@ -167,10 +167,9 @@ impl Cursor {
     pub fn next(self, s: &[u8]) -> Next
         ensures { λ r. ⌜ r ≡ nextOf (now (s .entry)) self ⌝ }
     {
-        let table = crc::entries();
         let mut c = self;
         loop {
-            let step = step_by(&table, s, c.at);
+            let step = step_at(s, c.at);
             if passes(c.opened, step) {
                 c = c.over(step).past_junk(s);
             } else {
@@ -203,10 +202,9 @@ fn finished(step: Step) -> bool
 pub fn totals(s: &[u8]) -> Counts
     ensures { λ r. ⌜ r ≡ countsOf (closedSteps (now (s .entry))) ⌝ }
 {
-    let table = crc::entries();
     let mut c = Cursor::closed();
     loop {
-        let step = step_by(&table, s, c.at);
+        let step = step_at(s, c.at);
         if finished(step) {
             return c.counts();
         }

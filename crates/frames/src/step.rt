@@ -1,7 +1,6 @@
 // What stands at a position of a capture.
 ghost use mathlib.Core.Path.{_≡_};
 ghost use Prim.Native.Nat.{_+_, min};
-ghost use Rattle.crc.specs.Table.{Rule};
 ghost use Rattle.frames.specs.Step.{stepAt, payloadIn};
 
 // A frame that was found: its position, type, sender and payload length. Its payload starts at + 6.
@@ -21,9 +20,7 @@ pub enum Step {
     Found(Frame),
 }
 
-// By the CRC's table, lent.
-pub(crate) fn step_by(table: &[u16; 256], s: &[u8], at: usize) -> Step
-    requires { ⌜ Rule (now table) ⌝ }
+pub fn step_at(s: &[u8], at: usize) -> Step
     ensures { λ r. ⌜ r ≡ stepAt (now (s .entry)) at ⌝ }
 {
     if s.len() <= at {
@@ -43,7 +40,7 @@ pub(crate) fn step_by(table: &[u16; 256], s: &[u8], at: usize) -> Step
     }
     let first = at + 1;
     let end = at + n + 6;
-    if crc::crc_by(table, 0, &s[first..end]) != wire::read_u16(s, end) {
+    if crc::crc(0, &s[first..end]) != wire::read_u16(s, end) {
         return Step::Bad;
     }
     Step::Found(Frame {
@@ -52,13 +49,6 @@ pub(crate) fn step_by(table: &[u16; 256], s: &[u8], at: usize) -> Step
         sender: wire::read_u16(s, at + 3),
         length,
     })
-}
-
-pub fn step_at(s: &[u8], at: usize) -> Step
-    ensures { λ r. ⌜ r ≡ stepAt (now (s .entry)) at ⌝ }
-{
-    let table = crc::entries();
-    step_by(&table, s, at)
 }
 
 // n bytes on from a position, or the end where that comes first.

@@ -12,55 +12,52 @@ use Rattle.frames.proofs.cursor.totals.Statement.{statement}
 use Rattle.frames.proofs.cursor.totals.Tie as tie
 
 abbrev Inv-loop : tie.InvT-loop
-Inv-loop s table c₀ c = Honest false s c
+Inv-loop s c₀ c = Honest false s c
 
 abbrev μ-loop : tie.MeasureT-loop
-μ-loop s table c₀ c = length s - c .at
+μ-loop s c₀ c = length s - c .at
 
 loop-holds : tie.Need-loop-holds Inv-loop μ-loop
 loop-holds c =
-    let start = c .before .before .before in
+    let start = c .before .before in
     subst⁻¹ (Honest false (start .args .s .now)) (c .closed .ensures) (honest-begun (start .args .s .now) (start .good .0 .0) false)
-
-step-by-requires : tie.Need-step-by-requires Inv-loop μ-loop
-step-by-requires c κs = c .before .before .before .entries .ensures
 
 returns : tie.Need-returns Inv-loop μ-loop
 returns c =
-    let start = c .before .before .before .before .before .before .before .before .before in
-    let k = c .before .before .before .before .before .loop in
-    honest-given (start .args .s .now) (start .good .0 .0) false (k .c) (k .inv) (c .before .before .before .step-by .ensures) (c .counts .ensures) (sym (c .before .before .finished .ensures) ∙ c .before .if1 .taken)
+    let start = c .before .before .before .before .before .before .before in
+    let k = c .before .before .before .before .loop in
+    honest-given (start .args .s .now) (start .good .0 .0) false (k .c) (k .inv) (c .before .before .before .step-at .ensures) (c .counts .ensures) (sym (c .before .before .finished .ensures) ∙ c .before .if1 .taken)
 
 loop-less : tie.Need-loop-less Inv-loop μ-loop
 loop-less c =
-    let start = c .before .before .before .before .before .before .before .before .before .before .before .before in
+    let start = c .before .before .before .before .before .before .before .before .before .before in
     let x = c .before .before .before .before .before .before in
     omega (
       arith,
-      comes-further (start .args .s .now) (start .good .0 .0) (x .before .before .loop .c) (x .step-by .ensures) (c .before .over .ensures) false (sym (c .before .before .before .before .before .finished .ensures) ∙ c .before .before .before .before .if1 .left),
+      comes-further (start .args .s .now) (start .good .0 .0) (x .before .loop .c) (x .step-at .ensures) (c .before .over .ensures) false (sym (c .before .before .before .before .before .finished .ensures) ∙ c .before .before .before .before .if1 .left),
       past-junk-further (start .args .s .now) (start .good .0 .0) (c .before .over .result) (c .past-junk .ensures),
     )
 
 loop-again : tie.Need-loop-again Inv-loop μ-loop
 loop-again c =
-    let start = c .before .before .before .before .before .before .before .before .before .before .before .before in
+    let start = c .before .before .before .before .before .before .before .before .before .before in
     let x = c .before .before .before .before .before .before in
-    let k = x .before .before .loop in
+    let k = x .before .loop in
     past-junk-honest (start .args .s .now) (start .good .0 .0) (c .before .over .result) (c .past-junk .ensures) false
-    (honest-past (start .args .s .now) (start .good .0 .0) false (k .c) (k .inv) (x .step-by .ensures) (c .before .over .ensures) (sym (c .before .before .before .before .before .finished .ensures) ∙ c .before .before .before .before .if1 .left))
+    (honest-past (start .args .s .now) (start .good .0 .0) false (k .c) (k .inv) (x .step-at .ensures) (c .before .over .ensures) (sym (c .before .before .before .before .before .finished .ensures) ∙ c .before .before .before .before .if1 .left))
 
 loop-less-2 : tie.Need-loop-less-2 Inv-loop μ-loop
 loop-less-2 c =
-    let start = c .before .before .before .before .before .before .before .before .before .before .before in
+    let start = c .before .before .before .before .before .before .before .before .before in
     let x = c .before .before .before .before .before in
-    omega (arith, comes-further (start .args .s .now) (start .good .0 .0) (x .before .before .loop .c) (x .step-by .ensures) (c .over2 .ensures) false (sym (c .before .before .before .before .finished .ensures) ∙ c .before .before .before .if1 .left))
+    omega (arith, comes-further (start .args .s .now) (start .good .0 .0) (x .before .loop .c) (x .step-at .ensures) (c .over2 .ensures) false (sym (c .before .before .before .before .finished .ensures) ∙ c .before .before .before .if1 .left))
 
 loop-again-2 : tie.Need-loop-again-2 Inv-loop μ-loop
 loop-again-2 c =
-    let start = c .before .before .before .before .before .before .before .before .before .before .before in
+    let start = c .before .before .before .before .before .before .before .before .before in
     let x = c .before .before .before .before .before in
-    let k = x .before .before .loop in
-    honest-past (start .args .s .now) (start .good .0 .0) false (k .c) (k .inv) (x .step-by .ensures) (c .over2 .ensures) (sym (c .before .before .before .before .finished .ensures) ∙ c .before .before .before .if1 .left)
+    let k = x .before .loop in
+    honest-past (start .args .s .now) (start .good .0 .0) false (k .c) (k .inv) (x .step-at .ensures) (c .over2 .ensures) (sym (c .before .before .before .before .finished .ensures) ∙ c .before .before .before .if1 .left)
 
 pub totals-spec : {M : Type 1} → statement M
 totals-spec =
@@ -69,9 +66,8 @@ totals-spec =
     Inv-loop
     μ-loop
     (λ c κs. tt)
-    (λ c κs. tt)
     loop-holds
-    step-by-requires
+    (λ c κs. tt)
     (λ c κs. tt)
     (λ c κs. tt)
     returns

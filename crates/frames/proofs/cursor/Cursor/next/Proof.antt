@@ -10,22 +10,19 @@ use Rattle.frames.proofs.cursor.Cursor.next.Statement.{statement}
 use Rattle.frames.proofs.cursor.Cursor.next.Tie as tie
 
 abbrev Inv-loop : tie.InvT-loop
-Inv-loop s table c₀ c = nextOf s c ≡ nextOf s c₀
+Inv-loop s c₀ c = nextOf s c ≡ nextOf s c₀
 
 abbrev μ-loop : tie.MeasureT-loop
-μ-loop s table c₀ c = length s - c .at
+μ-loop s c₀ c = length s - c .at
 
 loop-holds : tie.Need-loop-holds Inv-loop μ-loop
 loop-holds c = refl
 
-step-by-requires : tie.Need-step-by-requires Inv-loop μ-loop
-step-by-requires c κs = c .before .before .entries .ensures
-
 loop-less : tie.Need-loop-less Inv-loop μ-loop
 loop-less c =
-    let start = c .before .before .before .before .before .before .before .before .before in
-    let k = c .before .before .before .before .before .before .loop .c in
-    let x = c .before .before .before .before .step-by in
+    let start = c .before .before .before .before .before .before .before in
+    let k = c .before .before .before .before .before .loop .c in
+    let x = c .before .before .before .before .step-at in
     let on = passed-on (k .opened) (x .result) (sym (c .before .before .before .passes .ensures) ∙ c .before .before .if1 .taken) in
     omega (
       arith,
@@ -35,17 +32,17 @@ loop-less c =
 
 loop-again : tie.Need-loop-again Inv-loop μ-loop
 loop-again c =
-    let start = c .before .before .before .before .before .before .before .before .before in
-    let k = c .before .before .before .before .before .before .loop in
+    let start = c .before .before .before .before .before .before .before in
+    let k = c .before .before .before .before .before .loop in
     past-junk-next (start .args .s .now) (start .good .1 .0 .0) (c .before .over .result) (c .past-junk .ensures)
-    ∙ next-kept (start .args .s .now) (start .good .1 .0 .0) (k .c) (c .before .before .before .before .step-by .ensures) (c .before .over .ensures) (sym (c .before .before .before .passes .ensures) ∙ c .before .before .if1 .taken)
+    ∙ next-kept (start .args .s .now) (start .good .1 .0 .0) (k .c) (c .before .before .before .before .step-at .ensures) (c .before .over .ensures) (sym (c .before .before .before .passes .ensures) ∙ c .before .before .if1 .taken)
     ∙ k .inv
 
 returns : tie.Need-returns Inv-loop μ-loop
 returns c =
-    let start = c .before .before .before .before .before .before .before .before in
-    let k = c .before .before .before .before .before .loop in
-    next-given (start .args .s .now) (start .good .1 .0 .0) (k .c) (c .before .before .before .step-by .ensures) (sym (c .before .before .passes .ensures) ∙ c .before .if1 .left) (c .ended .ensures) ∙ k .inv
+    let start = c .before .before .before .before .before .before in
+    let k = c .before .before .before .before .loop in
+    next-given (start .args .s .now) (start .good .1 .0 .0) (k .c) (c .before .before .before .step-at .ensures) (sym (c .before .before .passes .ensures) ∙ c .before .if1 .left) (c .ended .ensures) ∙ k .inv
 
 pub next-spec : {M : Type 1} → statement M
 next-spec =
@@ -53,9 +50,8 @@ next-spec =
     (tie.spec
     Inv-loop
     μ-loop
-    (λ c κs. tt)
     loop-holds
-    step-by-requires
+    (λ c κs. tt)
     (λ c κs. tt)
     (λ c κs. tt)
     (λ c κs. tt)

@@ -1,14 +1,13 @@
--- `frames::step::step_by` meets its contract: each return is one of the five lines.
+-- `frames::step::step_at` meets its contract: each return is one of the five lines.
 use mathlib.Core.Path.{sym, ap₂, _∙_}
 use Prim.Native.Nat.{ℕ, _+_}
 use native.Mathlib.Omega.{arith}
 use borrow.Author.Needs.{needs}
-use Rattle.wire.specs.Number.{Bytes}
 use Rattle.frames.specs.declared.step.Step.the-variants.{Found}
 use Rattle.frames.specs.Decides.{found, bad, cut, headless, junk, finished, size}
 use Rattle.frames.proofs.Steps.{only, summed}
-use Rattle.frames.proofs.step.step_by.Statement.{statement}
-use Rattle.frames.proofs.step.step_by.Tie as tie
+use Rattle.frames.proofs.step.step_at.Statement.{statement}
+use Rattle.frames.proofs.step.step_at.Tie as tie
 
 returns : tie.Need-returns
 returns c =
@@ -31,8 +30,8 @@ cast-n c = omega (arith, c .shared-slice-known3 .given (c .before .before .befor
 add-if4 : tie.Need-add-if4
 add-if4 c = omega (arith, c .shared-slice-known3 .given (c .before .before .before .before .before .before .args .at + 5))
 
-add-t14 : tie.Need-add-t14
-add-t14 c = omega (arith, c .before .shared-slice-known3 .given (c .before .before .before .before .before .before .before .args .at + 5))
+add-t13 : tie.Need-add-t13
+add-t13 c = omega (arith, c .before .shared-slice-known3 .given (c .before .before .before .before .before .before .before .args .at + 5))
 
 returns-4 : tie.Need-returns-4
 returns-4 c =
@@ -42,22 +41,18 @@ returns-4 c =
 returns-5 : tie.Need-returns-5
 returns-5 c =
     let a = c .before .before .before .before .before .before .before .before .before .before .before .args in
-    let start = c .before .before .before .before .before .before .before .before .before .before .before in
-    let bytes : Bytes (a .s .now) = λ i. c .before .before .before .before .before .before .before .before .before .before .shared-slice-known .given i .fits in
-    let same = summed (a .s .now) (a .at) (a .table .now) (start .pre) bytes (c .before .before .crc-by .ensures) in
+    let same = summed (a .s .now) (a .at) (c .before .before .crc .ensures) in
     only (a .s .now) (a .at) (bad (c .before .before .before .before .before .before .before .if2 .left) (omega (arith, c .before .before .before .before .if4 .left)) (λ e. c .if5 .taken (same ∙ e ∙ sym (c .before .read-u16 .ensures))))
 
 returns-6 : tie.Need-returns-6
 returns-6 c =
     let a = c .before .before .before .before .before .before .before .before .before .before .before .before .before .args in
-    let start = c .before .before .before .before .before .before .before .before .before .before .before .before .before in
-    let bytes : Bytes (a .s .now) = λ i. c .before .before .before .before .before .before .before .before .before .before .before .before .shared-slice-known .given i .fits in
-    let same = summed (a .s .now) (a .at) (a .table .now) (start .pre) bytes (c .before .before .before .before .crc-by .ensures) in
+    let same = summed (a .s .now) (a .at) (c .before .before .before .before .crc .ensures) in
     ap₂ (λ (k n : ℕ). Found (record { at = a .at; kind = k; sender = n; length = size (a .s .now) (a .at) })) (c .before .read-u162 .ensures) (c .read-u163 .ensures)
     ∙ only (a .s .now) (a .at) (found (c .before .before .before .before .before .before .before .before .before .if2 .left) (c .before .before .before .before .before .before .if4 .left) (sym same ∙ c .before .before .if5 .left ∙ c .before .before .before .read-u16 .ensures))
 
-pub step-by-spec : {M : Type 1} → statement M
-step-by-spec =
+pub step-at-spec : {M : Type 1} → statement M
+step-at-spec =
     tie.close
     (tie.spec
     returns
@@ -69,7 +64,7 @@ step-by-spec =
     (λ c. search needs)
     cast-n
     add-if4
-    add-t14
+    add-t13
     returns-4
     (λ c. search needs)
     (λ c. search needs)
