@@ -1,6 +1,13 @@
 pub mod Xor
-pub mod Split
+pub mod Linear
 pub mod Fold
 pub mod Joined
-pub mod ByTable
+pub mod Rest
+pub mod Turning
+pub mod Brought
+pub mod Numbers
+pub mod Starts
+pub mod Words
+pub mod Folded
+pub mod Loops
 pub mod Calls

@@ -4,7 +4,7 @@ use Prim.Native.Nat.{ℕ, zero, suc, _*_, _/_, _%_, _^_, _<_}
 use native.Mathlib.Nat.{add-zero}
 use native.Mathlib.Omega.{arith}
 use lib.Arith.{bin-ind}
-use lib.Bits.{bitXor, xor-comm, xor-shr, xor-mod, xor-block}
+use lib.Bits.{bitXor, xor-comm, xor-shr, xor-mod, xor-block, xor-self}
 use lib.Pow.{pow-pos}
 
 -- what holds of single bits is seen by trying them
@@ -26,23 +26,26 @@ bits-assoc on off z = refl
 bits-assoc on on off = refl
 bits-assoc on on on = refl
 
-half : (a b : ℕ) → bitXor a b / 2 ≡ bitXor (a / 2) (b / 2)
+pub half : (a b : ℕ) → bitXor a b / 2 ≡ bitXor (a / 2) (b / 2)
 half a b = xor-shr a b 1
 
-lowest : (a b : ℕ) → bitXor a b % 2 ≡ bitXor (a % 2) (b % 2)
+pub lowest : (a b : ℕ) → bitXor a b % 2 ≡ bitXor (a % 2) (b % 2)
 lowest a b = xor-mod a b 1
 
 by-halves : {a b : ℕ} → a / 2 ≡ b / 2 → a % 2 ≡ b % 2 → a ≡ b
 by-halves h l = omega arith
 
-xor-assoc : (a b c : ℕ) → bitXor (bitXor a b) c ≡ bitXor a (bitXor b c)
+pub xor-assoc : (a b c : ℕ) → bitXor (bitXor a b) c ≡ bitXor a (bitXor b c)
 xor-assoc =
     bin-ind (λ (a : ℕ). (b c : ℕ) → bitXor (bitXor a b) c ≡ bitXor a (bitXor b c)) (λ b c. refl)
     (λ a ih b c. by-halves (simp half (ih (b / 2) (c / 2))) (simp lowest (bits-assoc (bit a) (bit b) (bit c))))
 
--- three: the last two change places
-pub xor-turn : (a b c : ℕ) → bitXor (bitXor a b) c ≡ bitXor (bitXor a c) b
-xor-turn a b c = xor-assoc a b c ∙ ap (bitXor a) (xor-comm b c) ∙ sym (xor-assoc a c b)
+-- a number that is added twice is gone
+pub xor-back : (a b : ℕ) → bitXor a (bitXor a b) ≡ b
+xor-back a b = sym (xor-assoc a a b) ∙ ap (λ (x : ℕ). bitXor x b) (xor-self a)
+
+pub xor-left : (a b c : ℕ) → bitXor a (bitXor b c) ≡ bitXor b (bitXor a c)
+xor-left a b c = sym (xor-assoc a b c) ∙ ap (λ (x : ℕ). bitXor x c) (xor-comm a b) ∙ xor-assoc b a c
 
 -- four regrouped: (a b) (c d) is (a c) (b d)
 pub xor-swap : (a b c d : ℕ) → bitXor (bitXor a b) (bitXor c d) ≡ bitXor (bitXor a c) (bitXor b d)

@@ -1,4 +1,4 @@
 pub mod Crc
-pub mod Table
 pub mod Parts
 pub mod Calls
+pub mod Inner

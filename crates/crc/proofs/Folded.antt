@@ -1,0 +1,154 @@
+-- What folding.rt makes: a word that falls out added where it belongs, a word moved up by its own width, and the register.
+use mathlib.Core.Path.{_≡_, refl, sym, ap, ap₂, _∙_}
+use Prim.Native.Nat.{ℕ, _+_, _*_, _/_, _%_, _^_, _≤_, _<_}
+use native.Mathlib.Nat.{mul-one, div-eq-of-lt, mod-eq-of-lt, mod-lt, zero-lt-suc, lt-of-lt-of-le, lt-of-le-of-lt}
+use lib.Bits.{bitXor, xor-comm, xor-lt, xor-mod, xor-zero-r}
+use lib.Dec.{lit≤}
+use lib.Pow.{pow-mono, mod-mod-pow, shr-le}
+use Rattle.crc.specs.Inner.{rest, then}
+use Rattle.crc.proofs.Xor.{xor-assoc, xor-left}
+use Rattle.crc.proofs.Rest.{rest-xor, rest-small, at, at-xor, at-up, at-cut, at-same}
+use Rattle.crc.proofs.Turning.{turned-down, turning-1, turning-4, turning-16}
+use Rattle.crc.proofs.Brought.{above, added, above-twice, brought, part-up}
+
+-- ---- a word behind a number
+
+at-then : (n w j : ℕ) → at (then n w) j ≡ bitXor (at n (64 + j)) (at w j)
+at-then n w j = at-xor (n * 2 ^ 64) w j ∙ ap (λ (x : ℕ). bitXor x (at w j)) (at-up n 64 j)
+
+pub then-same : (w a b : ℕ) → rest a ≡ rest b → rest (then a w) ≡ rest (then b w)
+then-same w a b e = rest-xor (a * 2 ^ 64) w ∙ ap (λ (x : ℕ). bitXor x (rest w)) (at-same a b 64 e) ∙ sym (rest-xor (b * 2 ^ 64) w)
+
+-- ---- four words, term by term, and with one more behind them
+
+four : (a b c d : ℕ) → rest (then (then (then a b) c) d) ≡ bitXor (bitXor (bitXor (at a 192) (at b 128)) (at c 64)) (rest d)
+four a b c d =
+    rest-xor (then (then a b) c * 2 ^ 64) d
+    ∙ ap (λ (x : ℕ). bitXor x (rest d)) (at-then (then a b) c 64 ∙ ap (λ (x : ℕ). bitXor x (at c 64)) (at-then a b 128))
+
+five : (a b c d w : ℕ) → rest (then (then (then (then a b) c) d) w) ≡ bitXor (bitXor (bitXor (bitXor (at a 256) (at b 192)) (at c 128)) (at d 64)) (rest w)
+five a b c d w =
+    rest-xor (then (then (then a b) c) d * 2 ^ 64) w
+    ∙ ap (λ (x : ℕ). bitXor x (rest w))
+    (at-then (then (then a b) c) d 64
+    ∙ ap (λ (x : ℕ). bitXor x (at d 64)) (at-then (then a b) c 128 ∙ ap (λ (x : ℕ). bitXor x (at c 128)) (at-then a b 192)))
+
+-- what falls out: 256 bits up is 192, 80 and 0 bits up, and 80 bits up it lies in two words
+falls : (a : ℕ) → at a 256 ≡ bitXor (at a 192) (bitXor (bitXor (at (a / 2 ^ 48) 128) (at (a * 2 ^ 16 % 2 ^ 64) 64)) (rest a))
+falls a =
+    turned-down 16 turning-16 a
+    ∙ ap (bitXor (at a 192))
+    (ap (λ (x : ℕ). bitXor x (rest a)) (sym (at-up a 16 64) ∙ at-cut (a * 2 ^ 16) 64 64 ∙ ap (λ (x : ℕ). bitXor (at x 128) (at (a * 2 ^ 16 % 2 ^ 64) 64)) (part-up a 16 48)))
+
+regroup : (a b c d w x y z : ℕ)
+    → bitXor (bitXor (bitXor (bitXor b x) (bitXor c y)) (bitXor d z)) (bitXor w a)
+    ≡ bitXor (bitXor (bitXor (bitXor (bitXor x (bitXor (bitXor y z) a)) b) c) d) w
+regroup a b c d w x y z = simp (xor-assoc, xor-left, xor-comm)
+
+pub turned-is : (a b c d w : ℕ)
+    → rest (then (then (then (bitXor b a) (bitXor c (a / 2 ^ 48))) (bitXor d (a * 2 ^ 16 % 2 ^ 64))) (bitXor w a))
+    ≡ rest (then (then (then (then a b) c) d) w)
+turned-is a b c d w =
+    let h = a / 2 ^ 48 in
+    let l = a * 2 ^ 16 % 2 ^ 64 in
+    four (bitXor b a) (bitXor c h) (bitXor d l) (bitXor w a)
+    ∙ ap₂ bitXor (ap₂ bitXor (ap₂ bitXor (at-xor b a 192) (at-xor c h 128)) (at-xor d l 64)) (rest-xor w a)
+    ∙ regroup (rest a) (at b 192) (at c 128) (at d 64) (rest w) (at a 192) (at h 128) (at l 64)
+    ∙ sym (five a b c d w ∙ ap (λ (x : ℕ). bitXor (bitXor (bitXor (bitXor x (at b 192)) (at c 128)) (at d 64)) (rest w)) (falls a))
+
+-- ---- a word of 64 bits, divided by the polynomial at s = 8, 4, 2, 1: each undoes the one before it, and s = 16 leaves it as it is
+
+none-left : (r k : ℕ) → r < 2 ^ 64 → 64 ≤ k → r / 2 ^ k ≡ 0
+none-left r k h g = div-eq-of-lt (lt-of-lt-of-le h (pow-mono g))
+
+above-16 : (r : ℕ) → r < 2 ^ 64 → above 16 r ≡ r
+unfolding above
+above-16 r h =
+    ap (bitXor r) (ap₂ bitXor (none-left r 64 h (lit≤ tt)) (ap₂ bitXor (none-left r 176 h (lit≤ tt)) (none-left r 256 h (lit≤ tt))))
+    ∙ xor-zero-r r
+
+above-8 : (r : ℕ) → r < 2 ^ 64 → bitXor r (r / 2 ^ 32) ≡ above 8 r
+unfolding above
+above-8 r h = sym (ap (λ (x : ℕ). bitXor r x) (ap (bitXor (r / 2 ^ 32)) (ap₂ bitXor (none-left r 88 h (lit≤ tt)) (none-left r 128 h (lit≤ tt))) ∙ xor-zero-r (r / 2 ^ 32)))
+
+above-4 : (t : ℕ) → t < 2 ^ 64 → bitXor (bitXor t (t / 2 ^ 16)) (t / 2 ^ 44) ≡ above 4 t
+unfolding above
+above-4 t h =
+    xor-assoc t (t / 2 ^ 16) (t / 2 ^ 44)
+    ∙ ap (λ (x : ℕ). bitXor t (bitXor (t / 2 ^ 16) x)) (sym (ap (bitXor (t / 2 ^ 44)) (none-left t 64 h (lit≤ tt)) ∙ xor-zero-r (t / 2 ^ 44)))
+
+above-all : (s u : ℕ) → bitXor (bitXor (bitXor u (u / 2 ^ (4 * s))) (u / 2 ^ (11 * s))) (u / 2 ^ (16 * s)) ≡ above s u
+unfolding above
+above-all s u =
+    xor-assoc (bitXor u (u / 2 ^ (4 * s))) (u / 2 ^ (11 * s)) (u / 2 ^ (16 * s)) ∙ xor-assoc u (u / 2 ^ (4 * s)) (bitXor (u / 2 ^ (11 * s)) (u / 2 ^ (16 * s)))
+
+down-fits : (r k : ℕ) → r < 2 ^ 64 → r / 2 ^ k < 2 ^ 64
+down-fits r k h = lt-of-le-of-lt (shr-le r k) h
+
+half-fits : (r : ℕ) → r < 2 ^ 64 → bitXor r (r / 2 ^ 32) < 2 ^ 64
+half-fits r h = xor-lt 64 r (r / 2 ^ 32) h (down-fits r 32 h)
+
+-- the lowest bits of what is added, term by term
+low : (a b q k : ℕ) → bitXor a (bitXor b q) % 2 ^ k ≡ bitXor (bitXor (a % 2 ^ k) (b % 2 ^ k)) (q % 2 ^ k)
+low a b q k = xor-mod a (bitXor b q) k ∙ ap (bitXor (a % 2 ^ k)) (xor-mod b q k) ∙ sym (xor-assoc (a % 2 ^ k) (b % 2 ^ k) (q % 2 ^ k))
+
+-- what moved_up and register divide by: the quotient at s = 4
+module _ (r : ℕ) (h : r < 2 ^ 64) where
+  abbrev t : ℕ
+  t = bitXor r (r / 2 ^ 32)
+
+  abbrev pub quotient : ℕ
+  quotient = bitXor (bitXor t (t / 2 ^ 16)) (t / 2 ^ 44)
+
+  quotient-is : quotient ≡ above 4 (above 8 r)
+  quotient-is = above-4 t (half-fits r h) ∙ ap (above 4) (above-8 r h)
+
+  divided-4 : above 4 quotient ≡ r
+  divided-4 =
+      ap (above 4) quotient-is
+      ∙ above-twice 4 (above 8 r)
+      ∙ above-twice 8 r
+      ∙ above-16 r h
+
+  -- the quotient at s = 1, from that at s = 4
+  abbrev v : ℕ
+  v = bitXor (bitXor (bitXor quotient (quotient / 2 ^ 8)) (quotient / 2 ^ 22)) (quotient / 2 ^ 32)
+
+  abbrev pub last-quotient : ℕ
+  last-quotient = bitXor (bitXor (bitXor v (v / 2 ^ 4)) (v / 2 ^ 11)) (v / 2 ^ 16)
+
+  divided-1 : above 1 last-quotient ≡ r
+  divided-1 =
+      ap (above 1) (above-all 1 v ∙ ap (above 1) (above-all 2 quotient))
+      ∙ above-twice 1 (above 2 quotient)
+      ∙ above-twice 2 quotient
+      ∙ divided-4
+
+  -- ---- moved up by its own width
+
+  pub moved-is : rest (bitXor (bitXor (quotient * 2 ^ 48 % 2 ^ 64) (quotient * 2 ^ 20 % 2 ^ 64)) quotient) ≡ rest (r * 2 ^ 64)
+  unfolding added
+  moved-is =
+      let q = quotient in
+      let whole : q % 2 ^ 64 ≡ q = mod-eq-of-lt (xor-lt 64 (bitXor t (t / 2 ^ 16)) (t / 2 ^ 44) (xor-lt 64 t (t / 2 ^ 16) fits (down-fits t 16 fits)) (down-fits t 44 fits)) in
+      ap rest (sym (low (q * 2 ^ 48) (q * 2 ^ 20) q 64 ∙ ap (bitXor (bitXor (q * 2 ^ 48 % 2 ^ 64) (q * 2 ^ 20 % 2 ^ 64))) whole))
+      ∙ sym (brought 4 turning-4 q)
+      ∙ ap (λ (x : ℕ). at x 64) divided-4
+    where
+      fits : t < 2 ^ 64
+      fits = half-fits r h
+
+  -- ---- the register
+
+  pub register-is : bitXor (bitXor (last-quotient * 2 ^ 12 % 2 ^ 64) (last-quotient * 2 ^ 5 % 2 ^ 64)) last-quotient % 65536 ≡ rest (r * 65536)
+  unfolding added
+  register-is =
+      let q = last-quotient in
+      let a = q * 2 ^ 12 in
+      let b = q * 2 ^ 5 in
+      xor-mod (bitXor (a % 2 ^ 64) (b % 2 ^ 64)) q 16
+      ∙ ap (λ (x : ℕ). bitXor x (q % 65536)) (xor-mod (a % 2 ^ 64) (b % 2 ^ 64) 16 ∙ ap₂ bitXor (mod-mod-pow a 48 16) (mod-mod-pow b 48 16))
+      ∙ sym (low a b q 16)
+      ∙ sym (rest-small (added 1 q % 65536) (mod-lt (added 1 q) (zero-lt-suc 65535)))
+      ∙ sym (brought 1 turning-1 q)
+      ∙ ap (λ (x : ℕ). at x 16) divided-1

@@ -1,0 +1,90 @@
+// Words that leave the same in the register as more of them do. Where T is the single-bit step, T^16 = T^12 + T^5 + 1 by the polynomial, and
+// squared, T^(16 s) = T^(12 s) + T^(5 s) + 1 for each power of two s (proofs/Turning.antt): what stands 16 s bits up may be added 12 s bits up,
+// 5 s bits up and where the number ends instead.
+ghost use mathlib.Core.Path.{_≡_};
+ghost use Prim.Native.Nat.{_-_, _*_, _%_, _^_, _≤_};
+ghost use lib.ListN.{length, drop};
+ghost use Rattle.crc.specs.Inner.{behind, rest, then, joined};
+use crate::bytes::word;
+
+// The last words of a number, the highest first.
+pub(crate) struct Words {
+    pub(crate) a: u64,
+    pub(crate) b: u64,
+    pub(crate) c: u64,
+    pub(crate) d: u64,
+}
+
+// A word more, at s = 16: what falls out, 256 bits up, goes 192, 80 and 0 bits up.
+fn turned(x: Words, w: u64) -> Words
+    ensures { λ r. ⌜ rest (joined r) ≡ rest (then (joined x) w) ⌝ }
+{
+    let out = x.a;
+    Words {
+        a: x.b ^ out,
+        b: x.c ^ (out >> 48),
+        c: x.d ^ (out << 16),
+        d: w ^ out,
+    }
+}
+
+// Four words, and all that come after.
+pub(crate) fn turned_all(x: Words, s: &[u8], from: usize) -> Words
+    requires { ⌜ (from ≤ length (now s)) × ((length (now s) - from) % 8 ≡ 0) ⌝ }
+    ensures { λ r. ⌜ rest (joined r) ≡ rest (behind (joined x) (drop from (now (s .entry)))) ⌝ }
+{
+    let mut four = x;
+    let mut i = from;
+    while i < s.len() {
+        four = turned(four, word(s, i));
+        i += 8;
+    }
+    four
+}
+
+// A number 64 bits up as one word, at s = 4: q is what has to be added, over and over, until nothing falls out.
+fn moved_up(r: u64) -> u64
+    ensures { λ x. ⌜ rest x ≡ rest (r * 2 ^ 64) ⌝ }
+{
+    let t = r ^ (r >> 32);
+    let q = t ^ (t >> 16) ^ (t >> 44);
+    (q << 48) ^ (q << 20) ^ q
+}
+
+// One word, and one more behind it.
+pub(crate) fn climbed(r: u64, w: u64) -> u64
+    ensures { λ x. ⌜ rest x ≡ rest (then r w) ⌝ }
+{
+    moved_up(r) ^ w
+}
+
+// One word, and all that come after.
+pub(crate) fn climbed_all(r: u64, s: &[u8], from: usize) -> u64
+    requires { ⌜ (from ≤ length (now s)) × ((length (now s) - from) % 8 ≡ 0) ⌝ }
+    ensures { λ x. ⌜ rest x ≡ rest (behind r (drop from (now (s .entry)))) ⌝ }
+{
+    let mut one = r;
+    let mut i = from;
+    while i < s.len() {
+        one = climbed(one, word(s, i));
+        i += 8;
+    }
+    one
+}
+
+pub(crate) fn one_of(x: Words) -> u64
+    ensures { λ r. ⌜ rest r ≡ rest (joined x) ⌝ }
+{
+    climbed(climbed(climbed(x.a, x.b), x.c), x.d)
+}
+
+// What a word leaves in the register, which stands 16 bits up: at s = 1.
+pub(crate) fn register(r: u64) -> u16
+    ensures { λ x. ⌜ x ≡ rest (r * 65536) ⌝ }
+{
+    let t = r ^ (r >> 32);
+    let u = t ^ (t >> 16) ^ (t >> 44);
+    let v = u ^ (u >> 8) ^ (u >> 22) ^ (u >> 32);
+    let q = v ^ (v >> 4) ^ (v >> 11) ^ (v >> 16);
+    (((q << 12) ^ (q << 5) ^ q) % 65536) as u16
+}
