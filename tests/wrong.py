@@ -1,6 +1,6 @@
 #!/usr/bin/env python3
-"""Tries wrong edits of what stands around the proved functions (header, wrapper, tool, examples, page, and what tools/contracts and tools/reached
-read): its test has to refuse each.
+"""Tries wrong edits of what stands around the proved functions (header, wrapper, tool, examples, page, and what tools/contracts, tools/reached and
+tests/constants.py read): its test has to refuse each.
 
 An edit is a file tests/wrong/NAME.edit as in crates/*/must-fail (lines 'file: PATH' from the root, 'old: TEXT', which is there once, 'new:
 TEXT'), with a line 'test: COMMAND'. Without the edit the command passes. With it the command fails, and at a comparison: it prints a line that
