@@ -8,7 +8,9 @@ fn pair(s: &[u8], i: usize) -> u64
     requires { ⌜ i + 2 ≤ length (now s) ⌝ }
     ensures { λ r. ⌜ (r ≡ getD (now (s .entry)) i 0 * 256 + getD (now (s .entry)) (i + 1) 0) × (r < 65536) ⌝ }
 {
-    (s[i] as u64) * 256 + (s[i + 1] as u64)
+    let high = s[i];
+    let low = s[i + 1];
+    (high as u64) * 256 + (low as u64)
 }
 
 // Eight bytes. As one flat sum of pairs they are one load.
