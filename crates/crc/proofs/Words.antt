@@ -56,10 +56,10 @@ word-is s bytes i h {p} {q} {r} {t} hp hq hr ht =
 
 -- ---- the first k of eight
 
-pub first-is : (s : List ℕ) → Bytes s → (k : ℕ) → k < 8 → 8 ≤ length s → numberOf (take 8 s) / 2 ^ 8 / 2 ^ (56 - 8 * k) ≡ numberOf (take k s)
+pub first-is : (s : List ℕ) → Bytes s → (k : ℕ) → k < 8 → 8 ≤ length s → numberOf (take 8 s) / 2 ^ (64 - 8 * k) ≡ numberOf (take k s)
 first-is s bytes k h long =
     let others = drop k (take 8 s) in
-    let left : 8 * length others ≡ 8 + (56 - 8 * k) = simp (length-drop, length-take) (omega arith) in
+    let left : 8 * length others ≡ 64 - 8 * k = simp (length-drop, length-take) (omega arith) in
     let m = 8 * length others in
     let fits : numberOf others < 2 ^ m = number-fits others (bytes-drop k (take 8 s) (bytes-take 8 s bytes)) in
     let cut : numberOf (take 8 s) ≡ bitXor (numberOf (take k s) * 2 ^ m) (numberOf others) =
@@ -67,11 +67,14 @@ first-is s bytes k h long =
     ∙ behind-append 0 (take k (take 8 s)) others
     ∙ behind-apart (numberOf (take k (take 8 s))) others
     ∙ ap (λ (l : List ℕ). bitXor (numberOf l * 2 ^ m) (numberOf others)) (take-take k 8 s (omega arith)) in
-    shr-shr (numberOf (take 8 s)) 8 (56 - 8 * k)
-    ∙ ap₂ (λ (x y : ℕ). x / 2 ^ y) cut (sym left)
+    ap₂ (λ (x y : ℕ). x / 2 ^ y) cut (sym left)
     ∙ xor-shr (numberOf (take k s) * 2 ^ m) (numberOf others) m
     ∙ ap₂ bitXor (shl-shr (numberOf (take k s)) m) (div-eq-of-lt fits)
     ∙ xor-zero-r (numberOf (take k s))
+
+pub none-is : (s : List ℕ) {k : ℕ} → k ≡ 0 → 0 ≡ numberOf (take k s)
+unfolding behind
+none-is s e = sym (ap (λ (x : ℕ). numberOf (take x s)) e)
 
 -- ---- a start, cut after k bytes
 

@@ -38,12 +38,15 @@ pub(crate) fn few(s: &[u8]) -> u64
     n
 }
 
-// The first k of eight bytes or more, k below 8.
+// The first k of eight bytes or more, k below 8. A shift that is never below 8 in one step leaves what is read one load.
 pub(crate) fn first(s: &[u8], k: usize) -> u64
     requires { ⌜ (8 ≤ length (now s)) × (k < 8) ⌝ }
     ensures { λ r. ⌜ r ≡ numberOf (take k (now (s .entry))) ⌝ }
 {
-    (word(s, 0) >> 8) >> (56 - 8 * k)
+    if k == 0 {
+        return 0;
+    }
+    word(s, 0) >> (64 - 8 * k)
 }
 
 // What a start adds to the first k bytes, and what is left of it for the two after them.

@@ -87,8 +87,6 @@ module _ {M : Type 1} (𝓤 : URA M) (H : Heap 𝓤) (A : Atoms 𝓤) (mem : Mem
     pub put-line : Determined 𝓤 text.put_line.ended (text.put_line.clauses 𝓤 H A mem run)
 
   pub record Crc : Type 1 where
-    pub entries : Determined 𝓤 crc.entries.ended (crc.entries.clauses 𝓤 H A mem run)
-    pub crc-by : Determined 𝓤 crc.crc_by.ended (crc.crc_by.clauses 𝓤 H A mem run)
     pub crc-apart : Determined 𝓤 crc.crc_apart.ended (crc.crc_apart.clauses 𝓤 H A mem run)
     pub crc : Determined 𝓤 crc.crc.ended (crc.crc.clauses 𝓤 H A mem run)
 
