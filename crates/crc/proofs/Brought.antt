@@ -1,10 +1,9 @@
 -- A number 16 s bits up, brought back to 16 s bits: q times the polynomial at s leaves nothing, and above bit 16 s it is the number.
-use mathlib.Core.Path.{_≡_, refl, sym, ap, ap₂, _∙_}
-use Prim.Native.Nat.{ℕ, _+_, _*_, _/_, _%_, _^_, _<_}
+use mathlib.Core.Path.{_≡_, sym, ap, ap₂, _∙_}
+use Prim.Native.Nat.{ℕ, _+_, _*_, _/_, _%_, _^_}
 use native.Mathlib.Omega.{arith}
-use lib.Bits.{bitXor, xor-comm, xor-shr, xor-self, xor-zero-r}
-use lib.Pow.{shr-shr, shl-shr, pow-mono}
-use native.Mathlib.Nat.{mul-one, zero-add, div-eq-of-lt, lt-of-lt-of-le}
+use lib.Bits.{bitXor, xor-comm, xor-shr}
+use lib.Pow.{shr-shr, shl-shr}
 use Rattle.crc.specs.Inner.{rest}
 use Rattle.crc.proofs.Xor.{xor-assoc, xor-left, xor-back}
 use Rattle.crc.proofs.Rest.{rest-xor, at, at-xor, rest-cut}

@@ -5,7 +5,7 @@ use native.Mathlib.Omega.{arith}
 use lib.Bits.{xor-lt}
 use Rattle.crc.specs.Crc.{bitStep, bitSteps, byteStep, crcFrom}
 
-step-fits : (c : ℕ) → bitStep c < 65536
+pub step-fits : (c : ℕ) → bitStep c < 65536
 unfolding bitStep
 step-fits c = xor-lt 16 (c * 2 % 65536) _ (omega arith) (omega arith)
 

@@ -1,7 +1,7 @@
 -- What folding.rt makes: a word that falls out added where it belongs, a word moved up by its own width, and the register.
-use mathlib.Core.Path.{_≡_, refl, sym, ap, ap₂, _∙_}
+use mathlib.Core.Path.{_≡_, sym, ap, ap₂, _∙_}
 use Prim.Native.Nat.{ℕ, _+_, _*_, _/_, _%_, _^_, _≤_, _<_}
-use native.Mathlib.Nat.{mul-one, div-eq-of-lt, mod-eq-of-lt, mod-lt, zero-lt-suc, lt-of-lt-of-le, lt-of-le-of-lt}
+use native.Mathlib.Nat.{div-eq-of-lt, mod-eq-of-lt, mod-lt, zero-lt-suc, lt-of-lt-of-le, lt-of-le-of-lt}
 use lib.Bits.{bitXor, xor-comm, xor-lt, xor-mod, xor-zero-r}
 use lib.Dec.{lit≤}
 use lib.Pow.{pow-mono, mod-mod-pow, shr-le}

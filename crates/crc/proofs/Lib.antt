@@ -10,4 +10,5 @@ pub mod Starts
 pub mod Words
 pub mod Folded
 pub mod Loops
+pub mod Remainders
 pub mod Calls

@@ -2,22 +2,20 @@
 -- bytes.
 use mathlib.Core.Path.{_≡_, refl, sym, ap, ap₂, _∙_}
 use mathlib.Core.List.{List, [], _∷_, _++_}
-use Prim.Native.Nat.{ℕ, zero, suc, _+_, _*_, _/_, _%_, _^_, _<_}
+use Prim.Native.Nat.{ℕ, zero, suc, _+_, _*_, _^_, _<_}
 use native.Mathlib.Nat.{mul-one}
 use native.Mathlib.Omega.{arith}
 use lib.Arith.{digits-lt}
-use lib.Bits.{bitXor, xor-comm, xor-shifted, xor-zero-r}
+use lib.Bits.{bitXor, xor-shifted, xor-zero-r}
 use lib.Dec.{lit<}
-use lib.ListN.{length, getD, take, drop}
+use lib.ListN.{length, take, drop}
 use lib.Pow.{pow-add}
 use lib.Seq.{getD-drop}
 use Rattle.crc.specs.Crc.{bitSteps, byteStep, crcFrom}
-use Rattle.crc.specs.Inner.{behind, numberOf, rest, restOf}
+use Rattle.crc.specs.Remainder.{Bytes}
+use Rattle.crc.specs.Inner.{behind, numberOf, rest}
 use Rattle.crc.proofs.Xor.{xor-assoc, xor-shl}
-use Rattle.crc.proofs.Rest.{rest-xor, rest-up, rest-small, at, at-same, up-up}
-
-abbrev pub Bytes : List ℕ → Type 0
-Bytes s = (i : ℕ) → getD s i 0 < 256
+use Rattle.crc.proofs.Rest.{rest-xor, rest-up, rest-small, at-same, up-up}
 
 pub bytes-drop : (k : ℕ) (s : List ℕ) → Bytes s → Bytes (drop k s)
 bytes-drop k s bytes i = rw getD-drop (bytes (k + i))

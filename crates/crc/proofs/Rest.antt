@@ -25,7 +25,7 @@ unfolding rest
 enough k n h = le-ind (λ (m : ℕ). restOf m n ≡ restOf n n) refl (λ m i e. more m n i ∙ e) k h
 
 -- a bit more: a step, and it is added
-rest-step : (n : ℕ) → rest n ≡ bitXor (bitStep (rest (n / 2))) (n % 2)
+pub rest-step : (n : ℕ) → rest n ≡ bitXor (bitStep (rest (n / 2))) (n % 2)
 unfolding rest restOf bitStep
 rest-step zero = refl
 rest-step (suc n) = ap (λ (x : ℕ). bitXor (bitStep x) (suc n % 2)) (enough n (suc n / 2) (half-le (le-refl (suc n))))

@@ -1,19 +1,20 @@
 -- A start goes in by itself: c is added to the first two bytes, cut where they are.
-use mathlib.Core.Path.{_≡_, refl, sym, ap, ap₂, _∙_}
-use mathlib.Core.List.{List, _++_}
-use Prim.Native.Nat.{ℕ, _+_, _-_, _*_, _/_, _%_, _^_, _≤_, _<_}
+use mathlib.Core.Path.{_≡_, sym, ap, ap₂, _∙_}
+use mathlib.Core.List.{List}
+use Prim.Native.Nat.{ℕ, _+_, _*_, _/_, _%_, _^_, _≤_, _<_}
 use native.Mathlib.Nat.{mod-lt, zero-lt-suc}
 use native.Mathlib.Omega.{arith}
-use lib.Bits.{bitXor, xor-comm, xor-shifted, xor-zero-r}
+use lib.Bits.{bitXor, xor-comm, xor-shifted}
 use lib.Dec.{lit≤}
 use lib.ListN.{length, take, drop, length-take, length-drop, take-append-drop}
 use lib.Pow.{split, shl-exact}
 use lib.Seq.{take-add}
 use Rattle.crc.specs.Crc.{crcFrom}
+use Rattle.crc.specs.Remainder.{Bytes}
 use Rattle.crc.specs.Inner.{behind, numberOf, rest, then}
 use Rattle.crc.proofs.Xor.{xor-assoc, xor-left, xor-shl}
 use Rattle.crc.proofs.Rest.{rest-xor, rest-small, at, at-xor, at-same, rest-cut, up-up}
-use Rattle.crc.proofs.Numbers.{Bytes, behind-append, behind-apart, behind-xor, crc-number}
+use Rattle.crc.proofs.Numbers.{behind-append, behind-apart, behind-xor, crc-number}
 
 module _ (c : ℕ) (s : List ℕ) (fits : c < 65536) (bytes : Bytes s) where
   -- all bytes in one word: the rest of the start is past their end

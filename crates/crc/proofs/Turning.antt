@@ -1,17 +1,16 @@
 -- T^(16 s) = T^(12 s) + T^(5 s) + 1 for every power of two s, said of what numbers leave; and with it a number 16 s bits up brought back to
 -- fewer than 16 s bits.
 use mathlib.Core.Path.{_≡_, refl, sym, ap, ap₂, _∙_}
-use Prim.Native.Nat.{ℕ, zero, suc, _+_, _*_, _/_, _%_, _^_, _<_}
+use Prim.Native.Nat.{ℕ, _+_, _*_, _/_, _%_, _^_}
 use native.Mathlib.Nat.{zero-add, mul-one, mul-assoc, mul-comm}
 use native.Mathlib.Omega.{arith}
 use lib.Arith.{bin-ind}
-use lib.Bits.{bitXor, xor-comm, xor-shr, xor-self}
-use lib.Pow.{shr-shr}
+use lib.Bits.{bitXor}
 use Rattle.crc.specs.Crc.{bitStep, bitSteps}
 use Rattle.crc.specs.Inner.{rest, restOf}
 use Rattle.crc.proofs.Xor.{Bit, off, on, bit, xor-assoc, xor-left, xor-back, xor-swap}
 use Rattle.crc.proofs.Linear.{step-linear}
-use Rattle.crc.proofs.Rest.{rest-xor, rest-double, rest-up, at, at-xor, at-up, at-cut, up-up}
+use Rattle.crc.proofs.Rest.{rest-double, rest-up, at, at-up, at-cut, up-up}
 
 -- what stands 16 s bits up may be added 12 s, 5 s and 0 bits up instead
 abbrev pub Turning : ℕ → Type 0

@@ -1,19 +1,20 @@
 -- What bytes.rt takes: eight bytes by pairs, the first few of eight, a start cut in two; and what the loop over few bytes keeps.
 use mathlib.Core.Path.{_≡_, refl, sym, ap, ap₂, _∙_}
-use mathlib.Core.List.{List, [], _∷_}
-use Prim.Native.Nat.{ℕ, zero, suc, _+_, _-_, _*_, _/_, _%_, _^_, _≤_, _<_, zero-le}
-use native.Mathlib.Nat.{add-zero, add-suc, div-eq-of-lt, lt-of-lt-of-le}
+use mathlib.Core.List.{List}
+use Prim.Native.Nat.{ℕ, suc, _+_, _-_, _*_, _/_, _%_, _^_, _≤_, _<_, zero-le}
+use native.Mathlib.Nat.{add-zero, add-suc, div-eq-of-lt}
 use native.Mathlib.Numerals.{add-one}
 use native.Mathlib.Omega.{arith}
 use lib.Arith.{digits-lt}
 use lib.Bits.{bitXor, xor-shifted, xor-shr, xor-zero-r}
 use lib.Dec.{lit≤}
 use lib.ListN.{length, getD, take, drop, length-take, length-drop, take-append-drop, drop-of-length-le}
-use lib.Pow.{pow-add, pow-mono, shl-exact, shl-shr, shr-shr, mod-mod-pow}
-use lib.Seq.{drop-cons, take-take, getD-drop, getD-take}
+use lib.Pow.{pow-add, shl-exact, shl-shr}
+use lib.Seq.{drop-cons, take-take}
+use Rattle.crc.specs.Remainder.{Bytes}
 use Rattle.crc.specs.Inner.{behind, numberOf}
 use Rattle.crc.proofs.Rest.{up-up}
-use Rattle.crc.proofs.Numbers.{Bytes, bytes-drop, bytes-take, behind-append, behind-apart, number-fits}
+use Rattle.crc.proofs.Numbers.{bytes-drop, bytes-take, behind-append, behind-apart, number-fits}
 use Rattle.crc.proofs.Brought.{part-up}
 
 -- ---- eight bytes
@@ -86,9 +87,6 @@ early-is c k fits h =
     ∙ sym (part-up (c * 2 ^ 40) m (56 - m))
     ∙ ap₂ (λ (x y : ℕ). x / 2 ^ y) (up-up c 40 m ∙ ap (λ (x : ℕ). c * 2 ^ x) (omega arith) ∙ sym (up-up c m 40)) whole
     ∙ part-up (c * 2 ^ m) 40 16
-
-pub late-is : (n : ℕ) → n % 2 ^ 64 % 65536 ≡ n % 65536
-late-is n = mod-mod-pow n 48 16
 
 -- ---- the loop over few bytes: what it has with what is left behind it is the whole number
 

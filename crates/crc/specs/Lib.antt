@@ -1,4 +1,5 @@
 pub mod Crc
+pub mod Remainder
 pub mod Parts
 pub mod Calls
 pub mod Inner

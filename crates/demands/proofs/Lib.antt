@@ -3,6 +3,7 @@ pub mod ProofOf2
 pub mod ProofOf3
 pub mod ProofOfExported
 pub mod ProofOfParts
+pub mod ProofOfDivided
 pub mod ProofOfSenders
 pub mod ProofOfStays
 pub mod ProofOfIndexes

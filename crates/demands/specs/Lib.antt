@@ -5,6 +5,7 @@ pub mod Demand2
 pub mod Demand3
 pub mod Exported
 pub mod InParts
+pub mod Divided
 pub mod Swallowed
 pub mod RowsStay
 pub mod WhoSends
