@@ -1,6 +1,7 @@
 -- A number 16 s bits up, brought back to 16 s bits: q times the polynomial at s leaves nothing, and above bit 16 s it is the number.
 use mathlib.Core.Path.{_≡_, sym, ap, ap₂, _∙_}
 use Prim.Native.Nat.{ℕ, _+_, _*_, _/_, _%_, _^_}
+use native.Mathlib.Nat.{add-comm}
 use native.Mathlib.Omega.{arith}
 use lib.Bits.{bitXor, xor-comm, xor-shr}
 use lib.Pow.{shr-shr, shl-shr}
@@ -19,11 +20,11 @@ added s q = bitXor (q * 2 ^ (12 * s)) (bitXor (q * 2 ^ (5 * s)) q)
 
 -- ---- twice above is above at twice s: again the mixed terms are there twice
 
-squared : (a b c d e f g h i j : ℕ)
+squared : (a b c d e h j : ℕ) {f f₁ g g₁ i i₁ : ℕ} → f₁ ≡ f → g₁ ≡ g → i₁ ≡ i
     → bitXor (bitXor a (bitXor b (bitXor c d)))
-    (bitXor (bitXor b (bitXor e (bitXor f g))) (bitXor (bitXor c (bitXor f (bitXor h i))) (bitXor d (bitXor g (bitXor i j)))))
+    (bitXor (bitXor b (bitXor e (bitXor f₁ g₁))) (bitXor (bitXor c (bitXor f (bitXor h i₁))) (bitXor d (bitXor g (bitXor i j)))))
     ≡ bitXor a (bitXor e (bitXor h j))
-squared a b c d e f g h i j = simp (xor-assoc, xor-left, xor-back)
+squared a b c d e h j p q r = rw (p, q, r) (simp (xor-assoc, xor-left, xor-back))
 
 -- shifted down, each term of it is
 down : (s q k : ℕ) → above s q / 2 ^ k ≡ bitXor (q / 2 ^ k) (bitXor (q / 2 ^ (4 * s + k)) (bitXor (q / 2 ^ (11 * s + k)) (q / 2 ^ (16 * s + k))))
@@ -37,18 +38,15 @@ down s q k =
 pub above-twice : (s q : ℕ) → above s (above s q) ≡ above (s * 2) q
 unfolding above
 above-twice s q =
-    let n : ℕ → ℕ = λ k. q / 2 ^ k in
-    let e : 4 * s + 4 * s ≡ 4 * (s * 2) = omega arith in
-    let f : 11 * s + 4 * s ≡ 4 * s + 11 * s = omega arith in
-    let g : 16 * s + 4 * s ≡ 4 * s + 16 * s = omega arith in
-    let h : 11 * s + 11 * s ≡ 11 * (s * 2) = omega arith in
-    let i : 16 * s + 11 * s ≡ 11 * s + 16 * s = omega arith in
-    let j : 16 * s + 16 * s ≡ 16 * (s * 2) = omega arith in
     ap (bitXor (above s q)) (ap₂ bitXor (down s q (4 * s)) (ap₂ bitXor (down s q (11 * s)) (down s q (16 * s))))
-    ∙ ap (λ (x : ℕ). bitXor (above s q) (bitXor (bitXor (n (4 * s)) (bitXor (n (4 * s + 4 * s)) (bitXor (n x) (n (16 * s + 4 * s))))) (bitXor (bitXor (n (11 * s)) (bitXor (n (4 * s + 11 * s)) (bitXor (n (11 * s + 11 * s)) (n (16 * s + 11 * s))))) (bitXor (n (16 * s)) (bitXor (n (4 * s + 16 * s)) (bitXor (n (11 * s + 16 * s)) (n (16 * s + 16 * s)))))))) f
-    ∙ ap₂ (λ (x y : ℕ). bitXor (above s q) (bitXor (bitXor (n (4 * s)) (bitXor (n (4 * s + 4 * s)) (bitXor (n (4 * s + 11 * s)) (n x)))) (bitXor (bitXor (n (11 * s)) (bitXor (n (4 * s + 11 * s)) (bitXor (n (11 * s + 11 * s)) (n y)))) (bitXor (n (16 * s)) (bitXor (n (4 * s + 16 * s)) (bitXor (n (11 * s + 16 * s)) (n (16 * s + 16 * s)))))))) g i
-    ∙ squared q (n (4 * s)) (n (11 * s)) (n (16 * s)) (n (4 * s + 4 * s)) (n (4 * s + 11 * s)) (n (4 * s + 16 * s)) (n (11 * s + 11 * s)) (n (11 * s + 16 * s)) (n (16 * s + 16 * s))
-    ∙ ap (bitXor q) (ap₂ bitXor (ap n e) (ap₂ bitXor (ap n h) (ap n j)))
+    ∙ squared q (n (4 * s)) (n (11 * s)) (n (16 * s)) (n (4 * s + 4 * s)) (n (11 * s + 11 * s)) (n (16 * s + 16 * s))
+    (ap n (add-comm (11 * s) (4 * s)))
+    (ap n (add-comm (16 * s) (4 * s)))
+    (ap n (add-comm (16 * s) (11 * s)))
+    ∙ ap (bitXor q) (ap₂ bitXor (ap n (omega arith)) (ap₂ bitXor (ap n (omega arith)) (ap n (omega arith))))
+  where
+    n : ℕ → ℕ
+    n k = q / 2 ^ k
 
 -- ---- the number that stands 16 s bits up is what is above; so it leaves what is below
 

@@ -2,7 +2,7 @@
 use mathlib.Core.Path.{_≡_, refl, sym, ap, ap₂, _∙_}
 use mathlib.Core.List.{List, [], _∷_}
 use Prim.Native.Nat.{ℕ, suc, _+_, _*_, _/_, _%_, _^_, _<_}
-use native.Mathlib.Nat.{zero-mul, mul-assoc, mul-comm, div-add-mod'}
+use native.Mathlib.Nat.{zero-mul, div-add-mod'}
 use native.Mathlib.Omega.{arith}
 use lib.Arith.{bin-ind}
 use lib.Bits.{bitXor, xor-shifted, xor-self, xor-lt, xor-zero-r}
@@ -13,7 +13,7 @@ use Rattle.crc.specs.Remainder.{Bytes, withBytes, times, Leaves, IsRemai
 use Rattle.crc.specs.Inner.{behind, numberOf, rest, restOf}
 use Rattle.crc.proofs.Xor.{Bit, off, on, bit, xor-assoc, xor-left, xor-swap, xor-shl}
 use Rattle.crc.proofs.Fold.{step-fits}
-use Rattle.crc.proofs.Rest.{rest-step, rest-xor, rest-small, at}
+use Rattle.crc.proofs.Rest.{rest-step, rest-xor, rest-small, at, up-double}
 use Rattle.crc.proofs.Turning.{turned-down, turning-1}
 use Rattle.crc.proofs.Numbers.{crc-number}
 
@@ -30,12 +30,9 @@ times-xor p q =
 
 times-up : (q : ℕ) → times (q * 2) ≡ times q * 2
 times-up q =
-    ap₂ bitXor (doubled 16) (ap₂ bitXor (doubled 12) (ap (λ (x : ℕ). bitXor x (q * 2)) (doubled 5)))
+    ap₂ bitXor (up-double q 16) (ap₂ bitXor (up-double q 12) (ap (λ (x : ℕ). bitXor x (q * 2)) (up-double q 5)))
     ∙ ap (bitXor (q * 2 ^ 16 * 2)) (ap (bitXor (q * 2 ^ 12 * 2)) (xor-shl (q * 2 ^ 5) q 1) ∙ xor-shl (q * 2 ^ 12) (bitXor (q * 2 ^ 5) q) 1)
     ∙ xor-shl (q * 2 ^ 16) (bitXor (q * 2 ^ 12) (bitXor (q * 2 ^ 5) q)) 1
-  where
-    doubled : (k : ℕ) → q * 2 * 2 ^ k ≡ q * 2 ^ k * 2
-    doubled k = mul-assoc q 2 (2 ^ k) ∙ ap (λ (x : ℕ). q * x) (mul-comm 2 (2 ^ k)) ∙ sym (mul-assoc q (2 ^ k) 2)
 
 -- the polynomial once, or not at all
 times-bit : {x : ℕ} → Bit x → times x ≡ bitXor (x * 65536) (x * 0x1021)
@@ -69,7 +66,8 @@ divides n half =
     sym (div-add-mod' n 2)
     ∙ sym (xor-shifted (n / 2) 1 (n % 2) (omega arith))
     ∙ ap (λ (x : ℕ). bitXor (x * 2) (n % 2)) (half .divided)
-    ∙ ap (λ (x : ℕ). bitXor x (n % 2)) (sym (xor-shl (times q) r 1) ∙ ap₂ bitXor (sym (times-up q)) (of-step r (half .fits)) ∙ sym (xor-assoc (times (q * 2)) (times top) (bitStep r)))
+    ∙ ap (λ (x : ℕ). bitXor x (n % 2))
+    (sym (xor-shl (times q) r 1) ∙ ap₂ bitXor (sym (times-up q)) (of-step r (half .fits)) ∙ sym (xor-assoc (times (q * 2)) (times top) (bitStep r)))
     ∙ xor-assoc (bitXor (times (q * 2)) (times top)) (bitStep r) (n % 2)
     ∙ ap₂ bitXor (sym (times-xor (q * 2) top)) (sym (rest-step n))
 

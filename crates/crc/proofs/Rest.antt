@@ -55,11 +55,14 @@ rest-double n =
     let even : n * 2 % 2 ≡ 0 = omega arith in
     rest-step (n * 2) ∙ ap₂ (λ (x y : ℕ). bitXor (bitStep (rest x)) y) back even ∙ xor-zero-r (bitStep (rest n))
 
+pub up-double : (n j : ℕ) → n * 2 * 2 ^ j ≡ n * 2 ^ j * 2
+up-double n j = mul-assoc n 2 (2 ^ j) ∙ ap (λ (x : ℕ). n * x) (mul-comm 2 (2 ^ j)) ∙ sym (mul-assoc n (2 ^ j) 2)
+
 pub rest-up : (j n : ℕ) → rest (n * 2 ^ j) ≡ bitSteps j (rest n)
 unfolding bitSteps
 rest-up zero n = ap rest (mul-one n)
 rest-up (suc j) n =
-    ap rest (ap (λ (x : ℕ). n * x) (pow-suc 2 j ∙ mul-comm (2 ^ j) 2) ∙ sym (mul-assoc n 2 (2 ^ j)))
+    ap rest (ap (λ (x : ℕ). n * x) (pow-suc 2 j) ∙ sym (mul-assoc n (2 ^ j) 2) ∙ sym (up-double n j))
     ∙ rest-up j (n * 2)
     ∙ ap (bitSteps j) (rest-double n)
 
