@@ -5,16 +5,12 @@ use native.Mathlib.Nat.{add-comm}
 use native.Mathlib.Omega.{arith}
 use lib.Bits.{bitXor, xor-comm, xor-shr}
 use lib.Pow.{shr-shr, shl-shr}
-use Rattle.crc.specs.Inner.{rest}
+use Rattle.crc.specs.Inner.{rest, above}
 use Rattle.crc.proofs.Xor.{xor-assoc, xor-left, xor-back}
 use Rattle.crc.proofs.Rest.{rest-xor, at, at-xor, rest-cut}
 use Rattle.crc.proofs.Turning.{Turning, turned-down}
 
--- what of q times the polynomial at s stands above bit 16 s
-unfoldable pub above : ℕ → ℕ → ℕ
-above s q = bitXor q (bitXor (q / 2 ^ (4 * s)) (bitXor (q / 2 ^ (11 * s)) (q / 2 ^ (16 * s))))
-
--- and below it, with what is above once more
+-- what q times the polynomial at s adds to q 16 s bits up
 unfoldable pub added : ℕ → ℕ → ℕ
 added s q = bitXor (q * 2 ^ (12 * s)) (bitXor (q * 2 ^ (5 * s)) q)
 

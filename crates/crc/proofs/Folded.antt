@@ -5,11 +5,11 @@ use native.Mathlib.Nat.{div-eq-of-lt, mod-eq-of-lt, mod-lt, zero-lt-suc, lt-of-l
 use lib.Bits.{bitXor, xor-comm, xor-lt, xor-mod, xor-zero-r}
 use lib.Dec.{lit≤}
 use lib.Pow.{pow-mono, mod-mod-pow, shr-le}
-use Rattle.crc.specs.Inner.{rest, then}
+use Rattle.crc.specs.Inner.{rest, then, above}
 use Rattle.crc.proofs.Xor.{xor-assoc, xor-left}
 use Rattle.crc.proofs.Rest.{rest-xor, rest-small, at, at-xor, at-up, at-cut, at-same}
 use Rattle.crc.proofs.Turning.{turned-down, turning-1, turning-4, turning-16}
-use Rattle.crc.proofs.Brought.{above, added, above-twice, brought, part-up}
+use Rattle.crc.proofs.Brought.{added, above-twice, brought, part-up}
 
 -- ---- a word behind a number
 
@@ -69,7 +69,9 @@ above-16 r h =
 
 above-8 : (r : ℕ) → r < 2 ^ 64 → bitXor r (r / 2 ^ 32) ≡ above 8 r
 unfolding above
-above-8 r h = sym (ap (λ (x : ℕ). bitXor r x) (ap (bitXor (r / 2 ^ 32)) (ap₂ bitXor (none-left r 88 h (lit≤ tt)) (none-left r 128 h (lit≤ tt))) ∙ xor-zero-r (r / 2 ^ 32)))
+above-8 r h =
+    let none : bitXor (r / 2 ^ 88) (r / 2 ^ 128) ≡ 0 = ap₂ bitXor (none-left r 88 h (lit≤ tt)) (none-left r 128 h (lit≤ tt)) in
+    sym (ap (λ (x : ℕ). bitXor r x) (ap (bitXor (r / 2 ^ 32)) none ∙ xor-zero-r (r / 2 ^ 32)))
 
 above-4 : (t : ℕ) → t < 2 ^ 64 → bitXor (bitXor t (t / 2 ^ 16)) (t / 2 ^ 44) ≡ above 4 t
 unfolding above
@@ -85,65 +87,44 @@ above-all s u =
 down-fits : (r k : ℕ) → r < 2 ^ 64 → r / 2 ^ k < 2 ^ 64
 down-fits r k h = lt-of-le-of-lt (shr-le r k) h
 
-half-fits : (r : ℕ) → r < 2 ^ 64 → bitXor r (r / 2 ^ 32) < 2 ^ 64
-half-fits r h = xor-lt 64 r (r / 2 ^ 32) h (down-fits r 32 h)
-
 -- the lowest bits of what is added, term by term
 low : (a b q k : ℕ) → bitXor a (bitXor b q) % 2 ^ k ≡ bitXor (bitXor (a % 2 ^ k) (b % 2 ^ k)) (q % 2 ^ k)
 low a b q k = xor-mod a (bitXor b q) k ∙ ap (bitXor (a % 2 ^ k)) (xor-mod b q k) ∙ sym (xor-assoc (a % 2 ^ k) (b % 2 ^ k) (q % 2 ^ k))
 
--- what moved_up and register divide by: the quotient at s = 4
-module _ (r : ℕ) (h : r < 2 ^ 64) where
-  abbrev t : ℕ
-  t = bitXor r (r / 2 ^ 32)
+-- ---- the quotient at s = 4
 
-  abbrev pub quotient : ℕ
-  quotient = bitXor (bitXor t (t / 2 ^ 16)) (t / 2 ^ 44)
+pub divided-is : (r : ℕ) → r < 2 ^ 64 → let t = bitXor r (r / 2 ^ 32) in
+    (above 4 (bitXor (bitXor t (t / 2 ^ 16)) (t / 2 ^ 44)) ≡ r) × (bitXor (bitXor t (t / 2 ^ 16)) (t / 2 ^ 44) < 2 ^ 64)
+divided-is r h =
+    let t = bitXor r (r / 2 ^ 32) in
+    let fits : t < 2 ^ 64 = xor-lt 64 r (r / 2 ^ 32) h (down-fits r 32 h) in (
+      ap (above 4) (above-4 t fits ∙ ap (above 4) (above-8 r h)) ∙ above-twice 4 (above 8 r) ∙ above-twice 8 r ∙ above-16 r h,
+      xor-lt 64 (bitXor t (t / 2 ^ 16)) (t / 2 ^ 44) (xor-lt 64 t (t / 2 ^ 16) fits (down-fits t 16 fits)) (down-fits t 44 fits),
+    )
 
-  quotient-is : quotient ≡ above 4 (above 8 r)
-  quotient-is = above-4 t (half-fits r h) ∙ ap (above 4) (above-8 r h)
+-- a word moved up by its own width
+pub moved-is : (r q : ℕ) → above 4 q ≡ r → q < 2 ^ 64 → rest (bitXor (bitXor (q * 2 ^ 48 % 2 ^ 64) (q * 2 ^ 20 % 2 ^ 64)) q) ≡ rest (r * 2 ^ 64)
+unfolding added
+moved-is r q e h =
+    ap rest (sym (low (q * 2 ^ 48) (q * 2 ^ 20) q 64 ∙ ap (bitXor (bitXor (q * 2 ^ 48 % 2 ^ 64) (q * 2 ^ 20 % 2 ^ 64))) (mod-eq-of-lt h)))
+    ∙ sym (brought 4 turning-4 q)
+    ∙ ap (λ (x : ℕ). at x 64) e
 
-  divided-4 : above 4 quotient ≡ r
-  divided-4 =
-      ap (above 4) quotient-is
-      ∙ above-twice 4 (above 8 r)
-      ∙ above-twice 8 r
-      ∙ above-16 r h
+-- ---- the register: from the quotient at s = 4 to that at s = 1
 
-  -- the quotient at s = 1, from that at s = 4
+module _ (r u : ℕ) (e : above 4 u ≡ r) where
   abbrev v : ℕ
-  v = bitXor (bitXor (bitXor quotient (quotient / 2 ^ 8)) (quotient / 2 ^ 22)) (quotient / 2 ^ 32)
+  v = bitXor (bitXor (bitXor u (u / 2 ^ 8)) (u / 2 ^ 22)) (u / 2 ^ 32)
 
-  abbrev pub last-quotient : ℕ
-  last-quotient = bitXor (bitXor (bitXor v (v / 2 ^ 4)) (v / 2 ^ 11)) (v / 2 ^ 16)
+  abbrev q : ℕ
+  q = bitXor (bitXor (bitXor v (v / 2 ^ 4)) (v / 2 ^ 11)) (v / 2 ^ 16)
 
-  divided-1 : above 1 last-quotient ≡ r
-  divided-1 =
-      ap (above 1) (above-all 1 v ∙ ap (above 1) (above-all 2 quotient))
-      ∙ above-twice 1 (above 2 quotient)
-      ∙ above-twice 2 quotient
-      ∙ divided-4
+  divided-1 : above 1 q ≡ r
+  divided-1 = ap (above 1) (above-all 1 v ∙ ap (above 1) (above-all 2 u)) ∙ above-twice 1 (above 2 u) ∙ above-twice 2 u ∙ e
 
-  -- ---- moved up by its own width
-
-  pub moved-is : rest (bitXor (bitXor (quotient * 2 ^ 48 % 2 ^ 64) (quotient * 2 ^ 20 % 2 ^ 64)) quotient) ≡ rest (r * 2 ^ 64)
-  unfolding added
-  moved-is =
-      let q = quotient in
-      let whole : q % 2 ^ 64 ≡ q = mod-eq-of-lt (xor-lt 64 (bitXor t (t / 2 ^ 16)) (t / 2 ^ 44) (xor-lt 64 t (t / 2 ^ 16) fits (down-fits t 16 fits)) (down-fits t 44 fits)) in
-      ap rest (sym (low (q * 2 ^ 48) (q * 2 ^ 20) q 64 ∙ ap (bitXor (bitXor (q * 2 ^ 48 % 2 ^ 64) (q * 2 ^ 20 % 2 ^ 64))) whole))
-      ∙ sym (brought 4 turning-4 q)
-      ∙ ap (λ (x : ℕ). at x 64) divided-4
-    where
-      fits : t < 2 ^ 64
-      fits = half-fits r h
-
-  -- ---- the register
-
-  pub register-is : bitXor (bitXor (last-quotient * 2 ^ 12 % 2 ^ 64) (last-quotient * 2 ^ 5 % 2 ^ 64)) last-quotient % 65536 ≡ rest (r * 65536)
+  pub register-is : bitXor (bitXor (q * 2 ^ 12 % 2 ^ 64) (q * 2 ^ 5 % 2 ^ 64)) q % 65536 ≡ rest (r * 65536)
   unfolding added
   register-is =
-      let q = last-quotient in
       let a = q * 2 ^ 12 in
       let b = q * 2 ^ 5 in
       xor-mod (bitXor (a % 2 ^ 64) (b % 2 ^ 64)) q 16

@@ -29,3 +29,7 @@ then n w = bitXor (n * 2 ^ 64) w
 
 abbrev pub joined : Words → ℕ
 joined x = then (then (then (x .a) (x .b)) (x .c)) (x .d)
+
+-- what of q times the polynomial at s stands above bit 16 s
+unfoldable pub above : ℕ → ℕ → ℕ
+above s q = bitXor q (bitXor (q / 2 ^ (4 * s)) (bitXor (q / 2 ^ (11 * s)) (q / 2 ^ (16 * s))))

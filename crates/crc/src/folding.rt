@@ -2,9 +2,9 @@
 // squared, T^(16 s) = T^(12 s) + T^(5 s) + 1 for each power of two s (proofs/Turning.antt): what stands 16 s bits up may be added 12 s bits up,
 // 5 s bits up and where the number ends instead.
 ghost use mathlib.Core.Path.{_≡_};
-ghost use Prim.Native.Nat.{_-_, _*_, _%_, _^_, _≤_};
+ghost use Prim.Native.Nat.{_-_, _*_, _%_, _^_, _≤_, _<_};
 ghost use lib.ListN.{length, drop};
-ghost use Rattle.crc.specs.Inner.{behind, rest, then, joined};
+ghost use Rattle.crc.specs.Inner.{behind, rest, then, joined, above};
 use crate::bytes::word;
 
 // The last words of a number, the highest first.
@@ -42,12 +42,19 @@ pub(crate) fn turned_all(x: Words, s: &[u8], from: usize) -> Words
     four
 }
 
-// A number 64 bits up as one word, at s = 4: q is what has to be added, over and over, until nothing falls out.
+// A word divided by the polynomial at s = 4: times that, the quotient has the word above bit 64.
+fn divided(r: u64) -> u64
+    ensures { λ q. ⌜ (above 4 q ≡ r) × (q < 2 ^ 64) ⌝ }
+{
+    let t = r ^ (r >> 32);
+    t ^ (t >> 16) ^ (t >> 44)
+}
+
+// A number 64 bits up as one word: what the same has below bit 64.
 fn moved_up(r: u64) -> u64
     ensures { λ x. ⌜ rest x ≡ rest (r * 2 ^ 64) ⌝ }
 {
-    let t = r ^ (r >> 32);
-    let q = t ^ (t >> 16) ^ (t >> 44);
+    let q = divided(r);
     (q << 48) ^ (q << 20) ^ q
 }
 
@@ -78,12 +85,11 @@ pub(crate) fn one_of(x: Words) -> u64
     climbed(climbed(climbed(x.a, x.b), x.c), x.d)
 }
 
-// What a word leaves in the register, which stands 16 bits up: at s = 1.
+// What a word leaves in the register, which stands 16 bits up: the same at s = 1.
 pub(crate) fn register(r: u64) -> u16
     ensures { λ x. ⌜ x ≡ rest (r * 65536) ⌝ }
 {
-    let t = r ^ (r >> 32);
-    let u = t ^ (t >> 16) ^ (t >> 44);
+    let u = divided(r);
     let v = u ^ (u >> 8) ^ (u >> 22) ^ (u >> 32);
     let q = v ^ (v >> 4) ^ (v >> 11) ^ (v >> 16);
     (((q << 12) ^ (q << 5) ^ q) % 65536) as u16
