@@ -16,7 +16,7 @@ use Rattle.refusals.specs.Refusals.{reply}
 use Rattle.crc.specs.Crc.{crcFrom}
 use Rattle.frames.specs.Step.{stepAt}
 use Rattle.frames.specs.Reading.{closedSteps, countsOf}
-use Rattle.frames.specs.Cursors.{nextOf}
+use Rattle.frames.specs.Cursors.{nextOf, reachedIn}
 use Rattle.flags.specs.Flags.{chosen}
 use Rattle.flags.specs.declared.flags.Fix.the-variants.{SinglePoint, Float, Fixed, Reserved}
 use Rattle.phases.specs.Phase.{phaseOf, readingPhase}
@@ -57,6 +57,7 @@ module _ {M : Type 1} (𝓤 : URA M) (H : Heap 𝓤) (A : Atoms 𝓤) (mem : Mem
     pub opened : Gives 𝓤 frames.cursor.Cursor.opened.ended (frames.cursor.Cursor.opened.clauses 𝓤 H A mem run)
         (λ κs. (record { at = 0; opened = true; framed = 0; junk = 0; bad = 0; short = 0 }, tt))
     pub next : Gives 𝓤 frames.cursor.Cursor.next.ended (frames.cursor.Cursor.next.clauses 𝓤 H A mem run) (λ κs c s. (nextOf (now s) c, tt))
+    pub reach : Gives 𝓤 frames.cursor.Cursor.reach.ended (frames.cursor.Cursor.reach.clauses 𝓤 H A mem run) (λ κs c s. (reachedIn (nextOf (now s) c), tt))
     pub counts : Gives 𝓤 frames.cursor.Cursor.counts.ended (frames.cursor.Cursor.counts.clauses 𝓤 H A mem run)
         (λ κs c. (record { framed = c .framed; junk = c .junk; bad = c .bad; short = c .short }, tt))
     pub totals : Gives 𝓤 frames.totals.ended (frames.totals.clauses 𝓤 H A mem run) (λ κs s. (countsOf (closedSteps (now s)), tt))

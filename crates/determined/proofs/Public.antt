@@ -101,6 +101,7 @@ module _ {M : Type 1} (𝓤 : URA M) (H : Heap 𝓤) (A : Atoms 𝓤) (mem : Mem
     pub closed : Determined 𝓤 frames.cursor.Cursor.closed.ended (frames.cursor.Cursor.closed.clauses 𝓤 H A mem run)
     pub opened : Determined 𝓤 frames.cursor.Cursor.opened.ended (frames.cursor.Cursor.opened.clauses 𝓤 H A mem run)
     pub next : Determined 𝓤 frames.cursor.Cursor.next.ended (frames.cursor.Cursor.next.clauses 𝓤 H A mem run)
+    pub reach : Determined 𝓤 frames.cursor.Cursor.reach.ended (frames.cursor.Cursor.reach.clauses 𝓤 H A mem run)
     pub counts : Determined 𝓤 frames.cursor.Cursor.counts.ended (frames.cursor.Cursor.counts.clauses 𝓤 H A mem run)
     pub totals : Determined 𝓤 frames.totals.ended (frames.totals.clauses 𝓤 H A mem run)
     pub frame-crc : Determined 𝓤 frames.frame_crc.ended (frames.frame_crc.clauses 𝓤 H A mem run)

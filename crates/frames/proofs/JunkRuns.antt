@@ -2,21 +2,21 @@
 use mathlib.Core.Path.{_≡_, refl, sym, ap, _∙_, subst, subst⁻¹}
 use mathlib.Core.Bool.{Bool, true, false, not, cond}
 use mathlib.Core.List.{List, [], _∷_}
-use Prim.Native.Nat.{ℕ, zero, suc, _+_, _-_, _%_, _^_, _≤_, _<_}
+use Prim.Native.Nat.{ℕ, zero, suc, _+_, _%_, _^_, _≤_, _<_}
 use native.Mathlib.Nat.{add-zero, add-assoc, mod-add-mod, mod-eq-of-lt}
 use native.Mathlib.Omega.{arith}
 use lib.Dec.{eqb, leb}
 use lib.ListN.{length, getD, drop, length-drop}
 use lib.Seq.{drop-drop, drop-cons, getD-drop}
-use borrow.Author.Tests.{ne-eqb, eqb-true, eqb-false, le-leb, lt-leb, leb-true, leb-false}
+use borrow.Author.Tests.{eqb-true, eqb-false, le-leb, lt-leb, leb-true, leb-false}
 use Rattle.frames.specs.Reading.{stops}
 use Rattle.frames.specs.Cursors.{plus, over, passes, nextOf, Honest}
-use Rattle.frames.specs.Inner.{junkRun, overJunk, pastJunk}
+use Rattle.frames.specs.Inner.{junkRun, overJunk}
 use Rattle.frames.specs.declared.step.Step.{Step}
 use Rattle.frames.specs.declared.step.Step.the-variants.{Junk}
 use Rattle.frames.specs.declared.cursor.Cursor.{Cursor}
-use Rattle.frames.specs.Decides.{junk}
-use Rattle.frames.proofs.Steps.{only}
+use Rattle.frames.specs.Decides.{Decides, junk}
+use Rattle.frames.proofs.Steps.{only, decided}
 use Rattle.frames.proofs.GoingOn.{here, next-over, honest-over}
 
 -- ---- how long a run is
@@ -38,7 +38,7 @@ run-none : junkRun [] ≡ 0
 unfolding junkRun
 run-none = refl
 
-run-length : (t : List ℕ) → junkRun t ≤ length t
+pub run-length : (t : List ℕ) → junkRun t ≤ length t
 run-length [] = omega (arith, run-none)
 run-length (b ∷ t) = by (front b t) (run-length t)
   where
@@ -57,7 +57,7 @@ run-split (suc k) (b ∷ t) h = by (front b t) (run-split k t)
     by (pass n r) rest = omega (arith, r, rest (omega (arith, r)))
 
 -- after k bytes of it: it goes on over a byte that is not 0x55
-run-more : (k : ℕ) (t : List ℕ) → k ≤ junkRun t → k < length t → (getD t k 0 ≡ 0x55 → ⊥) → suc k ≤ junkRun t
+pub run-more : (k : ℕ) (t : List ℕ) → k ≤ junkRun t → k < length t → (getD t k 0 ≡ 0x55 → ⊥) → suc k ≤ junkRun t
 run-more k t h l n = by (front (getD t k 0) (drop (suc k) t))
   where
     by : Front (getD t k 0) (drop (suc k) t) → suc k ≤ junkRun t
@@ -65,12 +65,20 @@ run-more k t h l n = by (front (getD t k 0) (drop (suc k) t))
     by (pass _ r) = omega (arith, run-split k t h, ap junkRun (drop-cons t k 0 l), r)
 
 -- and ends at one that is
-run-stop : (k : ℕ) (t : List ℕ) → k ≤ junkRun t → k < length t → getD t k 0 ≡ 0x55 → junkRun t ≡ k
+pub run-stop : (k : ℕ) (t : List ℕ) → k ≤ junkRun t → k < length t → getD t k 0 ≡ 0x55 → junkRun t ≡ k
 run-stop k t h l e = by (front (getD t k 0) (drop (suc k) t))
   where
     by : Front (getD t k 0) (drop (suc k) t) → junkRun t ≡ k
     by (mark _ r) = omega (arith, run-split k t h, ap junkRun (drop-cons t k 0 l), r)
     by (pass n r) = absurd (n e)
+
+-- or at the end
+pub run-end : (k : ℕ) (t : List ℕ) → k ≤ junkRun t → length t ≤ k → junkRun t ≡ k
+run-end k t h l = omega (arith, h, l, run-length t)
+
+-- n bytes further, where the run from there on has as many
+pub run-on : (k n : ℕ) (t : List ℕ) → k ≤ junkRun t → n ≤ junkRun (drop k t) → k + n ≤ junkRun t
+run-on k n t h g = omega (arith, g, run-split k t h)
 
 -- a run that is not empty begins with junk
 run-begins : (t : List ℕ) → 1 ≤ junkRun t → (0 < length t) × (getD t 0 0 ≡ 0x55 → ⊥)
@@ -92,43 +100,10 @@ hit-more t i l = by (eqb (getD t i 0) 0x55) refl (leb i (junkRun t)) refl
     by false e true g = rw (e, g, le-leb (i + 1) (junkRun t) (omega (arith, run-more i t (leb-true i (junkRun t) g) l (eqb-false (getD t i 0) 0x55 e))))
     by false e false g = rw (e, g, lt-leb (i + 1) (junkRun t) (omega (arith, leb-false i (junkRun t) g)))
 
--- ---- the same in a capture, from a position on
-
--- the run from at on reaches to at least
-abbrev pub Reaches : List ℕ → ℕ → ℕ → Type 0
-Reaches s at to = (at ≤ to) × (to ≤ length s) × (to - at ≤ junkRun (drop at s))
-
-module _ (s : List ℕ) (at to : ℕ) (h : Reaches s at to) where
-  onward : drop (to - at) (drop at s) ≡ drop to s
-  onward = let there : at + (to - at) ≡ to = omega (arith, h .0) in drop-drop (to - at) at s ∙ ap (λ (k : ℕ). drop k s) there
-
-  byte : getD (drop at s) (to - at) 0 ≡ getD s to 0
-  byte = let there : at + (to - at) ≡ to = omega (arith, h .0) in getD-drop at s (to - at) 0 ∙ ap (λ (k : ℕ). getD s k 0) there
-
-  -- n bytes further, where the run from there on has as many
-  pub reaches-on : (n : ℕ) → n ≤ junkRun (drop to s) → Reaches s at (to + n)
-  reaches-on n g =
-      let split = run-split (to - at) (drop at s) (h .2) in
-      let rest = ap junkRun onward in
-      let most = run-length (drop to s) in
-      let size = length-drop to s in
-      (omega (arith, h .0), omega (arith, h .1, g, most, size), omega (arith, h .0, g, split, rest))
-
-  pub reaches-more : to < length s → (getD s to 0 ≡ 0x55 → ⊥) → Reaches s at (to + 1)
-  reaches-more l n =
-      let size = length-drop at s in
-      let more = run-more (to - at) (drop at s) (h .2) (omega (arith, h .0, l, size)) (λ e. n (sym byte ∙ e)) in
-      (omega (arith, h .0), omega (arith, l), omega (arith, h .0, more))
-
-  pub reaches-mark : to < length s → getD s to 0 ≡ 0x55 → to - at ≡ junkRun (drop at s)
-  reaches-mark l e =
-      let size = length-drop at s in
-      sym (run-stop (to - at) (drop at s) (h .2) (omega (arith, h .0, l, size)) (byte ∙ e))
-
-  pub reaches-end : length s ≤ to → to - at ≡ junkRun (drop at s)
-  reaches-end l = omega (arith, h .1, h .2, l, run-length (drop at s), length-drop at s)
-
 -- ---- what a cursor keeps
+
+front-byte : (s : List ℕ) (p : ℕ) → getD (drop p s) 0 0 ≡ getD s p 0
+front-byte s p = getD-drop p s 0 0 ∙ ap (λ (k : ℕ). getD s k 0) (add-zero p)
 
 -- one sum after the other is their sum
 plus-plus : (a m n k : ℕ) → m + n ≡ k → plus (plus a m) n ≡ plus a k
@@ -157,9 +132,7 @@ module _ (s : List ℕ) (small : length s < 2 ^ 64) where
     inside = omega (arith, first .0, length-drop (c .at) s)
 
     is-junk : here s c ≡ Junk
-    is-junk =
-        let there = getD-drop (c .at) s 0 0 ∙ ap (λ (k : ℕ). getD s k 0) (add-zero (c .at)) in
-        sym (only s (c .at) (junk inside (λ e. first .1 (there ∙ e))))
+    is-junk = sym (only s (c .at) (junk inside (λ e. first .1 (front-byte s (c .at) ∙ e))))
 
     one-further : over c Junk .at ≡ c .at + 1
     one-further = mod-eq-of-lt (omega (arith, inside, small))
@@ -169,60 +142,47 @@ module _ (s : List ℕ) (small : length s < 2 ^ 64) where
         run-split 1 (drop (c .at) s) h
         ∙ ap (λ (t : List ℕ). 1 + junkRun t) (drop-drop 1 (c .at) s ∙ ap (λ (k : ℕ). drop k s) (sym one-further))
 
-  module _ (P : Cursor → Type 0) (keeps : (c : Cursor) → here s c ≡ Junk → over c Junk .at ≡ c .at + 1 → P c → P (over c Junk)) where
-    on : (c : Cursor) → 1 ≤ junkRun (drop (c .at) s) → P c → P (over c Junk)
-    on c h p = keeps c (is-junk c h) (one-further c h) p
-
+  module _ (P : Cursor → Type 0) (keeps : (c : Cursor) → here s c ≡ Junk → P c → P (over c Junk)) where
     many : (n : ℕ) (c : Cursor) → suc n ≤ junkRun (drop (c .at) s) → P c → P (overJunk c (suc n))
-    many zero c h p = on c h p
+    many zero c h p = keeps c (is-junk c h) p
     many (suc n) c h p =
         let some : 1 ≤ junkRun (drop (c .at) s) = omega (arith, h) in
-        subst P (fused c (suc n)) (many n (over c Junk) (omega (arith, h, rest c some)) (on c some p))
+        subst P (fused c (suc n)) (many n (over c Junk) (omega (arith, h, rest c some)) (keeps c (is-junk c some) p))
 
-    -- what holds at a cursor and goes on over a byte of junk holds past all of them
-    pub past-junk-keeps : (c : Cursor) → P c → P (pastJunk s c)
-    unfolding pastJunk
-    past-junk-keeps c p = by (junkRun (drop (c .at) s)) refl
+  -- at a byte of junk
+  module _ (c : Cursor) (j : Junk ≡ here s c) where
+    begins : (c .at < length s) × (1 ≤ junkRun (drop (c .at) s))
+    begins = by (subst⁻¹ (Decides s (c .at)) j (decided s (c .at)))
       where
-        by : (n : ℕ) → junkRun (drop (c .at) s) ≡ n → P (cond (eqb n 0) c (overJunk c n))
-        by zero e = p
-        by (suc n) e = subst⁻¹ (λ (x : Bool). P (cond x c (overJunk c (suc n)))) (ne-eqb (suc n) 0 (λ z. absurd (omega (arith, z)))) (many n c (omega (arith, e)) p)
+        by : Decides s (c .at) Junk → (c .at < length s) × (1 ≤ junkRun (drop (c .at) s))
+        by (junk h b) =
+            (h, run-more 0 (drop (c .at) s) (omega arith) (omega (arith, h, length-drop (c .at) s)) (λ e. b (sym (front-byte s (c .at)) ∙ e)))
 
-  -- the answer, the counts and the way made
-  module _ (c : Cursor) {d : Cursor} (past : d ≡ pastJunk s c) where
-    pub past-junk-next : nextOf s d ≡ nextOf s c
-    past-junk-next =
-        ap (nextOf s) past
-        ∙ past-junk-keeps (λ (k : Cursor). nextOf s k ≡ nextOf s c)
-        (λ k j far e. ap (λ (x : Step). nextOf s (over k x)) (sym j) ∙ sym (next-over s small k (ap (passes (k .opened)) j)) ∙ e) c refl
+    pub junk-inside : c .at < length s
+    junk-inside = begins .0
 
-    pub past-junk-honest : (opened : Bool) → Honest opened s c → Honest opened s d
-    past-junk-honest opened h =
-        subst⁻¹ (Honest opened s) past
-        (past-junk-keeps (Honest opened s)
-        (λ k j far h. subst (λ (x : Step). Honest opened s (over k x)) j (honest-over s small opened k h (ap (stops opened) j))) c h)
+    -- of which there are n
+    module _ {n : ℕ} (run : n ≡ junkRun (drop (c .at) s)) {d : Cursor} (past : d ≡ overJunk c n) where
+      -- what holds at a cursor and goes on over a byte of junk holds past all of them
+      pub past-junk-keeps : (P : Cursor → Type 0) → ((k : Cursor) → here s k ≡ Junk → P k → P (over k Junk)) → P c → P d
+      past-junk-keeps P keeps p = subst⁻¹ P past (by n run)
+        where
+          by : (m : ℕ) → m ≡ junkRun (drop (c .at) s) → P (overJunk c m)
+          by zero e = absurd (omega (arith, e, begins .1))
+          by (suc m) e = many P keeps m c (omega (arith, e)) p
 
-    pub past-junk-further : c .at ≤ d .at
-    past-junk-further =
-        subst⁻¹ (λ (k : Cursor). c .at ≤ k .at) past (past-junk-keeps (λ (k : Cursor). c .at ≤ k .at) (λ k j far h. omega (arith, h, far)) c (omega arith))
+      -- the answer, the counts and the way made
+      pub past-junk-next : nextOf s d ≡ nextOf s c
+      past-junk-next =
+          past-junk-keeps (λ (k : Cursor). nextOf s k ≡ nextOf s c)
+          (λ k j e. ap (λ (x : Step). nextOf s (over k x)) (sym j) ∙ sym (next-over s small k (ap (passes (k .opened)) j)) ∙ e) refl
 
--- ---- the three ways through `past_junk`
+      pub past-junk-honest : (opened : Bool) → Honest opened s c → Honest opened s d
+      past-junk-honest opened h =
+          past-junk-keeps (Honest opened s) (λ k j h. subst (λ (x : Step). Honest opened s (over k x)) j (honest-over s small opened k h (ap (stops opened) j))) h
 
-module _ (s : List ℕ) (c : Cursor) where
-  none : 0 ≡ junkRun (drop (c .at) s) → c ≡ pastJunk s c
-  unfolding pastJunk
-  none e = rw (sym e)
-
-  pub past-junk-end : length s ≤ c .at → c ≡ pastJunk s c
-  past-junk-end h = none (omega (arith, h, run-length (drop (c .at) s), length-drop (c .at) s))
-
-  pub past-junk-mark : c .at < length s → getD s (c .at) 0 ≡ 0x55 → c ≡ pastJunk s c
-  past-junk-mark h e =
-      let same = reaches-mark s (c .at) (c .at) (omega arith, omega (arith, h), omega arith) h e in
-      none (omega (arith, same))
-
-  pub past-junk-run : {n : ℕ} → c .at < length s → (getD s (c .at) 0 ≡ 0x55 → ⊥) → n ≡ junkRun (drop (c .at) s) → overJunk c n ≡ pastJunk s c
-  unfolding pastJunk
-  past-junk-run h b e =
-      let some = reaches-more s (c .at) (c .at) (omega arith, omega (arith, h), omega arith) h b .2 in
-      ap (overJunk c) e ∙ sym (rw (ne-eqb (junkRun (drop (c .at) s)) 0 (λ z. absurd (omega (arith, some, z)))))
+      pub past-junk-further : c .at < d .at
+      past-junk-further =
+          let fits : c .at + n < 2 ^ 64 = omega (arith, run, begins .0, run-length (drop (c .at) s), length-drop (c .at) s, small) in
+          let there : d .at ≡ c .at + n = ap (λ (k : Cursor). k .at) past ∙ mod-eq-of-lt fits in
+          omega (arith, there, run, begins .1)

@@ -6,4 +6,5 @@ pub mod Tiling
 pub mod GoingOn
 pub mod JunkRuns
 pub mod NextAnswers
+pub mod InNumbers
 pub mod CursorLoops

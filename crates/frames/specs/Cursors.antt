@@ -12,6 +12,7 @@ use Rattle.frames.specs.declared.step.Step.the-variants.{Finished, Junk,
 use Rattle.frames.specs.declared.cursor.Counts.{Counts}
 use Rattle.frames.specs.declared.cursor.Cursor.{Cursor}
 use Rattle.frames.specs.declared.cursor.Next as Next
+use Rattle.frames.specs.declared.cursor.Reached.{Reached}
 
 abbrev pub begun : Bool → Cursor
 begun opened = record { at = 0; opened = opened; framed = 0; junk = 0; bad = 0; short = 0 }
@@ -56,6 +57,15 @@ answer s c (x ∷ xs) = cond (passes (c .opened) (x .step)) (answer s (over c (x
 unfoldable pub nextOf : List ℕ → Cursor → Next.Next
 unfolding readFrom answer
 nextOf s c = answer s c (steps (c .opened) s (c .at))
+
+-- an answer in numbers: 0 a frame, 1 the end, 2 more bytes are needed; where there is no frame its numbers are 0
+abbrev pub noFrame : Frame
+noFrame = record { at = 0; kind = 0; sender = 0; length = 0 }
+
+abbrev pub reachedIn : Next.Next → Reached
+reachedIn (Next.the-variants.Frame f c) = record { number = 0; needed = 0; frame = f; cursor = c }
+reachedIn (Next.the-variants.End c) = record { number = 1; needed = 0; frame = noFrame; cursor = c }
+reachedIn (Next.the-variants.Needs n c) = record { number = 2; needed = n; frame = noFrame; cursor = c }
 
 -- the cursor that an answer hands back
 abbrev pub after : Next.Next → Cursor

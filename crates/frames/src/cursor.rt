@@ -1,14 +1,17 @@
 // A cursor that goes from frame to frame through a lent capture, and the totals of a whole closed reading.
 ghost use mathlib.Core.Path.{_≡_};
 ghost use mathlib.Core.Bool.{true, false};
-ghost use Rattle.frames.specs.Step.{passed};
-ghost use Rattle.frames.specs.Reading.{stops, counted, countsOf, closedSteps};
-ghost use Rattle.frames.specs.Inner.{pastJunk};
-ghost use Rattle.frames.specs.Cursors.{passes, past, over, ended, begun, countsIn, nextOf};
+ghost use Rattle.frames.specs.Reading.{countsOf, closedSteps};
+ghost use Rattle.frames.specs.Inner.{stepIn, overJunk};
+ghost use Rattle.frames.specs.Cursors.{passes, past, over, ended, begun, countsIn, nextOf, noFrame, reachedIn};
 use crate::junk::junk_run;
+use crate::step::BAD;
+use crate::step::FINISHED;
 use crate::step::Frame;
-use crate::step::Step;
-use crate::step::step_at;
+use crate::step::JUNK;
+use crate::step::SHORT;
+use crate::step::Seen;
+use crate::step::seen_at;
 
 // The bytes in frames, and those passed over as junk, bad or short.
 pub struct Counts {
@@ -35,17 +38,12 @@ pub enum Next {
     Needs(usize, Cursor),
 }
 
-// How many bytes a step goes on by.
-fn passed(step: Step) -> usize
-    ensures { λ r. ⌜ r ≡ passed step ⌝ }
-{
-    match step {
-        Step::Finished => 0,
-        Step::Junk => 1,
-        Step::Short(_) => 1,
-        Step::Bad => 1,
-        Step::Found(f) => (f.length as usize) + 8,
-    }
+// The same in numbers: 0 a frame, 1 the end, 2 more bytes are needed. Where there is no frame its numbers are 0.
+pub struct Reached {
+    pub number: u8,
+    pub needed: usize,
+    pub frame: Frame,
+    pub cursor: Cursor,
 }
 
 // Frame bytes, junk, bad and short.
@@ -60,29 +58,17 @@ fn tally(framed: usize, junk: usize, bad: usize, short: usize) -> Counts
     }
 }
 
-// What a step counts: the bytes that it passes, under its kind.
-fn counted(step: Step) -> Counts
-    ensures { λ r. ⌜ r ≡ counted step ⌝ }
+// Whether a reading passes over what is seen, on the way to the next frame.
+fn passes(opened: bool, seen: Seen) -> bool
+    ensures { λ r. ⌜ r ≡ passes opened (stepIn seen) ⌝ }
 {
-    match step {
-        Step::Finished => tally(0, 0, 0, 0),
-        Step::Junk => tally(0, 1, 0, 0),
-        Step::Short(_) => tally(0, 0, 0, 1),
-        Step::Bad => tally(0, 0, 1, 0),
-        Step::Found(f) => tally((f.length as usize) + 8, 0, 0, 0),
-    }
-}
-
-// Whether a reading passes over a step on the way to the next frame.
-fn passes(opened: bool, step: Step) -> bool
-    ensures { λ r. ⌜ r ≡ passes opened step ⌝ }
-{
-    match step {
-        Step::Finished => false,
-        Step::Junk => true,
-        Step::Short(_) => !opened,
-        Step::Bad => true,
-        Step::Found(_) => false,
+    let what = seen.what;
+    match what {
+        FINISHED => false,
+        JUNK => true,
+        SHORT => !opened,
+        BAD => true,
+        _ => false,
     }
 }
 
@@ -128,53 +114,108 @@ impl Cursor {
         }
     }
 
-    fn over(self, step: Step) -> Self
-        ensures { λ r. ⌜ r ≡ over self step ⌝ }
+    // Past what is seen: a frame, or one byte, counted under its kind.
+    fn over(self, seen: Seen) -> Self
+        ensures { λ r. ⌜ r ≡ over self (stepIn seen) ⌝ }
     {
-        let n = passed(step);
-        self.past(n, counted(step))
+        let what = seen.what;
+        let n = (seen.frame.length as usize) + 8;
+        match what {
+            FINISHED => self.past(0, tally(0, 0, 0, 0)),
+            JUNK => self.past(1, tally(0, 1, 0, 0)),
+            SHORT => self.past(1, tally(0, 0, 0, 1)),
+            BAD => self.past(1, tally(0, 0, 1, 0)),
+            _ => self.past(n, tally(n, 0, 0, 0)),
+        }
     }
 
-    // Past the junk where it stands, all of it at once.
-    fn past_junk(self, s: &[u8]) -> Self
-        ensures { λ r. ⌜ r ≡ pastJunk (now (s .entry)) self ⌝ }
+    // Past n bytes of junk at once.
+    fn past_junk(self, n: usize) -> Self
+        ensures { λ r. ⌜ r ≡ overJunk self n ⌝ }
     {
-        let at = self.at;
-        if s.len() <= at {
-            return self;
-        }
-        if s[at] == 0x55 {
-            return self;
-        }
-        let n = junk_run(s, at);
         self.past(n, tally(0, n, 0, 0))
     }
 
-    // The answer at a step that is not passed over.
-    fn ended(self, step: Step) -> Next
-        ensures { λ r. ⌜ r ≡ ended self step ⌝ }
+    // No frame: the reading stands here.
+    fn stopped(self, number: u8, needed: usize) -> Reached
+        ensures { λ r. ⌜ r ≡ record { number = number; needed = needed; frame = noFrame; cursor = self } ⌝ }
     {
-        match step {
-            Step::Finished => Next::End(self),
-            Step::Junk => Next::End(self),
-            Step::Short(n) => Next::Needs(n, self),
-            Step::Bad => Next::End(self),
-            Step::Found(f) => Next::Frame(f, self.over(Step::Found(f))),
+        let frame = Frame {
+            at: 0,
+            kind: 0,
+            sender: 0,
+            length: 0,
+        };
+        Reached {
+            number,
+            needed,
+            frame,
+            cursor: self,
         }
     }
 
-    // The next frame of the reading, or its end. Junk is looked for where no frame was, so that from frame to frame there is no such look.
-    pub fn next(self, s: &[u8]) -> Next
-        ensures { λ r. ⌜ r ≡ nextOf (now (s .entry)) self ⌝ }
+    // The answer at what is not passed over.
+    fn reached(self, seen: Seen) -> Reached
+        ensures { λ r. ⌜ r ≡ reachedIn (ended self (stepIn seen)) ⌝ }
+    {
+        let what = seen.what;
+        let frame = seen.frame;
+        match what {
+            FINISHED => self.stopped(1, 0),
+            JUNK => self.stopped(1, 0),
+            SHORT => self.stopped(2, seen.needed),
+            BAD => self.stopped(1, 0),
+            _ => Reached {
+                number: 0,
+                needed: 0,
+                frame,
+                cursor: self.over(seen),
+            },
+        }
+    }
+
+    // Over what is passed over, to the next frame of the reading or its end.
+    fn search(self, s: &[u8]) -> Reached
+        ensures { λ r. ⌜ r ≡ reachedIn (nextOf (now (s .entry)) self) ⌝ }
     {
         let mut c = self;
         loop {
-            let step = step_at(s, c.at);
-            if passes(c.opened, step) {
-                c = c.over(step).past_junk(s);
+            let at = c.at;
+            let seen = seen_at(s, at);
+            if seen.what == JUNK {
+                c = c.past_junk(junk_run(&s[at..]));
+            } else if passes(c.opened, seen) {
+                c = c.over(seen);
             } else {
-                return c.ended(step);
+                return c.reached(seen);
             }
+        }
+    }
+
+    // The next frame of the reading, or its end. Mostly a frame stands right here: seen before the loop it costs no call, as the compiler puts a
+    // function that is called once into its caller. So `next` asks the loop.
+    pub fn reach(self, s: &[u8]) -> Reached
+        ensures { λ r. ⌜ r ≡ reachedIn (nextOf (now (s .entry)) self) ⌝ }
+    {
+        let seen = seen_at(s, self.at);
+        if passes(self.opened, seen) {
+            return self.over(seen).search(s);
+        }
+        self.reached(seen)
+    }
+
+    // The same as an enum.
+    pub fn next(self, s: &[u8]) -> Next
+        ensures { λ r. ⌜ r ≡ nextOf (now (s .entry)) self ⌝ }
+    {
+        let r = self.search(s);
+        let number = r.number;
+        let frame = r.frame;
+        let cursor = r.cursor;
+        match number {
+            0 => Next::Frame(frame, cursor),
+            1 => Next::End(cursor),
+            _ => Next::Needs(r.needed, cursor),
         }
     }
 
@@ -185,33 +226,21 @@ impl Cursor {
     }
 }
 
-// Whether a closed reading stops at a step.
-fn finished(step: Step) -> bool
-    ensures { λ r. ⌜ r ≡ stops false step ⌝ }
-{
-    match step {
-        Step::Finished => true,
-        Step::Junk => false,
-        Step::Short(_) => false,
-        Step::Bad => false,
-        Step::Found(_) => false,
-    }
-}
-
 // The counts of a whole closed reading.
 pub fn totals(s: &[u8]) -> Counts
     ensures { λ r. ⌜ r ≡ countsOf (closedSteps (now (s .entry))) ⌝ }
 {
     let mut c = Cursor::closed();
     loop {
-        let step = step_at(s, c.at);
-        if finished(step) {
+        let at = c.at;
+        let seen = seen_at(s, at);
+        if seen.what == FINISHED {
             return c.counts();
         }
-        if passes(false, step) {
-            c = c.over(step).past_junk(s);
+        if seen.what == JUNK {
+            c = c.past_junk(junk_run(&s[at..]));
         } else {
-            c = c.over(step);
+            c = c.over(seen);
         }
     }
 }

@@ -1,7 +1,7 @@
 // Runs of bytes that begin no frame, looked at 32 at a time.
 ghost use mathlib.Core.Path.{_≡_};
 ghost use mathlib.Core.Bool.{true, cond};
-ghost use Prim.Native.Nat.{_+_, _-_, _≤_};
+ghost use Prim.Native.Nat.{_+_, _≤_};
 ghost use lib.Dec.{eqb, leb};
 ghost use lib.ListN.{length, drop};
 ghost use Rattle.frames.specs.Inner.{junkRun};
@@ -31,11 +31,10 @@ fn clear(s: &[u8], from: usize) -> bool
 }
 
 // Over as many whole blocks of junk as there are.
-fn past_blocks(s: &[u8], at: usize) -> usize
-    requires { ⌜ at ≤ length (now s) ⌝ }
-    ensures { λ r. ⌜ (at ≤ r) × (r ≤ length (now (s .entry))) × (r - at ≤ junkRun (drop at (now (s .entry)))) ⌝ }
+fn past_blocks(s: &[u8]) -> usize
+    ensures { λ r. ⌜ r ≤ junkRun (now (s .entry)) ⌝ }
 {
-    let mut to = at;
+    let mut to = 0;
     while 32 <= s.len() - to {
         if clear(s, to) {
             to += 32;
@@ -46,17 +45,16 @@ fn past_blocks(s: &[u8], at: usize) -> usize
     to
 }
 
-// How many bytes from a position on stand before the first 0x55, or the end.
-pub(crate) fn junk_run(s: &[u8], at: usize) -> usize
-    requires { ⌜ at ≤ length (now s) ⌝ }
-    ensures { λ r. ⌜ r ≡ junkRun (drop at (now (s .entry))) ⌝ }
+// How many bytes stand before the first 0x55, or the end.
+pub(crate) fn junk_run(s: &[u8]) -> usize
+    ensures { λ r. ⌜ r ≡ junkRun (now (s .entry)) ⌝ }
 {
-    let mut to = past_blocks(s, at);
+    let mut to = past_blocks(s);
     while to < s.len() {
         if s[to] == 0x55 {
-            return to - at;
+            return to;
         }
         to += 1;
     }
-    to - at
+    to
 }

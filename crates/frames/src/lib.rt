@@ -10,6 +10,7 @@ pub use apart::frame_crc;
 pub use cursor::Counts;
 pub use cursor::Cursor;
 pub use cursor::Next;
+pub use cursor::Reached;
 pub use cursor::totals;
 pub use step::Frame;
 pub use step::Step;

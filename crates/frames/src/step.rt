@@ -2,6 +2,8 @@
 ghost use mathlib.Core.Path.{_≡_};
 ghost use Prim.Native.Nat.{_+_, min};
 ghost use Rattle.frames.specs.Step.{stepAt, payloadIn};
+ghost use Rattle.frames.specs.Inner.{stepIn};
+ghost use Rattle.frames.specs.Cursors.{noFrame};
 
 // A frame that was found: its position, type, sender and payload length. Its payload starts at + 6.
 pub struct Frame {
@@ -20,35 +22,89 @@ pub enum Step {
     Found(Frame),
 }
 
-pub fn step_at(s: &[u8], at: usize) -> Step
-    ensures { λ r. ⌜ r ≡ stepAt (now (s .entry)) at ⌝ }
+// The same in numbers, for loops that go from step to step: an enum would be stored in parts there and copied whole. needed is a short's, frame
+// the one that was found.
+pub(crate) struct Seen {
+    pub what: u8,
+    pub needed: usize,
+    pub frame: Frame,
+}
+
+pub(crate) const FINISHED: u8 = 0;
+
+pub(crate) const JUNK: u8 = 1;
+
+pub(crate) const SHORT: u8 = 2;
+
+pub(crate) const BAD: u8 = 3;
+
+const FOUND: u8 = 4;
+
+fn without_frame(what: u8, needed: usize) -> Seen
+    ensures { λ r. ⌜ r ≡ record { what = what; needed = needed; frame = noFrame } ⌝ }
+{
+    let frame = Frame {
+        at: 0,
+        kind: 0,
+        sender: 0,
+        length: 0,
+    };
+    Seen {
+        what,
+        needed,
+        frame,
+    }
+}
+
+pub(crate) fn seen_at(s: &[u8], at: usize) -> Seen
+    ensures { λ r. ⌜ stepIn r ≡ stepAt (now (s .entry)) at ⌝ }
 {
     if s.len() <= at {
-        return Step::Finished;
+        return without_frame(FINISHED, 0);
     }
     if s[at] != 0x55 {
-        return Step::Junk;
+        return without_frame(JUNK, 0);
     }
     let left = s.len() - at;
     if left < 6 {
-        return Step::Short(6);
+        return without_frame(SHORT, 6);
     }
     let length = s[at + 5];
     let n = length as usize;
     if left < n + 8 {
-        return Step::Short(n + 8);
+        return without_frame(SHORT, n + 8);
     }
     let first = at + 1;
     let end = at + n + 6;
     if crc::crc(0, &s[first..end]) != wire::read_u16(s, end) {
-        return Step::Bad;
+        return without_frame(BAD, 0);
     }
-    Step::Found(Frame {
+    let frame = Frame {
         at,
         kind: wire::read_u16(s, first),
         sender: wire::read_u16(s, at + 3),
         length,
-    })
+    };
+    Seen {
+        what: FOUND,
+        needed: 0,
+        frame,
+    }
+}
+
+pub fn step_at(s: &[u8], at: usize) -> Step
+    ensures { λ r. ⌜ r ≡ stepAt (now (s .entry)) at ⌝ }
+{
+    let seen = seen_at(s, at);
+    let what = seen.what;
+    let frame = seen.frame;
+    match what {
+        FINISHED => Step::Finished,
+        JUNK => Step::Junk,
+        SHORT => Step::Short(seen.needed),
+        BAD => Step::Bad,
+        _ => Step::Found(frame),
+    }
 }
 
 // n bytes on from a position, or the end where that comes first.

@@ -1,38 +1,38 @@
 -- `frames::junk::past_blocks` meets its contract. The loop's invariant: the run reaches to where it stands.
 use mathlib.Core.Path.{sym, _∙_}
-use Prim.Native.Nat.{_-_}
+use Prim.Native.Nat.{_-_, _≤_}
 use native.Mathlib.Omega.{arith}
 use borrow.Author.Needs.{needs}
 use borrow.Author.Tests.{leb-true}
 use lib.ListN.{length, drop}
 use Rattle.frames.specs.Inner.{junkRun}
-use Rattle.frames.proofs.JunkRuns.{Reaches, reaches-on}
+use Rattle.frames.proofs.JunkRuns.{run-length, run-on}
 use Rattle.frames.proofs.junk.past_blocks.Statement.{statement}
 use Rattle.frames.proofs.junk.past_blocks.Tie as tie
 
 abbrev Inv-loop : tie.InvT-loop
-Inv-loop s at to₀ to = Reaches s at to
+Inv-loop s to₀ to = to ≤ junkRun s
 
 abbrev μ-loop : tie.MeasureT-loop
-μ-loop s at to₀ to = length s - to
+μ-loop s to₀ to = length s - to
 
 loop-holds : tie.Need-loop-holds Inv-loop μ-loop
-loop-holds c = (omega arith, c .before .pre, omega arith)
+loop-holds c = omega arith
 
 sub-loop : tie.Need-sub-loop Inv-loop μ-loop
-sub-loop c = c .loop .inv .1
+sub-loop c = omega (arith, c .loop .inv, run-length (c .before .before .args .s .now))
 
 clear-requires : tie.Need-clear-requires Inv-loop μ-loop
-clear-requires c κs = omega (arith, c .before .loop .inv .1)
+clear-requires c κs = omega (arith, c .before .loop .inv, c .loop-test .taken, run-length (c .before .before .before .args .s .now))
 
 loop-less : tie.Need-loop-less Inv-loop μ-loop
 loop-less c = omega arith
 
 loop-again : tie.Need-loop-again Inv-loop μ-loop
 loop-again c =
-    let start = c .before .before .before .before .before in
+    let s = c .before .before .before .before .before .args .s .now in
     let at = c .before .before .before .loop in
-    reaches-on (start .args .s .now) (start .args .at) (at .to) (at .inv) 32 (leb-true 32 (junkRun (drop (at .to) (start .args .s .now))) (sym (c .before .clear .ensures) ∙ c .if1 .taken))
+    run-on (at .to) 32 s (at .inv) (leb-true 32 (junkRun (drop (at .to) s)) (sym (c .before .clear .ensures) ∙ c .if1 .taken))
 
 returns : tie.Need-returns Inv-loop μ-loop
 returns c = c .before .before .before .loop .inv
