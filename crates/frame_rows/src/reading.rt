@@ -1,11 +1,15 @@
 // The next frame of a capture, as a row of numbers in a lent buffer.
 ghost use mathlib.Core.Path.{_≡_};
+ghost use mathlib.Core.Bool.{cond};
+ghost use lib.Dec.{eqb};
 ghost use lib.ListN.{length};
 ghost use Rattle.layouts.specs.Field.{rowStored};
-ghost use Rattle.frame_rows.specs.Found.{foundFields, foundValues, nothingAt, foundIn, numberIn, nextAnswer, nextStored};
+ghost use Rattle.frames.specs.Cursors.{reachedIn};
+ghost use Rattle.frames.specs.declared.cursor.Next.{Next};
+ghost use Rattle.frame_rows.specs.Found.{foundFields, foundValues, foundIn, nextAnswer, nextStored};
 use crate::sizes::FOUND_SIZE;
 use frames::Cursor;
-use frames::Next;
+use frames::Reached;
 
 // Where a frame was found or the reading stands, where to go on, the bytes needed from there, those passed over on the way, and the frame's
 // type, sender and payload length.
@@ -21,51 +25,33 @@ pub struct FoundRow {
     pub length: u8,
 }
 
-// No frame: the reading stands at the cursor.
-fn nothing_at(c: Cursor, needed: usize) -> FoundRow
-    ensures { λ r. ⌜ r ≡ nothingAt c needed ⌝ }
+// Where a frame was found, or else the reading stands.
+fn place(r: Reached) -> usize
+    ensures { λ w. ⌜ w ≡ cond (eqb (r .number) 0) (r .frame .at) (r .cursor .at) ⌝ }
 {
+    if r.number == 0 {
+        return r.frame.at;
+    }
+    r.cursor.at
+}
+
+// Of an answer in numbers: where there is no frame its numbers are 0, and so are the bytes needed where none are.
+fn row_of(r: Reached) -> FoundRow
+    ensures { λ w. ⌜ ((n : Next) → r ≡ reachedIn n → w ≡ foundIn n) ⌝ }
+{
+    let at = place(r);
+    let f = r.frame;
+    let c = r.cursor;
     FoundRow {
-        at: c.at as u64,
+        at: at as u64,
         next: c.at as u64,
-        needed: needed as u64,
+        needed: r.needed as u64,
         junk: c.junk as u64,
         bad: c.bad as u64,
         short: c.short as u64,
-        kind: 0,
-        sender: 0,
-        length: 0,
-    }
-}
-
-fn found_in(next: Next) -> FoundRow
-    ensures { λ r. ⌜ r ≡ foundIn next ⌝ }
-{
-    match next {
-        Next::Frame(f, c) => FoundRow {
-            at: f.at as u64,
-            next: c.at as u64,
-            needed: 0,
-            junk: c.junk as u64,
-            bad: c.bad as u64,
-            short: c.short as u64,
-            kind: f.kind,
-            sender: f.sender,
-            length: f.length,
-        },
-        Next::End(c) => nothing_at(c, 0),
-        Next::Needs(n, c) => nothing_at(c, n),
-    }
-}
-
-// 0 a frame, 1 the end, 2 more bytes are needed.
-fn number_in(next: Next) -> u8
-    ensures { λ r. ⌜ r ≡ numberIn next ⌝ }
-{
-    match next {
-        Next::Frame(_, _) => 0,
-        Next::End(_) => 1,
-        Next::Needs(_, _) => 2,
+        kind: f.kind,
+        sender: f.sender,
+        length: f.length,
     }
 }
 
@@ -100,7 +86,7 @@ pub fn next_row(capture: &[u8], at: usize, opened: bool, found: &mut [u8]) -> u8
         bad: 0,
         short: 0,
     };
-    let next = start.next(capture);
-    put_found(found, found_in(next));
-    number_in(next)
+    let reached = start.reach(capture);
+    put_found(found, row_of(reached));
+    reached.number
 }
