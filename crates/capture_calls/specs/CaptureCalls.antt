@@ -67,6 +67,7 @@ module _ {M : Type 1} (𝓤 : URA M) (H : Heap 𝓤) (A : Atoms 𝓤) (mem : Mem
         (λ κs s f. (take (f .length) (drop (f .at + 6) (now s)), tt))
     pub frame-crc : Gives 𝓤 frames.frame_crc.ended (frames.frame_crc.clauses 𝓤 H A mem run) (λ κs header payload. (crcFrom 0 (drop 1 (now header) ++ now payload), tt))
     pub crc-of : Gives 𝓤 crc.crc.ended (crc.crc.clauses 𝓤 H A mem run) (λ κs start bytes. (crcFrom start (now bytes), tt))
+    pub crc-apart : Gives 𝓤 crc.crc_apart.ended (crc.crc_apart.clauses 𝓤 H A mem run) (λ κs start first second. (crcFrom start (now first ++ now second), tt))
 
   -- a collator made and fed: the frame is that of the sender, type and payload handed in; a whole capture; a roster that grows; the listing
   pub record Collators : Type 1 where

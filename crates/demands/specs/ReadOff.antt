@@ -11,6 +11,10 @@ use Rattle.refusals.specs.Refusals.{reply, leaves, asNumber, zeroOr, FirstFails
 use Rattle.layouts.specs.Layout.{encodeBody}
 use Rattle.layouts.specs.Description.{Description, reading, readAs}
 use Rattle.frames.specs.Frame.{frameBytes, Content}
+use Rattle.frames.specs.Cursors.{reachedIn}
+use Rattle.frames.specs.declared.step.Frame.{Frame}
+use Rattle.frames.specs.declared.cursor.Cursor.{Cursor}
+use Rattle.frames.specs.declared.cursor.Next.the-variants as Next
 use Rattle.senders.specs.Senders.{carried}
 use Rattle.senders.specs.declared.Writer.{Writer}
 use Rattle.frame_writer.specs.Writer.{planning, planned, withFrame}
@@ -58,6 +62,12 @@ pub record ReadOff : Type 1 where
   pub obs-in : (kind : ℕ) (w : Writer) (hs ns buf : List ℕ)
       → obsRowWritten kind w hs ns buf
       ≡ leaves (sent kind w (encodeBody (obs first .layout) (obs first .row (observedOf hs ns)))) (reply (writingObsRow kind hs ns (length buf))) buf
+  -- a cursor's answer in numbers: 0 and the frame, 1 at the end, 2 and the bytes that are needed
+  pub reached-frame : (f : Frame) (c : Cursor) → reachedIn (Next.Frame f c) ≡ record { number = 0; needed = 0; frame = f; cursor = c }
+  pub reached-end : (c : Cursor)
+      → reachedIn (Next.End c) ≡ record { number = 1; needed = 0; frame = record { at = 0; kind = 0; sender = 0; length = 0 }; cursor = c }
+  pub reached-needs : (n : ℕ) (c : Cursor)
+      → reachedIn (Next.Needs n c) ≡ record { number = 2; needed = n; frame = record { at = 0; kind = 0; sender = 0; length = 0 }; cursor = c }
   -- what a collator refuses, by value and in lent bytes
   pub made-number : (roster : List ℕ) → made roster .number ≡ zeroOr (reply (rostering roster))
   pub fed-refused : (c : Collator) (x : Content) (n : ℕ) → (fedFrame c x .happened ≡ H.Refused n) ↔ FirstFails (feeding c x .tests) n
