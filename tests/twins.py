@@ -24,7 +24,7 @@ def cargo(word):
 def compiled(work, name):
     """The C twin with one of its programs, or None."""
     made = os.path.join(work, name)
-    words = ["gcc", "-std=c11", "-O3", "-Wall", "-Wextra", "-Werror", "-o", made, name + ".c", "fast.c", "index.c", "rows.c"]
+    words = ["gcc", "-std=c11", "-O3", "-Wall", "-Wextra", "-Werror", "-o", made, name + ".c", "fast.c", "folded.c", "index.c", "rows.c"]
     return made if subprocess.run(words, cwd=C).returncode == 0 else None
 
 

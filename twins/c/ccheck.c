@@ -1,13 +1,14 @@
-/* Checks what clist and cindex do not show: the published CRC values, that a
- * message's fields fill its length, a LOG longer than any frame's, the
- * collator's making, answers and refusals, an index's refusals, the counts of
- * closed reading, and who a frame goes out as. */
+/* Checks what clist and cindex do not show: the published CRC values, the
+ * folded CRC, that a message's fields fill its length, a LOG longer than any
+ * frame's, the collator's making, answers and refusals, an index's refusals,
+ * the counts of closed reading, and who a frame goes out as. */
 #include "fast.h"
 
 #include <stdbool.h>
 #include <stdio.h>
 #include <string.h>
 
+#include "folded.h"
 #include "index.h"
 #include "messages.h"
 #include "rows.h"
@@ -74,6 +75,36 @@ static void check_crc(void)
             check(sbp_crc(first, nine + cut, 9 - cut) ==
                       plain_crc(starts[s], nine, 9),
                   "CRC that goes on");
+        }
+}
+
+/* The table's CRC, at every length and wherever the bytes lie; and in parts. */
+static void check_folded(void)
+{
+    enum { PLACES = 8, MOST = 700, IN_PARTS = 300 };
+    static const uint16_t starts[] = {0, 1, 0x00FF, 0xFF00, 65535};
+    static uint8_t bytes[PLACES + MOST];
+    const uint8_t nine[] = "123456789";
+    check(folded_crc(0, nine, 9) == 0x31C3, "folded CRC of 123456789");
+    check(folded_crc(7, NULL, 0) == 7, "folded CRC of nothing");
+
+    uint32_t word = 1;
+    for (size_t i = 0; i < sizeof bytes; i++) {
+        word = word * 1103515245 + 12345;
+        bytes[i] = (uint8_t)(word >> 16);
+    }
+    for (size_t length = 0; length <= MOST; length++)
+        for (size_t s = 0; s < sizeof starts / sizeof *starts; s++)
+            for (size_t at = 0; at < PLACES; at++)
+                check(folded_crc(starts[s], bytes + at, length) ==
+                          sbp_crc(starts[s], bytes + at, length),
+                      "folded CRC");
+    for (size_t length = 0; length <= IN_PARTS; length++)
+        for (size_t cut = 0; cut <= length; cut++) {
+            uint16_t first = folded_crc(1, bytes, cut);
+            check(folded_crc(first, bytes + cut, length - cut) ==
+                      folded_crc(1, bytes, length),
+                  "folded CRC that goes on");
         }
 }
 
@@ -403,6 +434,7 @@ int main(void)
 {
     check_lengths();
     check_crc();
+    check_folded();
     check_index();
     check_senders();
     check_recorders();
