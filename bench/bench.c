@@ -1,5 +1,6 @@
 /* Times the exported functions beside the C twin and the Rust twin, in one run and by turns. A line for each case: the ns a byte of each (or an
- * entry), our time over theirs, and Rust's ns a byte with the CRC in another form, eight bytes at a time. Each number is the median of the rounds.
+ * entry) and our time over theirs. Where it is the CRC that takes the time, two other forms of it follow: the ns a byte of Rust with eight bytes
+ * looked up at a time, that of C without a table (twins/c/folded.c), and our time over this last. Each number is the median of the rounds.
  * usage: bench [MEBIBYTES [ROUNDS]], by default 64 and 9 (bench/run builds it) */
 #define _POSIX_C_SOURCE 199309L
 #include <stdio.h>
@@ -17,10 +18,14 @@
 #undef sbp_list
 
 #include "../link/include/sbp.h"
+#include "../twins/c/folded.h"
 #include "../twins/c/rows.h"
 #include "captures.h"
 #include "indexes.h"
 #include "timed.h"
+
+/* bench/folded.h says what it is. */
+size_t folded_read_closed(const uint8_t *capture, size_t n, struct twin_counts *counts);
 
 /* bench/twin.rs, which says what they do. */
 uint16_t rust_crc(uint16_t start, const uint8_t *bytes, size_t n);
@@ -65,6 +70,7 @@ static void our_crc(void) { told[0] = sbp_crc(0, capture, length); }
 static void twins_crc(void) { told[0] = twin_crc(0, capture, length); }
 static void rusts_crc(void) { told[0] = rust_crc(0, capture, length); }
 static void sliced_crc(void) { told[0] = rust_crc_sliced(0, capture, length); }
+static void folded_crcs(void) { told[0] = folded_crc(0, capture, length); }
 
 /* Frame by frame: frame bytes, junk, bad, short. */
 static void our_reading(void) {
@@ -91,12 +97,14 @@ static void our_totals(void) {
     }
 }
 
-static void twins_reading(void) {
+static inline void read_closed(size_t (*read)(const uint8_t *capture, size_t n, struct twin_counts *counts)) {
     struct twin_counts counts;
-    sbp_read_closed(capture, length, &counts);
+    read(capture, length, &counts);
     told[0] = counts.frame_bytes, told[1] = counts.junk, told[2] = counts.bad, told[3] = counts.short_;
 }
 
+static void twins_reading(void) { read_closed(sbp_read_closed); }
+static void folded_reading(void) { read_closed(folded_read_closed); }
 static void rusts_reading(void) { rust_closed(capture, length, told); }
 static void sliced_reading(void) { rust_closed_sliced(capture, length, told); }
 
@@ -280,10 +288,10 @@ double timed(const char *name, int rounds, int times, size_t over, const side si
         }
     }
     const double our_ns = median(ns[OURS], rounds);
-    printf("%-40s %8.3f %8.3f %8.3f", name, our_ns, median(ns[C], rounds), median(ns[RUST], rounds));
-    printf(" %8.2f %8.2f", median(ratio[C], rounds), median(ratio[RUST], rounds));
-    if (sides[SLICED] != NULL) {
-        printf(" %18.3f", median(ns[SLICED], rounds));
+    printf("%-40s %7.3f %7.3f %7.3f", name, our_ns, median(ns[C], rounds), median(ns[RUST], rounds));
+    printf(" %7.2f %7.2f", median(ratio[C], rounds), median(ratio[RUST], rounds));
+    if (sides[SLICED] != NULL && sides[FOLDED] != NULL) {
+        printf(" %17.3f %9.3f %9.2f", median(ns[SLICED], rounds), median(ns[FOLDED], rounds), median(ratio[FOLDED], rounds));
     }
     printf("\n");
     fflush(stdout);
@@ -291,8 +299,8 @@ double timed(const char *name, int rounds, int times, size_t over, const side si
 }
 
 static void readings(const char *by_frame, const char *in_one, int rounds) {
-    timed(by_frame, rounds, 1, length, (const side[SIDES]){our_reading, twins_reading, rusts_reading, sliced_reading});
-    timed(in_one, rounds, 1, length, (const side[SIDES]){our_totals, twins_reading, rusts_reading, sliced_reading});
+    timed(by_frame, rounds, 1, length, (const side[SIDES]){our_reading, twins_reading, rusts_reading, sliced_reading, folded_reading});
+    timed(in_one, rounds, 1, length, (const side[SIDES]){our_totals, twins_reading, rusts_reading, sliced_reading, folded_reading});
 }
 
 static void feeding(const char *name, int rounds) {
@@ -315,9 +323,10 @@ int main(int argc, char **argv) {
     if (capture == NULL) {
         return EXIT_FAILURE;
     }
-    printf("%-40s %8s %8s %8s %8s %8s %18s\n", "ns a byte", "Rattle", "C", "Rust", "to C", "to Rust", "Rust, sliced by 8");
+    printf("%-40s %7s %7s %7s %7s %7s", "ns a byte", "Rattle", "C", "Rust", "to C", "to Rust");
+    printf(" %17s %9s %9s\n", "Rust, sliced by 8", "C, folded", "to folded");
     clean(most);
-    timed("CRC of a long buffer", rounds, 1, length, (const side[SIDES]){our_crc, twins_crc, rusts_crc, sliced_crc});
+    timed("CRC of a long buffer", rounds, 1, length, (const side[SIDES]){our_crc, twins_crc, rusts_crc, sliced_crc, folded_crcs});
     readings("closed reading, clean, frame by frame", "closed reading, clean, in one call", rounds);
     feeding("feeding epochs", rounds);
     overtaken(most);
@@ -340,7 +349,7 @@ int main(int argc, char **argv) {
     readings("closed reading, all 0x55, frame by frame", "closed reading, all 0x55, in one call", rounds);
     clean(SBP_INPUT_MAX);
     timed("listing of 64 KiB", rounds, (int)(most / SBP_INPUT_MAX), length, (const side[SIDES]){our_listing, twins_listing, rusts_listing, NULL});
-    printf("%-40s %8s %8s %8s %8s %8s\n", "ns an entry", "Rattle", "C", "Rust", "to C", "to Rust");
+    printf("%-40s %7s %7s %7s %7s %7s\n", "ns an entry", "Rattle", "C", "Rust", "to C", "to Rust");
     time_finding(rounds);
     return EXIT_SUCCESS;
 }
