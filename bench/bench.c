@@ -72,6 +72,21 @@ static void rusts_crc(void) { told[0] = rust_crc(0, capture, length); }
 static void sliced_crc(void) { told[0] = rust_crc_sliced(0, capture, length); }
 static void folded_crcs(void) { told[0] = folded_crc(0, capture, length); }
 
+static size_t piece;
+
+/* The sum of the CRCs of pieces of one length. */
+static inline void crc_pieces(uint16_t (*crc)(uint16_t start, const uint8_t *bytes, size_t n)) {
+    for (size_t at = 0; at + piece <= length; at += piece) {
+        told[0] += crc(0, capture + at, piece);
+    }
+}
+
+static void our_pieces(void) { crc_pieces(sbp_crc); }
+static void twins_pieces(void) { crc_pieces(twin_crc); }
+static void rusts_pieces(void) { crc_pieces(rust_crc); }
+static void sliced_pieces(void) { crc_pieces(rust_crc_sliced); }
+static void folded_pieces(void) { crc_pieces(folded_crc); }
+
 /* Frame by frame: frame bytes, junk, bad, short. */
 static void our_reading(void) {
     uint8_t row[SBP_FOUND];
@@ -298,6 +313,11 @@ double timed(const char *name, int rounds, int times, size_t over, const side si
     return our_ns;
 }
 
+static void pieces(const char *name, size_t of, int rounds) {
+    piece = of;
+    timed(name, rounds, 1, length / piece * piece, (const side[SIDES]){our_pieces, twins_pieces, rusts_pieces, sliced_pieces, folded_pieces});
+}
+
 static void readings(const char *by_frame, const char *in_one, int rounds) {
     timed(by_frame, rounds, 1, length, (const side[SIDES]){our_reading, twins_reading, rusts_reading, sliced_reading, folded_reading});
     timed(in_one, rounds, 1, length, (const side[SIDES]){our_totals, twins_reading, rusts_reading, sliced_reading, folded_reading});
@@ -327,6 +347,9 @@ int main(int argc, char **argv) {
     printf(" %17s %9s %9s\n", "Rust, sliced by 8", "C, folded", "to folded");
     clean(most);
     timed("CRC of a long buffer", rounds, 1, length, (const side[SIDES]){our_crc, twins_crc, rusts_crc, sliced_crc, folded_crcs});
+    pieces("CRC of pieces of 95 bytes", 95, rounds);
+    pieces("CRC of pieces of 9 bytes", 9, rounds);
+    pieces("CRC of pieces of 5 bytes", 5, rounds);
     readings("closed reading, clean, frame by frame", "closed reading, clean, in one call", rounds);
     feeding("feeding epochs", rounds);
     overtaken(most);
