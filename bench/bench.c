@@ -370,6 +370,9 @@ int main(int argc, char **argv) {
     /* Every byte begins a frame of 93 that is bad: some 200 ns a byte, so a 64th of them. */
     preambles(most / 64);
     readings("closed reading, all 0x55, frame by frame", "closed reading, all 0x55, in one call", rounds);
+    /* Half of them begin one of 263. */
+    dearest(most / 64);
+    readings("closed reading, dearest, frame by frame", "closed reading, dearest, in one call", rounds);
     clean(SBP_INPUT_MAX);
     timed("listing of 64 KiB", rounds, (int)(most / SBP_INPUT_MAX), length, (const side[SIDES]){our_listing, twins_listing, rusts_listing, NULL});
     printf("%-40s %7s %7s %7s %7s %7s\n", "ns an entry", "Rattle", "C", "Rust", "to C", "to Rust");

@@ -117,3 +117,10 @@ void preambles(size_t most) {
     length = most;
     memset(capture, 0x55, most);
 }
+
+void dearest(size_t most) {
+    length = most;
+    for (size_t i = 0; i < most; i++) {
+        capture[i] = i / 5 % 2 == 0 ? 0x55 : 0xFF;
+    }
+}

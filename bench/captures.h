@@ -21,5 +21,7 @@ void texts(size_t most);
 void noise(size_t most);
 /* Nothing but 0x55. */
 void preambles(size_t most);
+/* 0x55 and 0xFF by turns, five of each: every 0x55 begins a frame of the greatest length. */
+void dearest(size_t most);
 
 #endif
