@@ -2,13 +2,13 @@
 use mathlib.Core.Path.{_≡_, sym, ap, ap₂, _∙_}
 use Prim.Native.Nat.{ℕ, _+_, _*_, _/_, _%_, _^_, _≤_, _<_}
 use native.Mathlib.Nat.{div-eq-of-lt, mod-eq-of-lt, mod-lt, zero-lt-suc, lt-of-lt-of-le, lt-of-le-of-lt}
-use lib.Bits.{bitXor, xor-comm, xor-lt, xor-mod, xor-zero-r}
+use lib.Bits.{bitXor, xor-comm, xor-lt, xor-mod, xor-self, xor-shr, xor-zero-r}
 use lib.Dec.{lit≤}
-use lib.Pow.{pow-mono, mod-mod-pow, shr-le}
+use lib.Pow.{pow-mono, mod-mod-pow, shr-le, shr-shr}
 use Rattle.crc.specs.Inner.{rest, then, above}
-use Rattle.crc.proofs.Xor.{xor-assoc, xor-left}
-use Rattle.crc.proofs.Rest.{rest-xor, rest-small, at, at-xor, at-up, at-cut, at-same}
-use Rattle.crc.proofs.Turning.{turned-down, turning-1, turning-4, turning-16}
+use Rattle.crc.proofs.Xor.{xor-assoc, xor-left, xor-back}
+use Rattle.crc.proofs.Rest.{rest-xor, rest-small, at, at-xor, at-up, at-cut, at-same, rest-cut}
+use Rattle.crc.proofs.Turning.{turned-down, turning-1, turning-4, turning-8, turning-16}
 use Rattle.crc.proofs.Brought.{added, above-twice, brought, part-up}
 
 -- ---- a word behind a number
@@ -56,10 +56,55 @@ turned-is a b c d w =
     ∙ regroup (rest a) (at b 192) (at c 128) (at d 64) (rest w) (at a 192) (at h 128) (at l 64)
     ∙ sym (five a b c d w ∙ ap (λ (x : ℕ). bitXor (bitXor (bitXor (bitXor x (at b 192)) (at c 128)) (at d 64)) (rest w)) (falls a))
 
--- ---- a word of 64 bits, divided by the polynomial at s = 8, 4, 2, 1: each undoes the one before it, and s = 16 leaves it as it is
-
+-- nothing of a word is above bit 64
 none-left : (r k : ℕ) → r < 2 ^ 64 → 64 ≤ k → r / 2 ^ k ≡ 0
 none-left r k h g = div-eq-of-lt (lt-of-lt-of-le h (pow-mono g))
+
+-- ---- the step: what is 128 bits up, without what of it falls out again
+
+module _ (a : ℕ) (h : a < 2 ^ 64) where
+  abbrev l : ℕ
+  l = bitXor a (a / 2 ^ 32)
+
+  all-of : bitXor l (l / 2 ^ 32) ≡ a
+  all-of =
+      ap (bitXor l) (xor-shr a (a / 2 ^ 32) 32 ∙ ap (bitXor (a / 2 ^ 32)) (shr-shr a 32 32 ∙ none-left a 64 h (lit≤ tt)) ∙ xor-zero-r (a / 2 ^ 32))
+      ∙ xor-assoc a (a / 2 ^ 32) (a / 2 ^ 32)
+      ∙ ap (bitXor a) (xor-self (a / 2 ^ 32))
+      ∙ xor-zero-r a
+
+  goes : at a 128 ≡ bitXor (at (l * 2 ^ 32 % 2 ^ 64) 64) (bitXor (bitXor (at (l / 2 ^ 24) 64) (rest (l * 2 ^ 40 % 2 ^ 64))) (rest l))
+  goes =
+      ap (λ (x : ℕ). at x 128) (sym all-of)
+      ∙ at-xor l (l / 2 ^ 32) 128
+      ∙ ap (λ (x : ℕ). bitXor x (at (l / 2 ^ 32) 128))
+      (turned-down 8 turning-8 l
+      ∙ ap₂ bitXor
+      (sym (at-up l 32 64) ∙ at-cut (l * 2 ^ 32) 64 64 ∙ ap (λ (x : ℕ). bitXor (at x 128) (at (l * 2 ^ 32 % 2 ^ 64) 64)) (part-up l 32 32))
+      (ap (λ (x : ℕ). bitXor x (rest l)) (rest-cut (l * 2 ^ 40) 64 ∙ ap (λ (x : ℕ). bitXor (at x 64) (rest (l * 2 ^ 40 % 2 ^ 64))) (part-up l 40 24))))
+      ∙ gone (at (l / 2 ^ 32) 128) (at (l * 2 ^ 32 % 2 ^ 64) 64) (bitXor (bitXor (at (l / 2 ^ 24) 64) (rest (l * 2 ^ 40 % 2 ^ 64))) (rest l))
+    where
+      gone : (p q r : ℕ) → bitXor (bitXor (bitXor p q) r) p ≡ bitXor q r
+      gone p q r = ap (λ (x : ℕ). bitXor x p) (xor-assoc p q r) ∙ xor-comm (bitXor p (bitXor q r)) p ∙ xor-back p (bitXor q r)
+
+  pub stepped-is : (b w : ℕ)
+      → rest (then (bitXor (bitXor b (l * 2 ^ 32 % 2 ^ 64)) (l / 2 ^ 24)) (bitXor (bitXor w l) (l * 2 ^ 40 % 2 ^ 64))) ≡ rest (then (then a b) w)
+  stepped-is b w =
+      let p = l * 2 ^ 32 % 2 ^ 64 in
+      let q = l / 2 ^ 24 in
+      let r = l * 2 ^ 40 % 2 ^ 64 in
+      rest-xor (bitXor (bitXor b p) q * 2 ^ 64) (bitXor (bitXor w l) r)
+      ∙ ap₂ bitXor
+      (at-xor (bitXor b p) q 64 ∙ ap (λ (x : ℕ). bitXor x (at q 64)) (at-xor b p 64))
+      (rest-xor (bitXor w l) r ∙ ap (λ (x : ℕ). bitXor x (rest r)) (rest-xor w l))
+      ∙ places (at b 64) (at p 64) (at q 64) (rest w) (rest l) (rest r)
+      ∙ sym (rest-xor (then a b * 2 ^ 64) w ∙ ap (λ (x : ℕ). bitXor x (rest w)) (at-then a b 64 ∙ ap (λ (x : ℕ). bitXor x (at b 64)) goes))
+    where
+      places : (b p q w l r : ℕ)
+          → bitXor (bitXor (bitXor b p) q) (bitXor (bitXor w l) r) ≡ bitXor (bitXor (bitXor p (bitXor (bitXor q r) l)) b) w
+      places b p q w l r = simp (xor-assoc, xor-left, xor-comm)
+
+-- ---- a word of 64 bits, divided by the polynomial at s = 8, 4, 2, 1: each undoes the one before it, and s = 16 leaves it as it is
 
 above-16 : (r : ℕ) → r < 2 ^ 64 → above 16 r ≡ r
 unfolding above

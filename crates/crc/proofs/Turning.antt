@@ -72,5 +72,8 @@ twice s turn n j =
 pub turning-4 : Turning 4
 turning-4 = twice 2 (twice 1 turning-1)
 
+pub turning-8 : Turning 8
+turning-8 = twice 4 turning-4
+
 pub turning-16 : Turning 16
-turning-16 = twice 8 (twice 4 turning-4)
+turning-16 = twice 8 turning-8

@@ -8,12 +8,13 @@ use crate::bytes::few;
 use crate::bytes::first;
 use crate::bytes::late;
 use crate::bytes::word;
+use crate::folding::Pair;
 use crate::folding::Words;
-use crate::folding::climbed;
-use crate::folding::climbed_all;
 use crate::folding::one_of;
 use crate::folding::register;
+use crate::folding::stepped_all;
 use crate::folding::turned_all;
+use crate::folding::two_of;
 
 // Fewer than eight bytes are a number of one word. What the start adds past their end stays in the register.
 pub(crate) fn of_few(start: u16, s: &[u8]) -> u16
@@ -24,7 +25,7 @@ pub(crate) fn of_few(start: u16, s: &[u8]) -> u16
     register(few(s) ^ early(start, k)) ^ late(start, k)
 }
 
-// Of more, the first n % 8 make the first word, so that the others are whole. Fewer than four words are taken one by one.
+// Of more, the first n % 8 make the first word, so that the others are whole. Fewer than four words go by two.
 pub(crate) fn of_many(start: u16, s: &[u8]) -> u16
     requires { ⌜ 8 ≤ length (now s) ⌝ }
     ensures { λ r. ⌜ r ≡ crcFrom start (now (s .entry)) ⌝ }
@@ -34,7 +35,8 @@ pub(crate) fn of_many(start: u16, s: &[u8]) -> u16
     let b = word(s, k) ^ ((late(start, k) as u64) << 48);
     let from = k + 8;
     if s.len() - from < 16 {
-        return register(climbed_all(climbed(a, b), s, from));
+        let two = Pair { a, b };
+        return register(one_of(stepped_all(two, s, from)));
     }
     let four = Words {
         a,
@@ -42,5 +44,5 @@ pub(crate) fn of_many(start: u16, s: &[u8]) -> u16
         c: word(s, from),
         d: word(s, from + 8),
     };
-    register(one_of(turned_all(four, s, from + 16)))
+    register(one_of(two_of(turned_all(four, s, from + 16))))
 }

@@ -42,6 +42,44 @@ pub(crate) fn turned_all(x: Words, s: &[u8], from: usize) -> Words
     four
 }
 
+// The last two words of a number.
+pub(crate) struct Pair {
+    pub(crate) a: u64,
+    pub(crate) b: u64,
+}
+
+// A word more, at s = 8: l is what has to fall out, so that nothing does 128 bits up. It goes 96, 40 and 0 bits up.
+fn stepped(x: Pair, w: u64) -> Pair
+    ensures { λ r. ⌜ rest (then (r .a) (r .b)) ≡ rest (then (then (x .a) (x .b)) w) ⌝ }
+{
+    let l = x.a ^ (x.a >> 32);
+    Pair {
+        a: x.b ^ (l << 32) ^ (l >> 24),
+        b: w ^ l ^ (l << 40),
+    }
+}
+
+// Two words, and all that come after: a turn waits longer than with four, but there are not four to be brought together.
+pub(crate) fn stepped_all(x: Pair, s: &[u8], from: usize) -> Pair
+    requires { ⌜ (from ≤ length (now s)) × ((length (now s) - from) % 8 ≡ 0) ⌝ }
+    ensures { λ r. ⌜ rest (then (r .a) (r .b)) ≡ rest (behind (then (x .a) (x .b)) (drop from (now (s .entry)))) ⌝ }
+{
+    let mut two = x;
+    let mut i = from;
+    while i < s.len() {
+        two = stepped(two, word(s, i));
+        i += 8;
+    }
+    two
+}
+
+pub(crate) fn two_of(x: Words) -> Pair
+    ensures { λ r. ⌜ rest (then (r .a) (r .b)) ≡ rest (joined x) ⌝ }
+{
+    let upper = Pair { a: x.a, b: x.b };
+    stepped(stepped(upper, x.c), x.d)
+}
+
 // A word divided by the polynomial at s = 4: times that, the quotient has the word above bit 64.
 fn divided(r: u64) -> u64
     ensures { λ q. ⌜ (above 4 q ≡ r) × (q < 2 ^ 64) ⌝ }
@@ -58,31 +96,10 @@ fn moved_up(r: u64) -> u64
     (q << 48) ^ (q << 20) ^ q
 }
 
-// One word, and one more behind it.
-pub(crate) fn climbed(r: u64, w: u64) -> u64
-    ensures { λ x. ⌜ rest x ≡ rest (then r w) ⌝ }
+pub(crate) fn one_of(x: Pair) -> u64
+    ensures { λ r. ⌜ rest r ≡ rest (then (x .a) (x .b)) ⌝ }
 {
-    moved_up(r) ^ w
-}
-
-// One word, and all that come after.
-pub(crate) fn climbed_all(r: u64, s: &[u8], from: usize) -> u64
-    requires { ⌜ (from ≤ length (now s)) × ((length (now s) - from) % 8 ≡ 0) ⌝ }
-    ensures { λ x. ⌜ rest x ≡ rest (behind r (drop from (now (s .entry)))) ⌝ }
-{
-    let mut one = r;
-    let mut i = from;
-    while i < s.len() {
-        one = climbed(one, word(s, i));
-        i += 8;
-    }
-    one
-}
-
-pub(crate) fn one_of(x: Words) -> u64
-    ensures { λ r. ⌜ rest r ≡ rest (joined x) ⌝ }
-{
-    climbed(climbed(climbed(x.a, x.b), x.c), x.d)
+    moved_up(x.a) ^ x.b
 }
 
 // What a word leaves in the register, which stands 16 bits up: the same at s = 1.

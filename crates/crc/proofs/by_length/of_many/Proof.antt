@@ -4,9 +4,8 @@ use Prim.Native.Nat.{_+_, _-_, _*_, _%_, _^_}
 use native.Mathlib.Omega.{arith}
 use borrow.Author.Needs.{needs}
 use lib.Bits.{bitXor}
-use lib.ListN.{length, drop}
+use lib.ListN.{length}
 use Rattle.crc.specs.Inner.{then}
-use Rattle.crc.proofs.Numbers.{behind-same}
 use Rattle.crc.proofs.Starts.{of-many}
 use Rattle.crc.proofs.Loops.{two-more}
 use Rattle.crc.proofs.by_length.of_many.Statement.{statement}
@@ -21,19 +20,18 @@ returns c =
     let start = first .before .before in
     let s = start .args .s .now in
     let k = length s % 8 in
-    let begun = then (bitXor (first .first .result) (early .early .result)) (bitXor (word .word .result) (late .late .result * 2 ^ 48 % 2 ^ 64)) in
     c .register .ensures
     ∙ of-many (start .args .start) s (omega (arith, start .fits)) (λ i. first .before .shared-slice-known .given i .fits) k (omega (arith, start .pre))
-    (c .before .climbed-all .result)
+    (c .before .one-of .result)
     (first .first .ensures)
     (early .early .ensures)
     (word .word .ensures)
     (late .late .ensures)
-    (c .before .climbed-all .ensures ∙ behind-same (drop (k + 8) s) (c .before .before .climbed .result) begun (c .before .before .climbed .ensures))
+    (c .before .one-of .ensures ∙ c .before .before .stepped-all .ensures)
 
 returns-2 : tie.Need-returns-2
 returns-2 c =
-    let third = c .before .before .before in
+    let third = c .before .before .before .before in
     let second = third .before in
     let late = second .before .before in
     let word = late .before in
@@ -46,13 +44,14 @@ returns-2 c =
     let whole : (length s - (k + 8)) % 8 ≡ 0 = omega (arith, start .pre) in
     c .register2 .ensures
     ∙ of-many (start .args .start) s (omega (arith, start .fits)) (λ i. first .before .shared-slice-known .given i .fits) k (omega (arith, start .pre))
-    (c .before .one-of .result)
+    (c .before .one-of2 .result)
     (first .first .ensures)
     (early .early .ensures)
     (word .word .ensures)
     (late .late .ensures)
-    (c .before .one-of .ensures
-    ∙ c .before .before .turned-all .ensures
+    (c .before .one-of2 .ensures
+    ∙ c .before .before .two-of .ensures
+    ∙ c .before .before .before .turned-all .ensures
     ∙ two-more begun s (k + 8) whole (omega (arith, start .pre, second .before .if1 .left)) (second .word2 .ensures) (third .word3 .ensures))
 
 pub of-many-spec : {M : Type 1} → statement M
@@ -74,6 +73,7 @@ of-many-spec =
     (λ c. search needs)
     (λ c κs. search needs)
     (λ c. search needs)
+    (λ c κs. search needs)
     (λ c κs. search needs)
     (λ c κs. search needs)
     (λ c κs. search needs)

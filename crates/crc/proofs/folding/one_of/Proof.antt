@@ -1,18 +1,18 @@
--- `crc::folding::one_of` meets its contract: each word behind a number that leaves the same.
-use mathlib.Core.Path.{_∙_}
+-- `crc::folding::one_of` meets its contract: a word is added to a number that leaves the same.
+use mathlib.Core.Path.{sym, ap, _∙_}
+use Prim.Native.Nat.{ℕ, _*_, _^_}
 use borrow.Author.Needs.{needs}
-use Rattle.crc.specs.Inner.{then}
-use Rattle.crc.proofs.Folded.{then-same}
+use lib.Bits.{bitXor}
+use Rattle.crc.specs.Inner.{rest}
+use Rattle.crc.proofs.Rest.{rest-xor}
 use Rattle.crc.proofs.folding.one_of.Statement.{statement}
 use Rattle.crc.proofs.folding.one_of.Tie as tie
 
 returns : tie.Need-returns
 returns c =
-    let x = c .before .before .before .args .x in
-    let first = c .before .before .climbed in
-    let second = c .before .climbed2 in
-    c .climbed3 .ensures
-    ∙ then-same (x .d) (second .result) (then (then (x .a) (x .b)) (x .c)) (second .ensures ∙ then-same (x .c) (first .result) (then (x .a) (x .b)) (first .ensures))
+    let x = c .before .before .args .x in
+    let up = c .before .moved-up in
+    rest-xor (up .result) (x .b) ∙ ap (λ (y : ℕ). bitXor y (rest (x .b))) (up .ensures) ∙ sym (rest-xor (x .a * 2 ^ 64) (x .b))
 
 pub one-of-spec : {M : Type 1} → statement M
-one-of-spec = tie.close (tie.spec (λ c κs. search needs) (λ c κs. search needs) (λ c κs. search needs) returns)
+one-of-spec = tie.close (tie.spec (λ c κs. search needs) returns)
