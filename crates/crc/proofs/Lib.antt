@@ -9,6 +9,7 @@ pub mod Numbers
 pub mod Starts
 pub mod Words
 pub mod Folded
+pub mod Quotients
 pub mod Loops
 pub mod Remainders
 pub mod Calls

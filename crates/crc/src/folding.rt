@@ -48,7 +48,7 @@ pub(crate) struct Pair {
     pub(crate) b: u64,
 }
 
-// A word more, at s = 8: l is what has to fall out, so that nothing does 128 bits up. It goes 96, 40 and 0 bits up.
+// A word more, at s = 8: what falls out, 128 bits up, goes 96, 40 and 0 bits up. Half of it would then be 128 bits up once more: l counts that in.
 fn stepped(x: Pair, w: u64) -> Pair
     ensures { λ r. ⌜ rest (then (r .a) (r .b)) ≡ rest (then (then (x .a) (x .b)) w) ⌝ }
 {
@@ -59,7 +59,7 @@ fn stepped(x: Pair, w: u64) -> Pair
     }
 }
 
-// Two words, and all that come after: a turn waits longer than with four, but there are not four to be brought together.
+// Two words, and all that come after. A turn waits longer than one of four words does, but no four are brought together at the end.
 pub(crate) fn stepped_all(x: Pair, s: &[u8], from: usize) -> Pair
     requires { ⌜ (from ≤ length (now s)) × ((length (now s) - from) % 8 ≡ 0) ⌝ }
     ensures { λ r. ⌜ rest (then (r .a) (r .b)) ≡ rest (behind (then (x .a) (x .b)) (drop from (now (s .entry)))) ⌝ }

@@ -1,6 +1,6 @@
 -- `crc::folding::divided` meets its contract.
 use native.Mathlib.Omega.{arith}
-use Rattle.crc.proofs.Folded.{divided-is}
+use Rattle.crc.proofs.Quotients.{divided-is}
 use Rattle.crc.proofs.folding.divided.Statement.{statement}
 use Rattle.crc.proofs.folding.divided.Tie as tie
 

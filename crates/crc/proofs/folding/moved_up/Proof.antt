@@ -1,6 +1,6 @@
 -- `crc::folding::moved_up` meets its contract.
 use borrow.Author.Needs.{needs}
-use Rattle.crc.proofs.Folded.{moved-is}
+use Rattle.crc.proofs.Quotients.{moved-is}
 use Rattle.crc.proofs.folding.moved_up.Statement.{statement}
 use Rattle.crc.proofs.folding.moved_up.Tie as tie
 

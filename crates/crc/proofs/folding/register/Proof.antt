@@ -1,6 +1,6 @@
 -- `crc::folding::register` meets its contract.
 use borrow.Author.Needs.{needs}
-use Rattle.crc.proofs.Folded.{register-is}
+use Rattle.crc.proofs.Quotients.{register-is}
 use Rattle.crc.proofs.folding.register.Statement.{statement}
 use Rattle.crc.proofs.folding.register.Tie as tie
 
