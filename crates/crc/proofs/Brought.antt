@@ -1,10 +1,11 @@
 -- A number 16 s bits up, brought back to 16 s bits: q times the polynomial at s leaves nothing, and above bit 16 s it is the number.
 use mathlib.Core.Path.{_≡_, sym, ap, ap₂, _∙_}
-use Prim.Native.Nat.{ℕ, _+_, _*_, _/_, _%_, _^_}
-use native.Mathlib.Nat.{add-comm}
+use Prim.Native.Nat.{ℕ, _+_, _*_, _/_, _%_, _^_, _≤_, _<_}
+use native.Mathlib.Nat.{add-comm, div-eq-of-lt, lt-of-lt-of-le, lt-of-le-of-lt}
 use native.Mathlib.Omega.{arith}
-use lib.Bits.{bitXor, xor-comm, xor-shr}
-use lib.Pow.{shr-shr, shl-shr}
+use lib.Bits.{bitXor, xor-comm, xor-shr, xor-zero-r}
+use lib.Dec.{lit≤}
+use lib.Pow.{pow-mono, shr-le, shr-shr, shl-shr}
 use Rattle.crc.specs.Inner.{rest, above}
 use Rattle.crc.proofs.Xor.{xor-assoc, xor-left, xor-back}
 use Rattle.crc.proofs.Rest.{rest-xor, at, at-xor, rest-cut}
@@ -43,6 +44,26 @@ above-twice s q =
   where
     n : ℕ → ℕ
     n k = q / 2 ^ k
+
+-- ---- of a word of 64 bits: nothing of it is above bit 64, so that at s = 16 it stays as it is
+
+pub none-left : (r k : ℕ) → r < 2 ^ 64 → 64 ≤ k → r / 2 ^ k ≡ 0
+none-left r k h g = div-eq-of-lt (lt-of-lt-of-le h (pow-mono g))
+
+pub down-fits : (r k : ℕ) → r < 2 ^ 64 → r / 2 ^ k < 2 ^ 64
+down-fits r k h = lt-of-le-of-lt (shr-le r k) h
+
+pub above-16 : (r : ℕ) → r < 2 ^ 64 → above 16 r ≡ r
+unfolding above
+above-16 r h =
+    ap (bitXor r) (ap₂ bitXor (none-left r 64 h (lit≤ tt)) (ap₂ bitXor (none-left r 176 h (lit≤ tt)) (none-left r 256 h (lit≤ tt))))
+    ∙ xor-zero-r r
+
+pub above-8 : (r : ℕ) → r < 2 ^ 64 → bitXor r (r / 2 ^ 32) ≡ above 8 r
+unfolding above
+above-8 r h =
+    let none : bitXor (r / 2 ^ 88) (r / 2 ^ 128) ≡ 0 = ap₂ bitXor (none-left r 88 h (lit≤ tt)) (none-left r 128 h (lit≤ tt)) in
+    sym (ap (λ (x : ℕ). bitXor r x) (ap (bitXor (r / 2 ^ 32)) none ∙ xor-zero-r (r / 2 ^ 32)))
 
 -- ---- the number that stands 16 s bits up is what is above; so it leaves what is below
 

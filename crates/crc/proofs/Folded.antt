@@ -1,15 +1,12 @@
 -- Words folded: what falls out of four, at s = 16, and of two, at s = 8, added where it belongs.
 use mathlib.Core.Path.{_≡_, sym, ap, ap₂, _∙_}
-use Prim.Native.Nat.{ℕ, _+_, _*_, _/_, _%_, _^_, _≤_, _<_}
-use native.Mathlib.Nat.{div-eq-of-lt, lt-of-lt-of-le}
-use lib.Bits.{bitXor, xor-comm, xor-self, xor-shr, xor-zero-r}
-use lib.Dec.{lit≤}
-use lib.Pow.{pow-mono, shr-shr}
+use Prim.Native.Nat.{ℕ, _+_, _*_, _/_, _%_, _^_, _<_}
+use lib.Bits.{bitXor, xor-comm, xor-lt}
 use Rattle.crc.specs.Inner.{rest, then, above}
 use Rattle.crc.proofs.Xor.{xor-assoc, xor-left, xor-back}
 use Rattle.crc.proofs.Rest.{rest-xor, at, at-xor, at-up, at-cut, at-same, rest-cut}
 use Rattle.crc.proofs.Turning.{turned-down, turning-8, turning-16}
-use Rattle.crc.proofs.Brought.{added, part-up}
+use Rattle.crc.proofs.Brought.{down-fits, above-8, above-16, above-twice, part-up}
 
 -- ---- a word behind a number
 
@@ -56,10 +53,6 @@ turned-is a b c d w =
     ∙ regroup (rest a) (at b 192) (at c 128) (at d 64) (rest w) (at a 192) (at h 128) (at l 64)
     ∙ sym (five a b c d w ∙ ap (λ (x : ℕ). bitXor (bitXor (bitXor (bitXor x (at b 192)) (at c 128)) (at d 64)) (rest w)) (falls a))
 
--- nothing of a word is above bit 64
-pub none-left : (r k : ℕ) → r < 2 ^ 64 → 64 ≤ k → r / 2 ^ k ≡ 0
-none-left r k h g = div-eq-of-lt (lt-of-lt-of-le h (pow-mono g))
-
 -- ---- the step: what is 128 bits up, without what of it falls out again
 
 module _ (a : ℕ) (h : a < 2 ^ 64) where
@@ -68,10 +61,10 @@ module _ (a : ℕ) (h : a < 2 ^ 64) where
 
   all-of : bitXor l (l / 2 ^ 32) ≡ a
   all-of =
-      ap (bitXor l) (xor-shr a (a / 2 ^ 32) 32 ∙ ap (bitXor (a / 2 ^ 32)) (shr-shr a 32 32 ∙ none-left a 64 h (lit≤ tt)) ∙ xor-zero-r (a / 2 ^ 32))
-      ∙ xor-assoc a (a / 2 ^ 32) (a / 2 ^ 32)
-      ∙ ap (bitXor a) (xor-self (a / 2 ^ 32))
-      ∙ xor-zero-r a
+      above-8 l (xor-lt 64 a (a / 2 ^ 32) h (down-fits a 32 h))
+      ∙ ap (above 8) (above-8 a h)
+      ∙ above-twice 8 a
+      ∙ above-16 a h
 
   goes : at a 128 ≡ bitXor (at (l * 2 ^ 32 % 2 ^ 64) 64) (bitXor (bitXor (at (l / 2 ^ 24) 64) (rest (l * 2 ^ 40 % 2 ^ 64))) (rest l))
   goes =

@@ -44,6 +44,16 @@ module _ (start : ℕ) (s : List ℕ) (from : ℕ) where
   unfolding behind
   going-all {n} {i} h all = sym (ap (λ (l : List ℕ). rest (behind n l)) (drop-of-length-le s all)) ∙ h .same
 
+-- no word is left, or one is
+module _ (n : ℕ) (s : List ℕ) (from : ℕ) where
+  pub none-more : from ≤ length s → (length s - from) % 8 ≡ 0 → length s ≤ from → rest n ≡ rest (behind n (drop from s))
+  none-more inside words all = going-all n s from (going-none n s from inside words) all
+
+  pub one-more : {v : ℕ} → (length s - from) % 8 ≡ 0 → from < length s → length s ≤ from + 8 → v ≡ numberOf (take 8 (drop from s))
+      → rest (then n v) ≡ rest (behind n (drop from s))
+  one-more {v} words more all hv =
+      going-all n s from (going-more n s from (going-none n s from (omega arith) words) more (ap (λ (x : ℕ). rest (then n x)) hv)) all
+
 -- two words taken at once
 pub two-more : (n : ℕ) (s : List ℕ) (from : ℕ) {v w : ℕ} → (length s - from) % 8 ≡ 0 → from + 16 ≤ length s
     → v ≡ numberOf (take 8 (drop from s))

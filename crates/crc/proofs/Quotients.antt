@@ -1,30 +1,17 @@
 -- A word divided by the polynomial: moved up by its own width, and brought to the register.
 use mathlib.Core.Path.{_≡_, sym, ap, ap₂, _∙_}
 use Prim.Native.Nat.{ℕ, _*_, _/_, _%_, _^_, _≤_, _<_}
-use native.Mathlib.Nat.{mod-eq-of-lt, mod-lt, zero-lt-suc, lt-of-le-of-lt}
+use native.Mathlib.Nat.{mod-eq-of-lt, mod-lt, zero-lt-suc}
 use lib.Bits.{bitXor, xor-lt, xor-mod, xor-zero-r}
 use lib.Dec.{lit≤}
-use lib.Pow.{mod-mod-pow, shr-le}
+use lib.Pow.{mod-mod-pow}
 use Rattle.crc.specs.Inner.{rest, above}
 use Rattle.crc.proofs.Xor.{xor-assoc}
 use Rattle.crc.proofs.Rest.{rest-small, at}
 use Rattle.crc.proofs.Turning.{turning-1, turning-4}
-use Rattle.crc.proofs.Folded.{none-left}
-use Rattle.crc.proofs.Brought.{added, above-twice, brought}
+use Rattle.crc.proofs.Brought.{none-left, down-fits, above-8, above-16, added, above-twice, brought}
 
--- ---- a word of 64 bits, divided by the polynomial at s = 8, 4, 2, 1: each undoes the one before it, and s = 16 leaves it as it is
-
-above-16 : (r : ℕ) → r < 2 ^ 64 → above 16 r ≡ r
-unfolding above
-above-16 r h =
-    ap (bitXor r) (ap₂ bitXor (none-left r 64 h (lit≤ tt)) (ap₂ bitXor (none-left r 176 h (lit≤ tt)) (none-left r 256 h (lit≤ tt))))
-    ∙ xor-zero-r r
-
-above-8 : (r : ℕ) → r < 2 ^ 64 → bitXor r (r / 2 ^ 32) ≡ above 8 r
-unfolding above
-above-8 r h =
-    let none : bitXor (r / 2 ^ 88) (r / 2 ^ 128) ≡ 0 = ap₂ bitXor (none-left r 88 h (lit≤ tt)) (none-left r 128 h (lit≤ tt)) in
-    sym (ap (λ (x : ℕ). bitXor r x) (ap (bitXor (r / 2 ^ 32)) none ∙ xor-zero-r (r / 2 ^ 32)))
+-- ---- what stands above, as the code has it
 
 above-4 : (t : ℕ) → t < 2 ^ 64 → bitXor (bitXor t (t / 2 ^ 16)) (t / 2 ^ 44) ≡ above 4 t
 unfolding above
@@ -36,9 +23,6 @@ above-all : (s u : ℕ) → bitXor (bitXor (bitXor u (u / 2 ^ (4 * s))) (u / 2 ^
 unfolding above
 above-all s u =
     xor-assoc (bitXor u (u / 2 ^ (4 * s))) (u / 2 ^ (11 * s)) (u / 2 ^ (16 * s)) ∙ xor-assoc u (u / 2 ^ (4 * s)) (bitXor (u / 2 ^ (11 * s)) (u / 2 ^ (16 * s)))
-
-down-fits : (r k : ℕ) → r < 2 ^ 64 → r / 2 ^ k < 2 ^ 64
-down-fits r k h = lt-of-le-of-lt (shr-le r k) h
 
 -- the lowest bits of what is added, term by term
 low : (a b q k : ℕ) → bitXor a (bitXor b q) % 2 ^ k ≡ bitXor (bitXor (a % 2 ^ k) (b % 2 ^ k)) (q % 2 ^ k)

@@ -1,5 +1,4 @@
--- T^(16 s) = T^(12 s) + T^(5 s) + 1 for every power of two s, said of what numbers leave; and with it a number 16 s bits up brought back to
--- fewer than 16 s bits.
+-- T^(16 s) = T^(12 s) + T^(5 s) + 1 for every power of two s, said of what numbers leave.
 use mathlib.Core.Path.{_≡_, refl, sym, ap, ap₂, _∙_}
 use Prim.Native.Nat.{ℕ, _+_, _*_, _/_, _%_, _^_}
 use native.Mathlib.Nat.{zero-add, mul-one, div-add-mod'}

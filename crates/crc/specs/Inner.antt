@@ -5,7 +5,7 @@ use lib.Bits.{bitXor}
 use Rattle.crc.specs.Crc.{bitStep}
 use Rattle.crc.specs.declared.folding.Words.{Words}
 
--- the number that n makes with bytes behind it
+-- `withBytes` (Remainder.antt) with xor for the sum, so that laws need no bound on the bytes; of bytes the two are equal
 unfoldable pub behind : ℕ → List ℕ → ℕ
 behind n [] = n
 behind n (b ∷ s) = behind (bitXor (n * 256) b) s

@@ -7,6 +7,7 @@ use lib.Bits.{bitXor}
 use lib.ListN.{length, getD}
 use Rattle.crc.specs.Crc.{crcFrom}
 
+-- what a lent slice of u8 holds; stated here, so that `crc` rests on no other crate
 abbrev pub Bytes : List ℕ → Type 0
 Bytes s = (i : ℕ) → getD s i 0 < 256
 

@@ -12,7 +12,7 @@ use crate::folding::Pair;
 use crate::folding::Words;
 use crate::folding::one_of;
 use crate::folding::register;
-use crate::folding::stepped_all;
+use crate::folding::stepped;
 use crate::folding::turned_all;
 use crate::folding::two_of;
 
@@ -25,7 +25,7 @@ pub(crate) fn of_few(start: u16, s: &[u8]) -> u16
     register(few(s) ^ early(start, k)) ^ late(start, k)
 }
 
-// Of more, the first n % 8 make the first word, so that the others are whole. Fewer than four words go by two.
+// Of more, the first n % 8 make the first word, so that the others are whole. Two words or three are done without four.
 pub(crate) fn of_many(start: u16, s: &[u8]) -> u16
     requires { ⌜ 8 ≤ length (now s) ⌝ }
     ensures { λ r. ⌜ r ≡ crcFrom start (now (s .entry)) ⌝ }
@@ -36,7 +36,10 @@ pub(crate) fn of_many(start: u16, s: &[u8]) -> u16
     let from = k + 8;
     if s.len() - from < 16 {
         let two = Pair { a, b };
-        return register(one_of(stepped_all(two, s, from)));
+        if from < s.len() {
+            return register(one_of(stepped(two, word(s, from))));
+        }
+        return register(one_of(two));
     }
     let four = Words {
         a,

@@ -13,15 +13,20 @@ fn pair(s: &[u8], i: usize) -> u64
     (high as u64) * 256 + (low as u64)
 }
 
-// Eight bytes. As one flat sum of pairs they are one load.
+// Four pairs. As one flat sum of pairs eight bytes are one load.
+fn of_pairs(p: u64, q: u64, r: u64, t: u64) -> u64
+    requires { ⌜ (p < 65536) × (q < 65536) × (r < 65536) × (t < 65536) ⌝ }
+    ensures { λ n. ⌜ n ≡ p * 281474976710656 + q * 4294967296 + r * 65536 + t ⌝ }
+{
+    p * 0x1_0000_0000_0000 + q * 0x1_0000_0000 + r * 0x1_0000 + t
+}
+
+// Eight bytes.
 pub(crate) fn word(s: &[u8], i: usize) -> u64
     requires { ⌜ i + 8 ≤ length (now s) ⌝ }
     ensures { λ r. ⌜ r ≡ numberOf (take 8 (drop i (now (s .entry)))) ⌝ }
 {
-    pair(s, i) * 0x1_0000_0000_0000
-        + pair(s, i + 2) * 0x1_0000_0000
-        + pair(s, i + 4) * 0x1_0000
-        + pair(s, i + 6)
+    of_pairs(pair(s, i), pair(s, i + 2), pair(s, i + 4), pair(s, i + 6))
 }
 
 // Fewer than eight bytes.
@@ -38,7 +43,8 @@ pub(crate) fn few(s: &[u8]) -> u64
     n
 }
 
-// The first k of eight bytes or more, k below 8. A shift that is never below 8 in one step leaves what is read one load.
+// The first k of eight bytes or more, k below 8. 0 is set apart, as the shift would be by 64; with two shifts instead of one the back end reads
+// seven single bytes and no word.
 pub(crate) fn first(s: &[u8], k: usize) -> u64
     requires { ⌜ (8 ≤ length (now s)) × (k < 8) ⌝ }
     ensures { λ r. ⌜ r ≡ numberOf (take k (now (s .entry))) ⌝ }
@@ -49,7 +55,8 @@ pub(crate) fn first(s: &[u8], k: usize) -> u64
     word(s, 0) >> (64 - 8 * k)
 }
 
-// What a start adds to the first k bytes, and what is left of it for the two after them.
+// What a start adds to the first k bytes, and what is left of it for the two after them. It is moved up by 40 first, so that one shift down does
+// for every k.
 pub(crate) fn early(start: u16, k: usize) -> u64
     requires { ⌜ k < 8 ⌝ }
     ensures { λ r. ⌜ r ≡ start * 2 ^ (8 * k) / 65536 ⌝ }

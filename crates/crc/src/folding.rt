@@ -48,8 +48,9 @@ pub(crate) struct Pair {
     pub(crate) b: u64,
 }
 
-// A word more, at s = 8: what falls out, 128 bits up, goes 96, 40 and 0 bits up. Half of it would then be 128 bits up once more: l counts that in.
-fn stepped(x: Pair, w: u64) -> Pair
+// A word more, at s = 8: what falls out, 128 bits up, goes 96, 40 and 0 bits up. From 96 bits up its upper half stands 128 bits up once more: l
+// has that half added before, so that the two cancel.
+pub(crate) fn stepped(x: Pair, w: u64) -> Pair
     ensures { λ r. ⌜ rest (then (r .a) (r .b)) ≡ rest (then (then (x .a) (x .b)) w) ⌝ }
 {
     let l = x.a ^ (x.a >> 32);
@@ -59,20 +60,7 @@ fn stepped(x: Pair, w: u64) -> Pair
     }
 }
 
-// Two words, and all that come after. A turn waits longer than one of four words does, but no four are brought together at the end.
-pub(crate) fn stepped_all(x: Pair, s: &[u8], from: usize) -> Pair
-    requires { ⌜ (from ≤ length (now s)) × ((length (now s) - from) % 8 ≡ 0) ⌝ }
-    ensures { λ r. ⌜ rest (then (r .a) (r .b)) ≡ rest (behind (then (x .a) (x .b)) (drop from (now (s .entry)))) ⌝ }
-{
-    let mut two = x;
-    let mut i = from;
-    while i < s.len() {
-        two = stepped(two, word(s, i));
-        i += 8;
-    }
-    two
-}
-
+// Four words as two.
 pub(crate) fn two_of(x: Words) -> Pair
     ensures { λ r. ⌜ rest (then (r .a) (r .b)) ≡ rest (joined x) ⌝ }
 {
@@ -88,7 +76,7 @@ fn divided(r: u64) -> u64
     t ^ (t >> 16) ^ (t >> 44)
 }
 
-// A number 64 bits up as one word: what the same has below bit 64.
+// A number 64 bits up as one word: what the quotient times the polynomial has below bit 64.
 fn moved_up(r: u64) -> u64
     ensures { λ x. ⌜ rest x ≡ rest (r * 2 ^ 64) ⌝ }
 {
@@ -96,13 +84,14 @@ fn moved_up(r: u64) -> u64
     (q << 48) ^ (q << 20) ^ q
 }
 
+// Two words as one.
 pub(crate) fn one_of(x: Pair) -> u64
     ensures { λ r. ⌜ rest r ≡ rest (then (x .a) (x .b)) ⌝ }
 {
     moved_up(x.a) ^ x.b
 }
 
-// What a word leaves in the register, which stands 16 bits up: the same at s = 1.
+// What a word leaves in the register, 16 bits up: divided at s = 2 and 1 as well, and then what stands below bit 16.
 pub(crate) fn register(r: u64) -> u16
     ensures { λ x. ⌜ x ≡ rest (r * 65536) ⌝ }
 {

@@ -11,6 +11,7 @@ use crate::step::Frame;
 use crate::step::JUNK;
 use crate::step::SHORT;
 use crate::step::Seen;
+use crate::step::no_frame;
 use crate::step::seen_at;
 
 // The bytes in frames, and those passed over as junk, bad or short.
@@ -140,16 +141,10 @@ impl Cursor {
     fn stopped(self, number: u8, needed: usize) -> Reached
         ensures { λ r. ⌜ r ≡ record { number = number; needed = needed; frame = noFrame; cursor = self } ⌝ }
     {
-        let frame = Frame {
-            at: 0,
-            kind: 0,
-            sender: 0,
-            length: 0,
-        };
         Reached {
             number,
             needed,
-            frame,
+            frame: no_frame(),
             cursor: self,
         }
     }
@@ -162,6 +157,7 @@ impl Cursor {
         let frame = seen.frame;
         match what {
             FINISHED => self.stopped(1, 0),
+            // junk and bad are passed over and never stand here; the definition gives them the end
             JUNK => self.stopped(1, 0),
             SHORT => self.stopped(2, seen.needed),
             BAD => self.stopped(1, 0),
@@ -192,8 +188,8 @@ impl Cursor {
         }
     }
 
-    // The next frame of the reading, or its end. Mostly a frame stands right here: seen before the loop it costs no call, as the compiler puts a
-    // function that is called once into its caller. So `next` asks the loop.
+    // The next frame of the reading, or its end. Mostly a frame stands right here, so the first step is looked at before the loop. `next` asks
+    // `search`, not this: with one caller, `reach` is compiled into it.
     pub fn reach(self, s: &[u8]) -> Reached
         ensures { λ r. ⌜ r ≡ reachedIn (nextOf (now (s .entry)) self) ⌝ }
     {

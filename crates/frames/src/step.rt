@@ -40,19 +40,25 @@ pub(crate) const BAD: u8 = 3;
 
 const FOUND: u8 = 4;
 
-fn without_frame(what: u8, needed: usize) -> Seen
-    ensures { λ r. ⌜ r ≡ record { what = what; needed = needed; frame = noFrame } ⌝ }
+// Where none was found.
+pub(crate) fn no_frame() -> Frame
+    ensures { λ r. ⌜ r ≡ noFrame ⌝ }
 {
-    let frame = Frame {
+    Frame {
         at: 0,
         kind: 0,
         sender: 0,
         length: 0,
-    };
+    }
+}
+
+fn without_frame(what: u8, needed: usize) -> Seen
+    ensures { λ r. ⌜ r ≡ record { what = what; needed = needed; frame = noFrame } ⌝ }
+{
     Seen {
         what,
         needed,
-        frame,
+        frame: no_frame(),
     }
 }
 
