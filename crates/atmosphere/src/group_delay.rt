@@ -10,7 +10,7 @@ use frame_writer::Written;
 use parts::{TimeOfWeek, time_of_week};
 use senders::Writer;
 
-#[derive(Drop)]
+#[derive(Clone, Copy)]
 pub struct GroupDelay {
     pub t_op: TimeOfWeek,
     pub prn: u8,
@@ -20,7 +20,7 @@ pub struct GroupDelay {
     pub isc_l2c: i16,
 }
 
-#[derive(Drop)]
+#[derive(Clone, Copy)]
 pub enum GroupDelayRead {
     Record(GroupDelay),
     Refused(u8),

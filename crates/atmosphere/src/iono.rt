@@ -13,7 +13,7 @@ use senders::Writer;
 use wire::Double;
 
 // 003's a0 to a3, or b0 to b3.
-#[derive(Drop)]
+#[derive(Clone, Copy)]
 pub struct Cubic {
     pub c0: Double,
     pub c1: Double,
@@ -21,14 +21,14 @@ pub struct Cubic {
     pub c3: Double,
 }
 
-#[derive(Drop)]
+#[derive(Clone, Copy)]
 pub struct Iono {
     pub t_nmct: TimeOfWeek,
     pub a: Cubic,
     pub b: Cubic,
 }
 
-#[derive(Drop)]
+#[derive(Clone, Copy)]
 pub enum IonoRead {
     Record(Iono),
     Refused(u8),

@@ -10,13 +10,13 @@ use frame_writer::Written;
 use parts::{TimeOfWeek, time_of_week};
 use senders::Writer;
 
-#[derive(Drop)]
+#[derive(Clone, Copy)]
 pub struct SvConfigurationGps {
     pub t_nmct: TimeOfWeek,
     pub l2c_mask: u32,
 }
 
-#[derive(Drop)]
+#[derive(Clone, Copy)]
 pub enum SvConfigurationGpsRead {
     Record(SvConfigurationGps),
     Refused(u8),

@@ -10,14 +10,14 @@ use frame_writer::Written;
 use senders::Writer;
 use wire::Double;
 
-#[derive(Drop)]
+#[derive(Clone, Copy)]
 pub struct BasePosEcef {
     pub x: Double,
     pub y: Double,
     pub z: Double,
 }
 
-#[derive(Drop)]
+#[derive(Clone, Copy)]
 pub enum BasePosEcefRead {
     Record(BasePosEcef),
     Refused(u8),

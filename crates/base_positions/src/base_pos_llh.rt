@@ -10,14 +10,14 @@ use frame_writer::Written;
 use senders::Writer;
 use wire::Double;
 
-#[derive(Drop)]
+#[derive(Clone, Copy)]
 pub struct BasePosLlh {
     pub lat: Double,
     pub lon: Double,
     pub height: Double,
 }
 
-#[derive(Drop)]
+#[derive(Clone, Copy)]
 pub enum BasePosLlhRead {
     Record(BasePosLlh),
     Refused(u8),

@@ -1,4 +1,6 @@
 // The two base positions of 003, section 6.3: records, readers and writers. Read specs/BasePosLlh.antt and specs/BasePosEcef.antt.
+#![tactic(auto)]
+
 mod base_pos_ecef;
 mod base_pos_llh;
 

@@ -10,7 +10,7 @@ use flags::fix_allowed;
 use frame_writer::Written;
 use senders::Writer;
 
-#[derive(Drop)]
+#[derive(Clone, Copy)]
 pub struct EcefVector {
     pub tow: u32,
     pub x: i32,
@@ -21,7 +21,7 @@ pub struct EcefVector {
     pub flags: u8,
 }
 
-#[derive(Drop)]
+#[derive(Clone, Copy)]
 pub enum EcefVectorRead {
     Record(EcefVector),
     Refused(u8),

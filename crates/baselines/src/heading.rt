@@ -10,7 +10,7 @@ use flags::fix_allowed;
 use frame_writer::Written;
 use senders::Writer;
 
-#[derive(Drop)]
+#[derive(Clone, Copy)]
 pub struct BaselineHeading {
     pub tow: u32,
     pub heading: u32,
@@ -18,7 +18,7 @@ pub struct BaselineHeading {
     pub flags: u8,
 }
 
-#[derive(Drop)]
+#[derive(Clone, Copy)]
 pub enum BaselineHeadingRead {
     Record(BaselineHeading),
     Refused(u8),

@@ -1,5 +1,7 @@
 // The baselines, velocities and heading of 003, section 6.2: records, readers and writers.
 // Read the description of each message in specs/, which reads like its line of document 01.
+#![tactic(auto)]
+
 mod ecef;
 mod heading;
 mod ned;

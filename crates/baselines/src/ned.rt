@@ -10,7 +10,7 @@ use flags::fix_allowed;
 use frame_writer::Written;
 use senders::Writer;
 
-#[derive(Drop)]
+#[derive(Clone, Copy)]
 pub struct NedVector {
     pub tow: u32,
     pub n: i32,
@@ -22,7 +22,7 @@ pub struct NedVector {
     pub flags: u8,
 }
 
-#[derive(Drop)]
+#[derive(Clone, Copy)]
 pub enum NedVectorRead {
     Record(NedVector),
     Refused(u8),

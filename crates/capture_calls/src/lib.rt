@@ -1,2 +1,3 @@
 // Captures read, collated and listed, observations stepped through, phases and flags: each call does what is promised of it, by its own contract.
 // Nothing runs here. Read specs/CaptureCalls.antt.
+#![tactic(auto)]

@@ -6,7 +6,7 @@ use epochs::{Collator, Happened, Made, Seat, seat_of};
 use frames::{Cursor, Next};
 
 // The number is 0, or the roster's 41 or 42; then the end state, and how many epochs each place reported.
-#[derive(Drop)]
+#[derive(Clone, Copy)]
 pub struct Collated {
     pub number: u8,
     pub collator: Collator,

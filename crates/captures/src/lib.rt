@@ -1,4 +1,6 @@
 // A whole capture, read closed and fed frame by frame to a fresh collator. Read specs/Capture.antt.
+#![tactic(auto)]
+
 mod capturing;
 
 pub use capturing::{Collated, collate};

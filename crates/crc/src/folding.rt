@@ -7,7 +7,7 @@ ghost use Rattle.crc.specs.Inner.{behind, rest, then, joined, above};
 use crate::bytes::word;
 
 // The last words of a number, the highest first.
-#[derive(Drop)]
+#[derive(Clone, Copy)]
 pub(crate) struct Words {
     pub(crate) a: u64,
     pub(crate) b: u64,
@@ -43,7 +43,7 @@ pub(crate) fn turned_all(x: Words, s: &[u8], from: usize) -> Words
 }
 
 // The last two words of a number.
-#[derive(Drop)]
+#[derive(Clone, Copy)]
 pub(crate) struct Pair {
     pub(crate) a: u64,
     pub(crate) b: u64,

@@ -2,6 +2,8 @@
 // fold over the bytes.
 // The code has no table. It takes the bytes for one number, eight of them at a time, and works out what that number leaves in the register:
 // bytes.rt makes words of bytes, folding.rt makes one word of many that leaves the same, by_length.rt says how many there are.
+#![tactic(auto)]
+
 ghost use Rattle.std.specs.Prelude.{◌≡◌, ◌++◌};
 ghost use Rattle.crc.specs.Crc.{crc_from};
 

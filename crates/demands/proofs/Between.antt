@@ -12,7 +12,7 @@ use Rattle.frames.specs.Reading.{Positioned, stops, read_from, frames_of}
 use Rattle.frames.specs.declared.step.Step.{Step}
 use Rattle.frames.specs.declared.step.Step.TheVariants.{Junk}
 use Rattle.frames.proofs.Readings.{go_at}
-use Rattle.frame_writer.proofs.Written.{length-frame}
+use Rattle.frame_writer.proofs.WrittenFrames.{length-frame}
 use Rattle.frame_writer.proofs.WrittenRead.{payload_back_at}
 use Rattle.frame_writer.proofs.WrittenStream.{past_written}
 use Rattle.epochs.specs.Epoch.{content_in, contents_of}

@@ -1,6 +1,8 @@
 // A collator whose roster takes senders as they come, the first eight different ones of observation frames.
 // Read specs/FirstEight.antt (who they are, in document 01's words) and specs/Enlisting.antt (how they come to their seats, and that it makes no
 // difference to a collator that was made of them) first.
+#![tactic(auto)]
+
 ghost use Rattle.std.specs.Prelude.{◌≡◌};
 ghost use Rattle.enlisting.specs.Enlisting.{new_seat, joined_to, enlisted_to};
 

@@ -9,13 +9,13 @@ use groups::{Answered, Ended, Group};
 use packets::Packet;
 
 // A listed sender's place: idle, or an open group.
-#[derive(Drop)]
+#[derive(Clone, Copy)]
 pub struct Place {
     pub group: Group,
 }
 
 // The senders are the first count of the roster, and place i is that of sender i.
-#[derive(Drop)]
+#[derive(Clone, Copy)]
 pub struct Collator {
     pub places: [Place; 8],
     pub roster: [u16; 8],
@@ -23,7 +23,7 @@ pub struct Collator {
 }
 
 // A whole epoch: its sender, its time, how many packets and how many observations.
-#[derive(Drop)]
+#[derive(Clone, Copy)]
 pub struct Report {
     pub sender: u16,
     pub wn: u16,
@@ -32,21 +32,21 @@ pub struct Report {
     pub observations: u16,
 }
 
-#[derive(Drop)]
+#[derive(Clone, Copy)]
 pub enum Happened {
     Refused(u8),
     Taken,
     Epoch(Report),
 }
 
-#[derive(Drop)]
+#[derive(Clone, Copy)]
 pub struct Fed {
     pub collator: Collator,
     pub happened: Happened,
 }
 
 // number is 0, or 41 or 42 with a collator that lists nobody.
-#[derive(Drop)]
+#[derive(Clone, Copy)]
 pub struct Made {
     pub collator: Collator,
     pub number: u8,

@@ -6,7 +6,7 @@ use crate::seating::{Seat, seat_of};
 use packets::{Packet, PacketRead};
 
 // A packet for the place of a number, or document 01's number.
-#[derive(Drop)]
+#[derive(Clone, Copy)]
 pub enum Recognised {
     Refused(u8),
     For(usize, Packet),

@@ -3,7 +3,7 @@ ghost use Rattle.std.specs.Prelude.{◌≡◌, min, take, drop};
 ghost use Rattle.epochs.specs.Search.{seat_of};
 
 // The place of a sender on a roster.
-#[derive(Drop)]
+#[derive(Clone, Copy)]
 pub enum Seat {
     At(usize),
     Nowhere,

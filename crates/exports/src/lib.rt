@@ -3,6 +3,8 @@
 // Read specs/Text.antt; what each does is said in `linked_calls`. They only pass calls on: the row of a frame stands in `frame_rows`, flags by
 // type in `flag_numbers`, carrier phases in `phases`, who sends in `frame_writer`, what a collator's bytes are in `states`, what rows of fields
 // are in `row_reader` and `row_writer`.
+#![tactic(auto)]
+
 mod answering;
 mod beating;
 mod collating;

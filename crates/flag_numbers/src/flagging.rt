@@ -7,7 +7,7 @@ ghost use Rattle.flag_numbers.specs.Flagged.{table_for, fix_number, bit_number, 
 use flags::Fix;
 
 // Whose flags a message has. Those of the two positions differ; both baselines and the heading have one table.
-#[derive(Drop)]
+#[derive(Clone, Copy)]
 pub enum Table {
     Ecef,
     Llh,

@@ -3,7 +3,7 @@ ghost use Rattle.std.specs.Prelude.{◌≡◌, ◌%◌};
 ghost use Rattle.flags.specs.Flags.{chosen, ecef_fix, llh_fix, baseline_fix, raim_available, raim_repaired, llh_above_sea, llh_raim_available, llh_raim_repaired};
 
 // Reserved is a mode that the message's table leaves out; a record that was read never has it.
-#[derive(Drop)]
+#[derive(Clone, Copy)]
 pub enum Fix {
     SinglePoint,
     Float,

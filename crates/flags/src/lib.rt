@@ -1,5 +1,7 @@
 // What ranged fields of 003's navigation messages may hold, and what their flags mean.
 // Read specs/Range.antt (document 01's ranges) and specs/Flags.antt (the bits of flags; the fix modes of the two positions differ).
+#![tactic(auto)]
+
 mod flags;
 mod range;
 

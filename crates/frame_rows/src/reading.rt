@@ -10,7 +10,7 @@ use frames::{Cursor, Reached};
 
 // Where a frame was found or the reading stands, where to go on, the bytes needed from there, those passed over on the way, and the frame's
 // type, sender and payload length.
-#[derive(Drop)]
+#[derive(Clone, Copy)]
 pub struct FoundRow {
     pub at: u64,
     pub next: u64,

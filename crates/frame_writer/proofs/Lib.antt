@@ -1,5 +1,5 @@
 pub mod WrittenPlan
-pub mod Written
+pub mod WrittenFrames
 pub mod WrittenRead
 pub mod WrittenStream
 pub mod Promised

@@ -20,7 +20,7 @@ use Rattle.frames.specs.Step.{step_at, payload_in}
 use Rattle.frame_writer.specs.Writer.{planned, starting_with, framed_by, sealed, with_frame}
 use Rattle.frame_writer.specs.Faithful.{writing, write_answer, written_as, frame_written, Faithful}
 use Rattle.frames.specs.declared.step.Step.TheVariants.{Found}
-use Rattle.frame_writer.proofs.Written.{writes_body}
+use Rattle.frame_writer.proofs.WrittenFrames.{writes_body}
 use Rattle.frame_writer.proofs.WrittenRead.{framed_reads_back, framed_payload_back}
 
 module _ {R : Type 0} (d : Description R) (w : Writer) (r : R) (buf : List ℕ) where

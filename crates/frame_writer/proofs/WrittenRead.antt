@@ -19,7 +19,7 @@ use Rattle.frames.specs.Step.{stated, frame_at, step_of, step_at, payload_in}
 use Rattle.frame_writer.specs.Writer.{with_frame}
 use Rattle.frames.specs.declared.step.Frame.{Frame}
 use Rattle.frames.specs.declared.step.Step.TheVariants.{Found}
-use Rattle.frame_writer.proofs.Written.{length-covered, length-frame_then, framed_fits}
+use Rattle.frame_writer.proofs.WrittenFrames.{length-covered, length-frame_then, framed_fits}
 
 -- what makes a frame of what stands at the front
 found : (at : ℕ) (t : List ℕ) (n : ℕ) → get_or t 0 0 ≡ 0x55 → stated t ≡ n → n + 8 ≤ length t → crc_from 0 (take (n + 5) (drop 1 t)) ≡ number_at 2 t (n + 6) → step_of at t ≡ Found (frame_at at t)

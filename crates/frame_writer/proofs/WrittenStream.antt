@@ -13,7 +13,7 @@ use Rattle.frame_writer.specs.Writer.{as_read, found_from}
 use Rattle.frames.specs.declared.step.Step.{Step}
 use Rattle.frames.specs.declared.step.Step.TheVariants.{Found}
 use Rattle.frames.proofs.Readings.{go_at}
-use Rattle.frame_writer.proofs.Written.{length-frame, length-frame_then}
+use Rattle.frame_writer.proofs.WrittenFrames.{length-frame, length-frame_then}
 use Rattle.frame_writer.proofs.WrittenRead.{reads_back, payload_back_at}
 
 -- past a written frame the reading goes on after it

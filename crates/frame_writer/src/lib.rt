@@ -1,6 +1,8 @@
 // Frames written into a lent buffer, and what is promised of every message that is written as one.
 // Read specs/Writer.antt (what a writer answers and leaves), then specs/Faithful.antt (a record written is found and read back).
 // write_frame and plan are entry points, refused by number; the others are inner parts: total, and seal is whole or nothing.
+#![tactic(auto)]
+
 mod write;
 
 pub use write::{Written, hand_on, plan, seal, write_frame};

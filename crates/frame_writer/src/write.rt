@@ -7,7 +7,7 @@ ghost use Rattle.frame_writer.specs.Inner.{headed};
 use senders::Writer;
 
 // How many bytes were written, or document 01's number of the refusal.
-#[derive(Drop)]
+#[derive(Clone, Copy)]
 pub enum Written {
     Bytes(usize),
     Refused(u8),

@@ -8,7 +8,7 @@ use crate::junk::junk_run;
 use crate::step::{BAD, FINISHED, Frame, JUNK, SHORT, Seen, no_frame, seen_at};
 
 // The bytes in frames, and those passed over as junk, bad or short.
-#[derive(Drop)]
+#[derive(Clone, Copy)]
 pub struct Counts {
     pub framed: usize,
     pub junk: usize,
@@ -17,7 +17,7 @@ pub struct Counts {
 }
 
 // A position in a reading, open or closed, with the counts so far.
-#[derive(Drop)]
+#[derive(Clone, Copy)]
 pub struct Cursor {
     pub at: usize,
     pub opened: bool,
@@ -28,7 +28,7 @@ pub struct Cursor {
 }
 
 // What comes next: a frame, the end of the capture, or (open) a position from which so many bytes are needed.
-#[derive(Drop)]
+#[derive(Clone, Copy)]
 pub enum Next {
     Frame(Frame, Cursor),
     End(Cursor),
@@ -36,7 +36,7 @@ pub enum Next {
 }
 
 // The same in numbers: 0 a frame, 1 the end, 2 more bytes are needed. Where there is no frame its numbers are 0.
-#[derive(Drop)]
+#[derive(Clone, Copy)]
 pub struct Reached {
     pub number: u8,
     pub needed: usize,

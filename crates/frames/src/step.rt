@@ -5,7 +5,7 @@ ghost use Rattle.frames.specs.Inner.{step_in};
 ghost use Rattle.frames.specs.Cursors.{no_frame};
 
 // A frame that was found: its position, type, sender and payload length. Its payload starts at + 6.
-#[derive(Drop)]
+#[derive(Clone, Copy)]
 pub struct Frame {
     pub at: usize,
     pub kind: u16,
@@ -14,7 +14,7 @@ pub struct Frame {
 }
 
 // Document 01's five lines. Short says how many bytes from the position are needed.
-#[derive(Drop)]
+#[derive(Clone, Copy)]
 pub enum Step {
     Finished,
     Junk,
@@ -25,7 +25,7 @@ pub enum Step {
 
 // The same in numbers, for loops that go from step to step: an enum would be stored in parts there and copied whole. needed is a short's, frame
 // the one that was found.
-#[derive(Drop)]
+#[derive(Clone, Copy)]
 pub(crate) struct Seen {
     pub what: u8,
     pub needed: usize,

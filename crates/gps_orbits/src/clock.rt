@@ -6,7 +6,7 @@ ghost use Rattle.gps_orbits.specs.EphemerisGps.{clock};
 use parts::{TimeOfWeek, time_of_week};
 use wire::Double;
 
-#[derive(Drop)]
+#[derive(Clone, Copy)]
 pub struct Clock {
     pub af0: Double,
     pub af1: Double,

@@ -6,7 +6,7 @@ ghost use Rattle.gps_orbits.specs.EphemerisGps.{harmonics, ellipse, plane};
 use wire::Double;
 
 // Sine and cosine corrections to the radius, the argument of latitude and the inclination.
-#[derive(Drop)]
+#[derive(Clone, Copy)]
 pub struct Harmonics {
     pub c_rs: Double,
     pub c_rc: Double,
@@ -17,7 +17,7 @@ pub struct Harmonics {
 }
 
 // How the satellite goes along its orbit.
-#[derive(Drop)]
+#[derive(Clone, Copy)]
 pub struct Ellipse {
     pub dn: Double,
     pub m0: Double,
@@ -26,7 +26,7 @@ pub struct Ellipse {
 }
 
 // How its orbit lies in space.
-#[derive(Drop)]
+#[derive(Clone, Copy)]
 pub struct Plane {
     pub omega0: Double,
     pub omegadot: Double,

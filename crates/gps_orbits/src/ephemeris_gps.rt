@@ -14,7 +14,7 @@ use parts::{EphemerisCommon, common};
 use senders::Writer;
 use wire::Double;
 
-#[derive(Drop)]
+#[derive(Clone, Copy)]
 pub struct EphemerisGps {
     pub common: EphemerisCommon,
     pub tgd: Double,
@@ -26,7 +26,7 @@ pub struct EphemerisGps {
     pub iodc: u16,
 }
 
-#[derive(Drop)]
+#[derive(Clone, Copy)]
 pub enum EphemerisGpsRead {
     Record(EphemerisGps),
     Refused(u8),

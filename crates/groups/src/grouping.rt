@@ -6,33 +6,33 @@ ghost use Rattle.groups.specs.Group.{bit_of, all_come, goes_on, begun, added, st
 use packets::{Key, Packet};
 
 // An open group: its key, which counters have come, a bit for each, and the observations so far.
-#[derive(Drop)]
+#[derive(Clone, Copy)]
 pub struct Part {
     pub key: Key,
     pub come: u16,
     pub total: u16,
 }
 
-#[derive(Drop)]
+#[derive(Clone, Copy)]
 pub enum Group {
     Idle,
     Open(Part),
 }
 
 // Whether a packet ended an epoch, and with how many observations.
-#[derive(Drop)]
+#[derive(Clone, Copy)]
 pub enum Ended {
     Not,
     Whole(u16),
 }
 
-#[derive(Drop)]
+#[derive(Clone, Copy)]
 pub struct Stepped {
     pub group: Group,
     pub ended: Ended,
 }
 
-#[derive(Drop)]
+#[derive(Clone, Copy)]
 pub enum Answered {
     Refused(u8),
     To(Stepped),

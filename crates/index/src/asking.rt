@@ -7,7 +7,7 @@ use crate::entry::{Entry, hits};
 use crate::planning::Index;
 
 // Its place in the list with its entry; that there is none; or a refusal's number.
-#[derive(Drop)]
+#[derive(Clone, Copy)]
 pub enum Sought {
     At(usize, Entry),
     Nowhere,

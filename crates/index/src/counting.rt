@@ -5,7 +5,7 @@ ghost use Rattle.index.specs.Index.{count_answer, count_in};
 use crate::planning::Index;
 use payloads::MESSAGES;
 
-#[derive(Drop)]
+#[derive(Clone, Copy)]
 pub enum Counted {
     Frames(u64),
     Refused(u8),

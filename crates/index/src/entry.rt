@@ -4,7 +4,7 @@ ghost use Rattle.index.specs.Index.{entry_of, hits};
 
 // As C has it (link/include/sbp.h).
 #[repr(C)]
-#[derive(Drop)]
+#[derive(Clone, Copy)]
 pub struct Entry {
     pub offset: u64,
     pub kind: u16,

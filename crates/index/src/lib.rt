@@ -2,6 +2,8 @@
 // Read specs/Index.antt: what an index is, and what extending and asking give. What it tells while a capture grows is `indexed`'s.
 // The borrow checker covers no function over a slice of structs. Those are walked by hand, so they decide nothing: `fill`, `extend` and `first`
 // store and load entries; `planned`, `turned`, `hits` and `told` decide.
+#![tactic(auto)]
+
 mod asking;
 mod counting;
 mod entry;

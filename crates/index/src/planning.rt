@@ -8,7 +8,7 @@ use frames::Next;
 use payloads::MESSAGES;
 
 // How far open reading came, how many entries are held, and a count for each type that has a reading, by the type's place among the messages.
-#[derive(Drop)]
+#[derive(Clone, Copy)]
 pub struct Index {
     pub reached: usize,
     pub held: usize,
@@ -16,7 +16,7 @@ pub struct Index {
 }
 
 // 0 and the index, or a refusal's number and the index as it was.
-#[derive(Drop)]
+#[derive(Clone, Copy)]
 pub struct Indexed {
     pub answer: u8,
     pub index: Index,

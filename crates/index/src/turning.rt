@@ -11,7 +11,7 @@ use frames::{Frame, Next};
 use payloads::MESSAGES;
 
 // Where `more` holds: the entry, its place in the list, and the index with it. Else the index that filling comes to.
-#[derive(Drop)]
+#[derive(Clone, Copy)]
 pub struct Turn {
     pub more: bool,
     pub at: usize,

@@ -1,4 +1,6 @@
 // An index in lent bytes, for callers that C and Rust link. The entries are `index`'s own. Read specs/Bytes.antt.
+#![tactic(auto)]
+
 mod asking;
 mod keeping;
 

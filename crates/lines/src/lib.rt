@@ -1,5 +1,7 @@
 // The three lines of a listing: of a frame, of an epoch, of the totals, each put where it has room. Read specs/Lines.antt.
 // All are inner parts: total, and a line is whole or nothing.
+#![tactic(auto)]
+
 ghost use Rattle.std.specs.Prelude.{◌≡◌, ◌+◌, ◌%◌, ◌^◌, length};
 ghost use Rattle.wire.specs.Number.{bytes_stored};
 ghost use Rattle.lines.specs.Lines.{frame_shown, totals_shown, epoch_part};

@@ -10,14 +10,14 @@ use frame_writer::Written;
 use senders::Writer;
 
 // The text stays in the payload: `log_text` gives it as that part.
-#[derive(Drop)]
+#[derive(Clone, Copy)]
 pub struct Log {
     pub level: u8,
     pub length: usize,
     pub padding: usize,
 }
 
-#[derive(Drop)]
+#[derive(Clone, Copy)]
 pub enum LogRead {
     Record(Log),
     Refused(u8),

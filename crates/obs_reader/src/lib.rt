@@ -2,13 +2,15 @@
 // Read specs/Reader.antt (where the reader stands after a question; what it answers is observation's `read_entry_of`), then specs/Walk.antt.
 // The borrow checker covers no function over a struct that holds a reference. Those are walked by hand, so they decide nothing, the edition
 // neither: `read_observation_of` and `at_after` decide, and `step_from`, with plain parameters, is for callers that would not walk.
+#![tactic(auto)]
+
 ghost use Rattle.std.specs.Prelude.{◌≡◌};
 ghost use Rattle.observation.specs.Obs.{read_entry_of, entry_answer};
 ghost use Rattle.obs_reader.specs.Reader.{moved_by, at_after, asked};
 
 use observation::ObservationRead;
 
-#[derive(Drop)]
+#[derive(Clone, Copy)]
 pub struct ObsReader<'a> {
     pub kind: u16,
     pub payload: &'a [u8],
@@ -56,7 +58,7 @@ pub fn next<'s, 'a>(reader: &'s mut ObsReader<'a>) -> ObservationRead
     answer
 }
 
-#[derive(Drop)]
+#[derive(Clone, Copy)]
 pub struct Stepped {
     pub answer: ObservationRead,
     pub at: usize,

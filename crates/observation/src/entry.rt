@@ -7,7 +7,7 @@ ghost use Rattle.observation.specs.Obs.{read_entry, read_entry_of, entry_answer}
 use crate::obs::{EACH, HEAD, is_obs, is_obs_length};
 
 // 003's P, L.i, L.f, cn0, lock, sid.sat, sid.code and sid.reserved.
-#[derive(Drop)]
+#[derive(Clone, Copy)]
 pub struct Observation {
     pub p: u32,
     pub l_i: i32,
@@ -19,7 +19,7 @@ pub struct Observation {
     pub reserved: u8,
 }
 
-#[derive(Drop)]
+#[derive(Clone, Copy)]
 pub enum ObservationRead {
     Record(Observation),
     Refused(u8),

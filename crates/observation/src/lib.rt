@@ -1,5 +1,7 @@
 // OBS, of 003, section 6.3: its header and its observations, read.
 // Read specs/Edition.antt (an edition, its message, the first edition's fields) and specs/Obs.antt.
+#![tactic(auto)]
+
 mod entry;
 mod obs;
 

@@ -11,7 +11,7 @@ pub const EACH: usize = 16;
 pub const MOST: usize = 15;
 
 // The observations themselves stay in the payload: `read_observation` gives one by its index, below count.
-#[derive(Drop)]
+#[derive(Clone, Copy)]
 pub struct Obs {
     pub tow: u32,
     pub wn: u16,
@@ -19,7 +19,7 @@ pub struct Obs {
     pub count: u8,
 }
 
-#[derive(Drop)]
+#[derive(Clone, Copy)]
 pub enum ObsRead {
     Record(Obs),
     Refused(u8),

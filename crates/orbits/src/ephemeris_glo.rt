@@ -13,7 +13,7 @@ use parts::{EphemerisCommon, common};
 use senders::Writer;
 use wire::Double;
 
-#[derive(Drop)]
+#[derive(Clone, Copy)]
 pub struct EphemerisGlo {
     pub common: EphemerisCommon,
     pub gamma: Double,
@@ -21,7 +21,7 @@ pub struct EphemerisGlo {
     pub motion: Motion,
 }
 
-#[derive(Drop)]
+#[derive(Clone, Copy)]
 pub enum EphemerisGloRead {
     Record(EphemerisGlo),
     Refused(u8),

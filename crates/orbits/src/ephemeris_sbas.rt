@@ -13,7 +13,7 @@ use parts::{EphemerisCommon, common};
 use senders::Writer;
 use wire::Double;
 
-#[derive(Drop)]
+#[derive(Clone, Copy)]
 pub struct EphemerisSbas {
     pub common: EphemerisCommon,
     pub motion: Motion,
@@ -21,7 +21,7 @@ pub struct EphemerisSbas {
     pub a_gf1: Double,
 }
 
-#[derive(Drop)]
+#[derive(Clone, Copy)]
 pub enum EphemerisSbasRead {
     Record(EphemerisSbas),
     Refused(u8),

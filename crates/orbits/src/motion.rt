@@ -5,14 +5,14 @@ ghost use Rattle.orbits.specs.Motion.{motion, vector};
 
 use wire::Double;
 
-#[derive(Drop)]
+#[derive(Clone, Copy)]
 pub struct Vector {
     pub x: Double,
     pub y: Double,
     pub z: Double,
 }
 
-#[derive(Drop)]
+#[derive(Clone, Copy)]
 pub struct Motion {
     pub pos: Vector,
     pub vel: Vector,

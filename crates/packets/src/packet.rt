@@ -5,7 +5,7 @@ ghost use Rattle.packets.specs.Packet.{same_key, packet_of, read_packet, numbere
 use observation::{Obs, ObsRead};
 
 // What the packets of one epoch have in common.
-#[derive(Drop)]
+#[derive(Clone, Copy)]
 pub struct Key {
     pub tow: u32,
     pub wn: u16,
@@ -13,14 +13,14 @@ pub struct Key {
 }
 
 // An observation frame: its key, its counter, and how many observations it has.
-#[derive(Drop)]
+#[derive(Clone, Copy)]
 pub struct Packet {
     pub key: Key,
     pub counter: u8,
     pub observations: u8,
 }
 
-#[derive(Drop)]
+#[derive(Clone, Copy)]
 pub enum PacketRead {
     Record(Packet),
     Refused(u8),

@@ -8,7 +8,7 @@ use crate::time_of_week::TimeOfWeek;
 use crate::{satellite, time_of_week};
 use wire::Double;
 
-#[derive(Drop)]
+#[derive(Clone, Copy)]
 pub struct EphemerisCommon {
     pub sid: Satellite,
     pub toe: TimeOfWeek,

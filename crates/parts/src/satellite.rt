@@ -3,7 +3,7 @@ ghost use Rattle.std.specs.Prelude.{◌≡◌};
 ghost use Rattle.layouts.specs.Together.{taken_at, put_at};
 ghost use Rattle.parts.specs.Common.{satellite};
 
-#[derive(Drop)]
+#[derive(Clone, Copy)]
 pub struct Satellite {
     pub sat: u16,
     pub code: u8,

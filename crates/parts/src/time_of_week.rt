@@ -3,7 +3,7 @@ ghost use Rattle.std.specs.Prelude.{◌≡◌};
 ghost use Rattle.layouts.specs.Together.{taken_at, put_at};
 ghost use Rattle.parts.specs.TimeOfWeek.{time_of_week};
 
-#[derive(Drop)]
+#[derive(Clone, Copy)]
 pub struct TimeOfWeek {
     pub tow: u32,
     pub wn: u16,

@@ -3,7 +3,7 @@ ghost use Rattle.std.specs.Prelude.{◌≡◌};
 ghost use Rattle.payloads.specs.Checks.{tests, tests_by};
 ghost use Rattle.payloads.specs.Inner.{check_for, number_by};
 
-#[derive(Drop)]
+#[derive(Clone, Copy)]
 pub enum Check {
     Unknown,
     Length(usize),

@@ -1,6 +1,8 @@
 // What a type number means: the answer 0, 21, 22 or 23 to any type and payload, and its fields. What a payload is read as is `readings`'.
 // Read specs/Payloads.antt first: the messages by their descriptions, and the ordered tests of any type and payload; then specs/Checks.antt,
 // document 01's types, lengths and ranges as numbers, which are proved to agree with the descriptions.
+#![tactic(auto)]
+
 ghost use Rattle.std.specs.Prelude.{◌≡◌};
 ghost use Rattle.payloads.specs.Payloads.{answer_for};
 
@@ -13,7 +15,7 @@ pub use shape::{is_known, shape_of};
 
 // Every message that has a reading. The observations of an Obs and the text of a Log stay in the payload: read_observation and
 // log_text give them.
-#[derive(Drop)]
+#[derive(Clone, Copy)]
 pub enum Message {
     GpsTime(time_and_dops::GpsTime),
     Dops(time_and_dops::Dops),
@@ -41,7 +43,7 @@ pub enum Message {
     Heartbeat(system::Heartbeat),
 }
 
-#[derive(Drop)]
+#[derive(Clone, Copy)]
 pub enum Reading {
     Record(Message),
     Refused(u8),

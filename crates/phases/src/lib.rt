@@ -1,4 +1,6 @@
 // The carrier phase of an observation: from its two parts, and back. Read specs/Phase.antt, then specs/Phased.antt.
+#![tactic(auto)]
+
 mod handing;
 mod phase;
 

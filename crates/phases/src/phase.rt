@@ -3,13 +3,13 @@ ghost use Rattle.std.specs.Prelude.{◌≡◌};
 ghost use Rattle.phases.specs.Phase.{phase_of, read_phase, parts_answer};
 
 // Whole cycles and 256ths, as an observation has them.
-#[derive(Drop)]
+#[derive(Clone, Copy)]
 pub struct Phase {
     pub l_i: i32,
     pub l_f: u8,
 }
 
-#[derive(Drop)]
+#[derive(Clone, Copy)]
 pub enum PhaseParts {
     Parts(Phase),
     Refused(u8),

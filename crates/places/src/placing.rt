@@ -8,7 +8,7 @@ use groups::{Group, Part};
 use packets::Key;
 
 // A place as numbers; opened is 0 for one that is idle.
-#[derive(Drop)]
+#[derive(Clone, Copy)]
 pub struct Slot {
     pub opened: u8,
     pub tow: u32,

@@ -11,7 +11,7 @@ use frame_writer::Written;
 use senders::Writer;
 use wire::Double;
 
-#[derive(Drop)]
+#[derive(Clone, Copy)]
 pub struct PosEcef {
     pub tow: u32,
     pub x: Double,
@@ -22,7 +22,7 @@ pub struct PosEcef {
     pub flags: u8,
 }
 
-#[derive(Drop)]
+#[derive(Clone, Copy)]
 pub enum PosEcefRead {
     Record(PosEcef),
     Refused(u8),

@@ -11,7 +11,7 @@ use frame_writer::Written;
 use senders::Writer;
 use wire::Double;
 
-#[derive(Drop)]
+#[derive(Clone, Copy)]
 pub struct PosLlh {
     pub tow: u32,
     pub lat: Double,
@@ -23,7 +23,7 @@ pub struct PosLlh {
     pub flags: u8,
 }
 
-#[derive(Drop)]
+#[derive(Clone, Copy)]
 pub enum PosLlhRead {
     Record(PosLlh),
     Refused(u8),

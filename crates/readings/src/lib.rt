@@ -1,4 +1,6 @@
 // One reading of any type and payload: the record under its message's name, or the refusal. What that is stands in payloads' specs/Payloads.antt.
+#![tactic(auto)]
+
 ghost use Rattle.std.specs.Prelude.{◌≡◌};
 ghost use Rattle.observation.specs.Obs.{read_obs};
 ghost use Rattle.payloads.specs.Payloads.{read_for, reading_answer};

@@ -2,6 +2,8 @@
 // payload; and asks the message's own reader at this length and at one byte more. The linked functions go by rows, so that nothing else runs these.
 // The file stdout beside src/ has the answers, which the Python twin works out from documents 01 and 003 (twins/python/answers.py). What is proved
 // here is that the program ends and traps nowhere, not what it prints.
+#![tactic(auto)]
+
 mod asking;
 mod payload;
 mod print;

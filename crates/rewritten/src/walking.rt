@@ -5,7 +5,7 @@ ghost use Rattle.obs_reader.specs.Reader.{at_after};
 
 use observation::{Observation, ObservationRead};
 
-#[derive(Drop)]
+#[derive(Clone, Copy)]
 pub struct Two {
     pub first: ObservationRead,
     pub second: ObservationRead,

@@ -5,27 +5,27 @@ ghost use Rattle.runs.specs.Run.{goes_on, dropped, stepped};
 use packets::{Key, Packet};
 
 // An open run: its key, the counter that comes next, and the observations so far.
-#[derive(Drop)]
+#[derive(Clone, Copy)]
 pub struct Part {
     pub key: Key,
     pub next: u8,
     pub total: u16,
 }
 
-#[derive(Drop)]
+#[derive(Clone, Copy)]
 pub enum Run {
     Idle,
     Open(Part),
 }
 
 // Whether a packet ended an epoch, and with how many observations.
-#[derive(Drop)]
+#[derive(Clone, Copy)]
 pub enum Ended {
     Not,
     Whole(u16),
 }
 
-#[derive(Drop)]
+#[derive(Clone, Copy)]
 pub struct Stepped {
     pub run: Run,
     pub ended: Ended,

@@ -1,6 +1,8 @@
 // Lists the frames and epochs of a capture on standard input: what `listing` makes of it, in one write.
 // A capture over 65536 bytes prints `R 11` alone; a read that fails says why on standard error and prints nothing.
 // Read `output` in listing's specs/Listing.antt first: what is put into the buffer before that one write is proved to be it.
+#![tactic(auto)]
+
 ghost use Rattle.std.specs.Prelude.{◌≡◌, ◌≤◌, length, take};
 ghost use Rattle.listing.specs.Listing.{longest_text, output};
 

@@ -1,18 +1,20 @@
 // Who sends a frame that is written (document 02, P6). Read specs/Senders.antt: the number that a frame carries. specs/Carries.antt says it in
 // document 02's numbers, specs/Calls.antt of calls, by their contracts.
 // All are inner parts: nothing is refused.
+#![tactic(auto)]
+
 ghost use Rattle.std.specs.Prelude.{◌≡◌};
 ghost use Rattle.senders.specs.Senders.{carried, made_with, naming, writer_from};
 
 // The sender that is given, if any.
-#[derive(Drop)]
+#[derive(Clone, Copy)]
 pub enum Sender {
     Named(u16),
     Unnamed,
 }
 
 // Who writes: the recorder's own number, and the sender that is given. Writers hand it on as it is.
-#[derive(Drop)]
+#[derive(Clone, Copy)]
 pub struct Writer {
     pub own: u16,
     pub sender: Sender,

@@ -8,7 +8,7 @@ ghost use Rattle.system.specs.Empty.{empty, settings_save, read_by_index_done, e
 use frame_writer::Written;
 use senders::Writer;
 
-#[derive(Drop)]
+#[derive(Clone, Copy)]
 pub enum EmptyRead {
     Empty,
     Refused(u8),

@@ -9,12 +9,12 @@ ghost use Rattle.system.specs.Heartbeat.{heartbeat, answer_of};
 use frame_writer::Written;
 use senders::Writer;
 
-#[derive(Drop)]
+#[derive(Clone, Copy)]
 pub struct Heartbeat {
     pub flags: u32,
 }
 
-#[derive(Drop)]
+#[derive(Clone, Copy)]
 pub enum HeartbeatRead {
     Record(Heartbeat),
     Refused(u8),

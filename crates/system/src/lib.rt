@@ -1,6 +1,8 @@
 // The settings and system messages of 003, sections 6.4 and 6.5: records, readers and writers.
 // Read the descriptions, a line of document 01 each; specs/Empty.antt has the two messages without a payload, specs/HeartbeatFlags.antt the bits
 // that 003 names.
+#![tactic(auto)]
+
 mod empty;
 mod flags;
 mod heartbeat;

@@ -9,12 +9,12 @@ ghost use Rattle.system.specs.ReadByIndexReq.{read_by_index_req, answer_of};
 use frame_writer::Written;
 use senders::Writer;
 
-#[derive(Drop)]
+#[derive(Clone, Copy)]
 pub struct ReadByIndexReq {
     pub index: u16,
 }
 
-#[derive(Drop)]
+#[derive(Clone, Copy)]
 pub enum ReadByIndexReqRead {
     Record(ReadByIndexReq),
     Refused(u8),

@@ -9,12 +9,12 @@ ghost use Rattle.system.specs.Startup.{startup, answer_of};
 use frame_writer::Written;
 use senders::Writer;
 
-#[derive(Drop)]
+#[derive(Clone, Copy)]
 pub struct Startup {
     pub reserved: u32,
 }
 
-#[derive(Drop)]
+#[derive(Clone, Copy)]
 pub enum StartupRead {
     Record(Startup),
     Refused(u8),

@@ -1,6 +1,8 @@
 // Lines of text in a lent buffer: a letter and five numbers in decimal.
 // Read specs/Decimal.antt (a number) and specs/Line.antt (a line) first.
 // A line that has no room changes nothing, and still says where it would end.
+#![tactic(auto)]
+
 ghost use Rattle.std.specs.Prelude.{◌≡◌, ◌+◌, ◌-◌, ◌%◌, ◌^◌, ◌≤◌, ◌∷◌, length};
 ghost use Rattle.std.proofs.lemmas.List.Edits.{sets};
 ghost use Rattle.wire.specs.Number.{bytes_stored};

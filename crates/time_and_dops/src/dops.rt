@@ -9,7 +9,7 @@ ghost use Rattle.time_and_dops.specs.Dops.{dops, answer_of};
 use frame_writer::Written;
 use senders::Writer;
 
-#[derive(Drop)]
+#[derive(Clone, Copy)]
 pub struct Dops {
     pub tow: u32,
     pub gdop: u16,
@@ -19,7 +19,7 @@ pub struct Dops {
     pub vdop: u16,
 }
 
-#[derive(Drop)]
+#[derive(Clone, Copy)]
 pub enum DopsRead {
     Record(Dops),
     Refused(u8),

@@ -11,7 +11,7 @@ use flags::ns_allowed;
 use frame_writer::Written;
 use senders::Writer;
 
-#[derive(Drop)]
+#[derive(Clone, Copy)]
 pub struct GpsTime {
     pub wn: u16,
     pub tow: u32,
@@ -19,7 +19,7 @@ pub struct GpsTime {
     pub flags: u8,
 }
 
-#[derive(Drop)]
+#[derive(Clone, Copy)]
 pub enum GpsTimeRead {
     Record(GpsTime),
     Refused(u8),

@@ -1,5 +1,7 @@
 // The GPS time and the dilutions of precision, of 003, section 6.2: records, readers and writers.
 // Read the description of each message in specs/, which reads like its line of document 01.
+#![tactic(auto)]
+
 mod dops;
 mod gps_time;
 

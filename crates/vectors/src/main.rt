@@ -2,6 +2,8 @@
 // has the answers, worked out elsewhere. All other values are asked of the linked functions (tests/values), where nothing is proved again.
 // The Python twin works the answers out from documents 01 and 003 and looks at no code of ours. What is proved here is that the program ends and
 // traps nowhere, not what it prints.
+#![tactic(auto)]
+
 mod apart;
 mod collated;
 mod doubles;

@@ -5,7 +5,7 @@ ghost use Rattle.std.specs.Float.Ieee.{nan_bits};
 ghost use Rattle.wire.specs.Double.{double_of, double_bits};
 
 // nan is the pattern where value is a NaN, else 0: an f64 alone cannot bring a NaN's pattern back.
-#[derive(Drop)]
+#[derive(Clone, Copy)]
 pub struct Double {
     pub value: f64,
     pub nan: u64,

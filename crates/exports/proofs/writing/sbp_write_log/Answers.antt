@@ -1,0 +1,20 @@
+-- `exports::writing::sbp_write_log` meets its contract: it hands on what the writer answers.
+use mathlib.Core.Path.{ap, ◌∙◌}
+use Prim.Native.Nat.{ℕ}
+use Rattle.refusals.specs.Refusals.{Answer, zero_or}
+use Rattle.frame_writer.specs.Faithful.{written_as}
+use Rattle.frame_writer.specs.Writer.{size_left}
+use Rattle.senders.specs.declared.Writer.{Writer}
+use Rattle.logs.specs.Log.{log, logged}
+use Rattle.exports.proofs.writing.sbp_write_log.Goals as goal
+
+pub returns : goal.returns
+returns c =
+    let both = let a = c.args in 
+    (
+      c.hand_on.ensures.value ∙ ap zero_or c.write_log-written.ensures.result_value,
+      (
+        c.write_log-written.ensures.buf_after ∙ ap (λ (w : Writer). written_as log w (logged a.level a.text.now a.padding) a.out.now) c.writer_from.ensures,
+        c.hand_on.ensures.size_after ∙ ap (λ (x : Answer ℕ). size_left x a.size.now) c.write_log-written.ensures.result_value,
+      ),
+    ) in record { value = both.0; out_after = both.1; size_after = both.2 }

@@ -1,0 +1,14 @@
+-- `wire::store::store_s32` meets its contract.
+use mathlib.Core.Path.{ap, ◌∙◌}
+use Prim.Native.Nat.{ℕ}
+use mir.Syntax.{w32}
+use mir.Val.{of_z}
+use mir.ValLaws.{to_z-of_z}
+use Rattle.wire.specs.Number.{stored_at}
+use Rattle.wire.proofs.store.store_s32.Goals as goal
+
+pub returns : goal.returns
+returns c =
+    let a = c.args in 
+    c.store_u32.ensures ∙ ap (λ (n : ℕ). stored_at 4 n a.buf.now a.at)
+    (c.bits_32.ensures ∙ ap (of_z w32) (to_z-of_z w32 a.v c.ranges.v))
