@@ -17,6 +17,7 @@ module _ {A : Type 0} (x : A) where
       by false q e rest = inl (q, same_refused e refl)
 
   first_refuses : (ts : Tests) (n : ℕ) → FirstFails ts n → ordered ts x ≡ refused n
+  first_refuses [] n e = elim e [ ]
   first_refuses (t ∷ ts) n (inl f) = rw f.0 (ap refused (sym f.1))
   first_refuses (t ∷ ts) n (inr f) = rw f.0 (first_refuses ts n f.1)
 

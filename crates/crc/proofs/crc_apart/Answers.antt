@@ -7,7 +7,7 @@ use Rattle.crc.proofs.crc_apart.Goals as goal
 
 pub returns : goal.returns
 returns c =
-    let a = c.args in 
+    let a = c.args in
     c.crc.ensures
     ∙ ap (λ (x : ℕ). crc_from x a.second.now) c.crc-between.ensures
     ∙ sym (joined a.start a.first.now a.second.now)

@@ -8,13 +8,13 @@ use Rattle.enlisting.proofs.joined.Goals as goal
 
 pub returns-in_default : goal.returns-in_default
 returns-in_default c =
-    let a = c.args in 
+    let a = c.args in
     ap (λ (x : Seat). seated_in x a.collator a.sender) (sym c.in_default.is ∙ c.new_seat.ensures)
 
 -- the seat is one of eight
 pub bounds-more-i : goal.bounds-more-i
 bounds-more-i c =
-    let a = c.args in 
+    let a = c.args in
     seat_eight a.collator.roster a.collator.count a.sender (sym c.new_seat.ensures ∙ c.in-At.is)
 
 pub offset_bounds-more-i : goal.offset_bounds-more-i
@@ -25,5 +25,5 @@ overflow_add-more c = omega (arith, bounds-more-i (goal.at.overflow_add-more c).
 
 pub returns : goal.returns
 returns c =
-    let a = c.args in 
+    let a = c.args in
     ap (λ (x : Seat). seated_in x a.collator a.sender) (sym c.in-At.is ∙ c.new_seat.ensures)

@@ -12,5 +12,5 @@ returns-in-Taken c = let both = puts_nothing c.args.buf.now c.args.at c.args.hap
 
 pub returns-in-Epoch : goal.returns-in-Epoch
 returns-in-Epoch c =
-    let both = let a = c.args in 
+    let both = let a = c.args in
     puts a.buf.now a.at c.in-Epoch.is c.put_line.ensures.value c.put_line.ensures.buf_after in record { value = both.0; buf_after = both.1 }

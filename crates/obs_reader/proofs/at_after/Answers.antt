@@ -7,12 +7,12 @@ use Rattle.obs_reader.proofs.at_after.Goals as goal
 
 pub overflow_add-result : goal.overflow_add-result
 overflow_add-result c =
-    let a = c.args in 
+    let a = c.args in
     let stands = stands_at a.kind a.payload.now a.at c.moved_by.ensures c.read_observation_of.ensures in
     let fits : a.at < 2 ^ 64 = search rules in
     record { fits = subst (λ (n : ℕ). n < 2 ^ 64) (sym stands) (at_fits a.kind a.payload.now a.at fits) }
 
 pub returns : goal.returns
 returns c =
-    let a = c.args in 
+    let a = c.args in
     stands_at a.kind a.payload.now a.at c.moved_by.ensures c.read_observation_of.ensures

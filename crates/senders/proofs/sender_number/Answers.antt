@@ -8,7 +8,7 @@ use Rattle.senders.proofs.sender_number.Goals as goal
 use Rattle.senders.proofs.sender_number.Goals.{In-Unnamed}
 
 -- none is given: the type decides
-by_type : (at : In-Unnamed) (t : Bool) → let a = c.args in 
+by_type : (at : In-Unnamed) (t : Bool) → let a = c.args in
     obeyed_from42 a.kind ≡ t → cond t 0x42 a.writer.own ≡ carried a.kind a.writer
 by_type at t e = let a = c.args in unnamed a.kind a.writer t c.in-Unnamed.is e
 

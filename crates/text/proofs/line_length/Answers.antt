@@ -20,7 +20,7 @@ loop-i-smaller c = omega (arith, c.loop-i-test.true)
 
 pub loop-i-preserved : goal.loop-i-preserved
 loop-i-preserved c =
-    let five = c.well_formed.0.1.0.1 in 
+    let five = c.well_formed.0.1.0.1 in
     summing_more c.args.t1 c.loop-i.invariant (omega (arith, five, c.loop-i-test.true)) c.digit_count.ensures.0 c.digit_count.ensures.1
 
 pub returns : goal.returns

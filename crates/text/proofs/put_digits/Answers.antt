@@ -35,7 +35,7 @@ bounds-buf-at-2 c = omega (arith, c.loop-rest.invariant.inside, c.loop-rest.inva
 
 pub shape_of-buf : goal.shape_of-buf
 shape_of-buf c =
-    let a = c.args in 
+    let a = c.args in
     length-set c.loop-rest.buf (c.loop-rest.at - 1) _ ∙ filling_length c.loop-rest.invariant ∙ length-sets a.buf.now (a.end - length (decimal a.n)) (decimal a.n)
 
 pub returns : goal.returns

@@ -12,20 +12,20 @@ loop-i-init c =
 
 pub put_number-to-requires : goal.put_number-to-requires
 put_number-to-requires c =
-    let both = let a = c.args in 
+    let both = let a = c.args in
     left_room a.buf.now a.end a.t3 c.loop-i.invariant c.loop-i-test.true in record { n_len_bound = both.0; end_in_bounds = both.1 }
 
 pub loop-i-preserved : goal.loop-i-preserved
 loop-i-preserved c =
-    let a = c.args in 
+    let a = c.args in
     left_more a.buf.now a.end a.t3 c.loop-i.invariant c.loop-i-test.true c.put_number-to.ensures.value c.put_number-to.ensures.buf_after
 
 pub shape_of-buf : goal.shape_of-buf
 shape_of-buf c =
-    let a = c.args in 
+    let a = c.args in
     filling_length c.loop-i.invariant.1 ∙ length-sets a.buf.now (a.end - length (fields a.t3)) (fields a.t3)
 
 pub returns : goal.returns
 returns c =
-    let a = c.args in 
+    let a = c.args in
     left_none a.buf.now a.end a.t3 c.loop-i.invariant (omega (arith, c.loop-i-test.false))

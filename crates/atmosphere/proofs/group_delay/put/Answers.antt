@@ -9,7 +9,7 @@ use Rattle.atmosphere.proofs.group_delay.put.Goals as goal
 
 pub returns : goal.returns
 returns c =
-    let r = c.args.r in 
+    let r = c.args.r in
     then_signed w16 r.isc_l2c _ c.struct_told-3-1.given.1.1.1.1.1.0.1 (then_signed w16 r.isc_l1ca _ c.struct_told-2-1.given.1.1.1.1.0.1 (then_signed w16 r.tgd _ c.struct_told-1.given.1.1.1.0.1 (then _ _ _ (then _ _ _ c.put.ensures c.store_u8.ensures) c.store_u8-2.ensures) c.store_s16.ensures) c.store_s16-2.ensures) c.store_s16-3.ensures
 
 pub shape_of-buf : goal.shape_of-buf

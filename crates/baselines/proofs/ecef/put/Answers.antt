@@ -9,7 +9,7 @@ use Rattle.baselines.proofs.ecef.put.Goals as goal
 
 pub returns : goal.returns
 returns c =
-    let r = c.args.r in 
+    let r = c.args.r in
     then _ _ _ (then _ _ _ (then _ _ _ (then_signed w32 r.z _ c.struct_told-3-1.given.1.1.1.0.1 (then_signed w32 r.y _ c.struct_told-2-1.given.1.1.0.1 (then_signed w32 r.x _ c.struct_told-1.given.1.0.1 c.store_u32.ensures c.store_s32.ensures) c.store_s32-2.ensures) c.store_s32-3.ensures) c.store_u16.ensures) c.store_u8.ensures) c.store_u8-2.ensures
 
 pub shape_of-buf : goal.shape_of-buf

@@ -13,7 +13,7 @@ returns-then-made-ne0 c = let a = c.args in c.begun-state.ensures ∙ collated_r
 
 pub loop-frame-init : goal.loop-frame-init
 loop-frame-init c =
-    let a = c.args in 
+    let a = c.args in
     let fed = collated_fed a.s.now a.roster.now c.made-made.ensures c.if-made-ne0.false in
     going_begun a.s.now c.well_formed.0.0 _ _ (fed ∙ ap (λ (t : Collated). fed_all t (contents_of a.s.now)) (sym c.begun-state.ensures)) c.closed-cursor.ensures
 

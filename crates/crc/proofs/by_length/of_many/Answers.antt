@@ -11,7 +11,7 @@ use Rattle.crc.proofs.by_length.of_many.Goals as goal
 
 pub returns-then-from-s : goal.returns-then-from-s
 returns-then-from-s c =
-    let s = c.args.s.now in 
+    let s = c.args.s.now in
     let k = length s % 8 in
     let begun = then (bit_xor c.first.result c.early.result) (bit_xor c.word.result (c.late.result * 2 ^ 48 % 2 ^ 64)) in
     let whole : (length s - (k + 8)) % 8 ≡ 0 = omega (arith, c.requires) in
@@ -26,7 +26,7 @@ returns-then-from-s c =
 
 pub returns-then-s-from-lt16 : goal.returns-then-s-from-lt16
 returns-then-s-from-lt16 c =
-    let s = c.args.s.now in 
+    let s = c.args.s.now in
     let k = length s % 8 in
     let begun = then (bit_xor c.first.result c.early.result) (bit_xor c.word.result (c.late.result * 2 ^ 48 % 2 ^ 64)) in
     let whole : (length s - (k + 8)) % 8 ≡ 0 = omega (arith, c.requires) in
@@ -41,7 +41,7 @@ returns-then-s-from-lt16 c =
 
 pub returns : goal.returns
 returns c =
-    let s = c.args.s.now in 
+    let s = c.args.s.now in
     let k = length s % 8 in
     let begun = then (bit_xor c.first.result c.early.result) (bit_xor c.word.result (c.late.result * 2 ^ 48 % 2 ^ 64)) in
     let whole : (length s - (k + 8)) % 8 ≡ 0 = omega (arith, c.requires) in

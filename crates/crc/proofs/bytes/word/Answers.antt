@@ -5,7 +5,7 @@ use Rattle.crc.proofs.bytes.word.Goals as goal
 
 pub returns : goal.returns
 returns c =
-    let a = c.args in 
+    let a = c.args in
     c.of_pairs.ensures
     ∙ word_is a.s.now (λ i. (c.shared_slice_known-1.given i).fits) a.i c.requires
     c.pair.ensures.0

@@ -8,5 +8,5 @@ use Rattle.crc.proofs.folding.one_of.Goals as goal
 
 pub returns : goal.returns
 returns c =
-    let x = c.args.x in 
+    let x = c.args.x in
     rest_xor c.moved_up.result x.b ∙ ap (λ (y : ℕ). bit_xor y (rest x.b)) c.moved_up.ensures ∙ sym (rest_xor (x.a * 2 ^ 64) x.b)

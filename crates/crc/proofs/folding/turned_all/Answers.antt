@@ -17,7 +17,7 @@ loop-i-smaller c = omega (arith, c.loop-i-test.true)
 
 pub loop-i-preserved : goal.loop-i-preserved
 loop-i-preserved c =
-    let a = c.args in 
+    let a = c.args in
     going_more (joined a.x) a.s.now a.from c.loop-i.invariant c.loop-i-test.true
     (c.turned-four.ensures ∙ ap (λ (w : ℕ). rest (then (joined c.loop-i.four) w)) c.word.ensures)
 

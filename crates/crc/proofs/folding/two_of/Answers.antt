@@ -6,5 +6,5 @@ use Rattle.crc.proofs.folding.two_of.Goals as goal
 
 pub returns : goal.returns
 returns c =
-    let x = c.args.x in 
+    let x = c.args.x in
     c.stepped-2.ensures ∙ then_same x.d (then c.stepped.result.a c.stepped.result.b) (then (then x.a x.b) x.c) c.stepped.ensures

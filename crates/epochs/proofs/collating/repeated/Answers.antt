@@ -9,12 +9,12 @@ loop-i-init c = refl
 
 pub returns-in_default : goal.returns-in_default
 returns-in_default c =
-    let s = c.args.roster.now in 
+    let s = c.args.roster.now in
     sym (c.loop-i.invariant ∙ repeats_on s c.loop-i.i c.loop-i-test.true (sym c.in_default.is ∙ c.search-later.ensures))
 
 pub loop-i-preserved : goal.loop-i-preserved
 loop-i-preserved c =
-    let s = c.args.roster.now in 
+    let s = c.args.roster.now in
     c.loop-i.invariant ∙ repeats_on s c.loop-i.i c.loop-i-test.true (sym c.in-Nowhere.is ∙ c.search-later.ensures)
 
 pub returns : goal.returns

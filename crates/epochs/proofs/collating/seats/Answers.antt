@@ -14,6 +14,6 @@ loop-i-preserved c = (search rules, filled_on c.args.roster.now c.loop-i.i c.loo
 
 pub returns : goal.returns
 returns c =
-    let s = c.args.roster.now in 
+    let s = c.args.roster.now in
     let end : c.loop-i.i ≡ 8 = omega arith in
     c.loop-i.invariant.1 ∙ ap (filled s) end ∙ filled_end s

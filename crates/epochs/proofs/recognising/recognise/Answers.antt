@@ -15,7 +15,7 @@ recognised_at : (c : In-At)
     → mapped (at c.in-At.at) (numbered c.in-Record.packet)
     ≡ for_place (take c.args.count c.args.roster) (record { kind = c.args.kind; sender = c.args.sender; payload = c.args.payload.now })
 recognised_at c =
-    let a = c.args in 
+    let a = c.args in
     let x : Content = record { kind = a.kind; sender = a.sender; payload = a.payload.now } in
     let read = sym (ap packet_answer (sym c.in-Record.is) ∙ c.read_packet-read.ensures) in
     ap (mapped (at c.in-At.at)) (sym (read_recognised x.kind x.payload read))
@@ -23,13 +23,13 @@ recognised_at c =
 
 pub returns-in_default : goal.returns-in_default
 returns-in_default c =
-    let a = c.args in 
+    let a = c.args in
     let x : Content = record { kind = a.kind; sender = a.sender; payload = a.payload.now } in
     sym (placed_43 (take a.count a.roster) x (sym (ap packet_answer (sym c.in-Record.is) ∙ c.read_packet-read.ensures)) (sym c.seat_of-seat.ensures ∙ c.in_default.is))
 
 pub returns-in-Refused : goal.returns-in-Refused
 returns-in-Refused c =
-    let a = c.args in 
+    let a = c.args in
     let x : Content = record { kind = a.kind; sender = a.sender; payload = a.payload.now } in
     sym (placed_unread (take a.count a.roster) x (sym (ap packet_answer (sym c.in-Refused.is) ∙ c.read_packet-read.ensures)))
 

@@ -13,7 +13,7 @@ use Rattle.exports.proofs.phasing.sbp_carrier_phase.Goals as goal
 
 pub returns : goal.returns
 returns c =
-    let a = c.args in 
+    let a = c.args in
     let e = c.carrier_phase.ensures ∙ ap (λ (z : ℤ). phase_of (record { l_i = z; l_f = a.l_f })) (came_back w32 {z = a.l_i} {y = a.l_i} c.ranges.l_i.sfits refl) in
     ap (λ (z : ℤ). to_z w64 (of_z w64 z)) e
     ∙ came_back w64 (lt_trans (phase_lt (record { l_i = a.l_i; l_f = a.l_f }) c.ranges.l_i.sfits (omega arith)) (lit< tt)) refl

@@ -10,8 +10,7 @@ use Rattle.exports.proofs.writing.sbp_write_log.Goals as goal
 
 pub returns : goal.returns
 returns c =
-    let both = let a = c.args in 
-    (
+    let both = let a = c.args in (
       c.hand_on.ensures.value ∙ ap zero_or c.write_log-written.ensures.result_value,
       (
         c.write_log-written.ensures.buf_after ∙ ap (λ (w : Writer). written_as log w (logged a.level a.text.now a.padding) a.out.now) c.writer_from.ensures,

@@ -31,17 +31,17 @@ returns-in-4 c = let a = c.args in at_digit a.s.now a.at c.read_u32.ensures c.in
 
 pub returns-in-10 : goal.returns-in-10
 returns-in-10 c =
-    let a = c.args in 
+    let a = c.args in
     at_digit a.s.now a.at (c.extended_16.ensures ∙ ap (λ (n : ℕ). of_z w64 (to_z w16 n)) c.read_u16-in-10.ensures) c.in-10.is
 
 pub returns-in-12 : goal.returns-in-12
 returns-in-12 c =
-    let a = c.args in 
+    let a = c.args in
     at_digit a.s.now a.at (c.extended_32.ensures ∙ ap (λ (n : ℕ). of_z w64 (to_z w32 n)) c.read_u32-in-12.ensures) c.in-12.is
 
 pub returns-in_default : goal.returns-in_default
 returns-in_default c =
-    let a = c.args in 
+    let a = c.args in
     let n = number_at 8 a.s.now a.at in
     c.read_u64.ensures
     ∙ sym (bits_double_of n (number_lt 8 a.s.now a.at (λ i. (c.shared_slice_known-1.given i).fits)))

@@ -19,7 +19,7 @@ kept row₀ s digits row rest i at e =
 
 pub returns-then-row-count : goal.returns-then-row-count
 returns-then-row-count c =
-    let a = c.args in 
+    let a = c.args in
     let numbers = numbers_at (formats_by a.digits) a.s.now 0 in
     sym (bytes_nowhere numbers a.row.now 0 (omega (arith, length-numbers (formats_by a.digits) a.s.now 0, c.count.ensures, c.if-row-count.true)))
 
@@ -56,12 +56,12 @@ loop-rest-preserved c =
 
 pub shape_of-row : goal.shape_of-row
 shape_of-row c =
-    let a = c.args in 
+    let a = c.args in
     kept a.row.now a.s.now a.digits c.loop-rest.row c.loop-rest.rest c.loop-rest.i c.loop-rest.at c.loop-rest.invariant.2
 
 pub returns : goal.returns
 returns c =
-    let a = c.args in 
+    let a = c.args in
     let numbers = numbers_at (formats_by a.digits) a.s.now 0 in
     sym (read_none c.loop-rest.rest a.s.now c.loop-rest.row c.loop-rest.i c.loop-rest.at c.loop-rest-test.false)
     ∙ c.loop-rest.invariant.2

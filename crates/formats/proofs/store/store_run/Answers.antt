@@ -14,12 +14,12 @@ loop-rest-init c = let a = c.args in (counted_none a.digits, sized_none a.digits
 
 pub overflow_add-at : goal.overflow_add-at
 overflow_add-at c =
-    let digits = c.args.digits in 
+    let digits = c.args.digits in
     omega (arith, c.width_of-at.ensures, at_most_eight (c.loop-rest.rest % 16), sized_few digits c.loop-rest.rest c.loop-rest.at c.loop-rest.invariant.1)
 
 pub overflow_add-i : goal.overflow_add-i
 overflow_add-i c =
-    let digits = c.args.digits in 
+    let digits = c.args.digits in
     omega (arith, counted_few digits c.loop-rest.rest c.loop-rest.i c.loop-rest.invariant.0)
 
 pub loop-rest-smaller : goal.loop-rest-smaller
@@ -35,12 +35,12 @@ loop-rest-preserved c =
 
 pub shape_of-buf : goal.shape_of-buf
 shape_of-buf c =
-    let a = c.args in 
+    let a = c.args in
     sym (length-run_stored (formats_by c.loop-rest.rest) a.row.now c.loop-rest.i c.loop-rest.buf c.loop-rest.at)
     ∙ ap length c.loop-rest.invariant.2
     ∙ length-run_stored (formats_by a.digits) a.row.now 0 a.buf.now 0
 
 pub returns : goal.returns
 returns c =
-    let a = c.args in 
+    let a = c.args in
     sym (stored_none c.loop-rest.rest a.row.now c.loop-rest.i c.loop-rest.buf c.loop-rest.at c.loop-rest-test.false) ∙ c.loop-rest.invariant.2

@@ -11,5 +11,5 @@ returns-then-counts-lt-TOTALS_SIZE c = let both = row_32 totals_fields (λ x. 0)
 pub returns : goal.returns
 unfolding totals_for
 returns c =
-    let both = let a = c.args in 
+    let both = let a = c.args in
     row_put totals_fields (λ x. 0) totals_row _ a.counts.now c.if-counts-lt-TOTALS_SIZE.false refl (ap totals_row c.totals.ensures) c.put_counts.ensures in record { value = both.0; counts_after = both.1 }

@@ -14,7 +14,7 @@ returns-then-found-lt-FOUND_SIZE c = let both = row_32 found_fields number_in (�
 pub returns : goal.returns
 unfolding next_from
 returns c =
-    let both = let a = c.args in 
+    let both = let a = c.args in
     let next = next_of a.capture.now (start_at a.at a.opened) in
     row_put found_fields number_in (λ x. found_values (found_in x)) next a.found.now c.if-found-lt-FOUND_SIZE.false (ap (λ (r : Reached). r.number) c.reach-reached.ensures ∙ number_told next)
     (ap found_values (c.row_of.ensures next c.reach-reached.ensures)) c.put_found.ensures in record { value = both.0; found_after = both.1 }

@@ -10,7 +10,7 @@ use Rattle.frame_writer.proofs.write.seal.Goals.{In-Bytes}
 
 room : (c : In-Bytes) → (c.args.n ≤ 255) × (c.args.n + 8 ≤ length c.args.buf.now)
 room c =
-    let a = c.args in 
+    let a = c.args in
     fits a.n (length a.buf.now) (known c.plan.ensures c.in-Bytes.is)
 
 pub overflow_cast-n : goal.overflow_cast-n
@@ -24,7 +24,7 @@ slice_bounds-crc-end c = omega (arith, room (goal.at.slice_bounds-crc-end c).In-
 
 pub returns-in-Bytes : goal.returns-in-Bytes
 returns-in-Bytes c =
-    let a = c.args in 
+    let a = c.args in
     seals a.kind a.writer a.n a.buf.now
     (known c.plan.ensures c.in-Bytes.is)
     c.sender_number.ensures
@@ -34,5 +34,5 @@ returns-in-Bytes c =
 
 pub returns-in_default : goal.returns-in_default
 returns-in_default c =
-    let a = c.args in 
+    let a = c.args in
     sym (sealed_unfit a.kind a.writer a.n a.buf.now (known c.plan.ensures c.in_default.is))

@@ -4,5 +4,5 @@ use Rattle.frames.proofs.apart.frame_crc.Goals as goal
 
 pub returns : goal.returns
 returns c =
-    let a = c.args in 
+    let a = c.args in
     sums a.header.now a.payload.now c.onward-start.ensures c.crc_apart.ensures

@@ -28,14 +28,14 @@ slice_bounds-junk_run-start c = slice_bounds-junk_run-count (goal.at.slice_bound
 
 pub loop-seen-smaller-then-seen-eq-JUNK : goal.loop-seen-smaller-then-seen-eq-JUNK
 loop-seen-smaller-then-seen-eq-JUNK c =
-    let s = c.args.s.now in 
+    let s = c.args.s.now in
     let at-junk = tells_junk c.seen_at-seen.result c.if-seen-eq-JUNK.true ∙ c.seen_at-seen.ensures in
     let run = c.junk_run.ensures ∙ ap junk_run (lent_all c.loop-seen.c.at s) in
     omega (arith, junk_inside s c.well_formed.0.0 c.loop-seen.c at-junk, past_junk_further s c.well_formed.0.0 c.loop-seen.c at-junk run c.past_junk-c.ensures)
 
 pub loop-seen-preserved-then-seen-eq-JUNK : goal.loop-seen-preserved-then-seen-eq-JUNK
 loop-seen-preserved-then-seen-eq-JUNK c =
-    let s = c.args.s.now in 
+    let s = c.args.s.now in
     let at-junk = tells_junk c.seen_at-seen.result c.if-seen-eq-JUNK.true ∙ c.seen_at-seen.ensures in
     let run = c.junk_run.ensures ∙ ap junk_run (lent_all c.loop-seen.c.at s) in
     past_junk_honest s c.well_formed.0.0 c.loop-seen.c at-junk run c.past_junk-c.ensures false c.loop-seen.invariant

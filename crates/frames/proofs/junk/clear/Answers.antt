@@ -10,8 +10,8 @@ loop-i-init c = (omega arith, hit_none (drop c.args.from c.args.s.now))
 
 pub loop-i-preserved : goal.loop-i-preserved
 loop-i-preserved c =
-    let s = c.args.s.now in 
-    let from = c.args.from in 
+    let s = c.args.s.now in
+    let from = c.args.from in
     let byte = get_or-drop from s c.loop-i.i 0 in
     let inside : c.loop-i.i < length (drop from s) = omega (arith, c.requires, c.loop-i-test.true, length-drop from s) in
     (omega arith, c.marked-hit.ensures ∙ ap₂ (λ (b : ℕ) (h : Bool). cond (eqb b 0x55) true h) (sym byte) c.loop-i.invariant.1 ∙ hit_more (drop from s) c.loop-i.i inside)

@@ -12,7 +12,7 @@ clear-requires c = omega (arith, c.loop-to.invariant, c.loop-to-test.true, run_l
 
 pub loop-to-preserved : goal.loop-to-preserved
 loop-to-preserved c =
-    let s = c.args.s.now in 
+    let s = c.args.s.now in
     run_on c.loop-to.to 32 s c.loop-to.invariant (leb-true 32 (junk_run (drop c.loop-to.to s)) (sym c.clear.ensures ∙ c.if-clear.true))
 
 pub returns-else-clear : goal.returns-else-clear

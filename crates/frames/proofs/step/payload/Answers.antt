@@ -7,5 +7,5 @@ use Rattle.frames.proofs.step.payload.Goals as goal
 pub returns : goal.returns
 unfolding payload_in
 returns c =
-    let a = c.args in 
+    let a = c.args in
     part a.s.now (a.frame.at + 6) a.frame.length c.onward-start.ensures c.onward-end.ensures

@@ -4,7 +4,7 @@ use Rattle.index.proofs.counting.count.Goals as goal
 
 pub returns-then-place-lt-MESSAGES : goal.returns-then-place-lt-MESSAGES
 returns-then-place-lt-MESSAGES c =
-    let a = c.args in 
+    let a = c.args in
     count_known a.index a.kind c.place_of-place.ensures c.if-place-lt-MESSAGES.true
 
 pub returns : goal.returns

@@ -8,10 +8,10 @@ returns-then-s-reached c = let a = c.args in plan_52 a.index a.s.now a.most c.if
 
 pub returns-then-roomy : goal.returns-then-roomy
 returns-then-roomy c =
-    let a = c.args in 
+    let a = c.args in
     plan_0 a.index a.s.now a.most c.if-s-reached.false (sym c.roomy.ensures ∙ c.if-roomy.true)
 
 pub returns : goal.returns
 returns c =
-    let a = c.args in 
+    let a = c.args in
     plan_51 a.index a.s.now a.most c.if-s-reached.false (sym c.roomy.ensures ∙ c.if-roomy.false)

@@ -11,7 +11,7 @@ returns-then-plan-ne0 c = let a = c.args in c.still.ensures ∙ sym (turn_refuse
 
 pub returns-then-index-most : goal.returns-then-index-most
 returns-then-index-most c =
-    let a = c.args in 
+    let a = c.args in
     let e = sym c.after.ensures ∙ c.in-Frame.is in
     ap₂ (λ (e : Entry) (x : Index). turn a.plan.index.held e x) c.entry_of.ensures c.advanced.ensures
     ∙ sym (turn_frame a.s.now a.most a.plan c.if-plan-ne0.false e c.if-index-most.true)
@@ -21,18 +21,18 @@ returns-then-index-most c =
 
 pub returns-else-index-most : goal.returns-else-index-most
 returns-else-index-most c =
-    let a = c.args in 
+    let a = c.args in
     let e = sym c.after.ensures ∙ c.in-Frame.is in
     c.still-in-Frame.ensures ∙ sym (turn_full a.s.now a.most a.plan c.if-plan-ne0.false e c.if-index-most.false)
 
 pub returns-in-End : goal.returns-in-End
 returns-in-End c =
-    let a = c.args in 
+    let a = c.args in
     let e = sym c.after.ensures ∙ c.in-End.is in
     c.stopped.ensures ∙ sym (turn_end a.s.now a.most a.plan c.if-plan-ne0.false e)
 
 pub returns-in-Needs : goal.returns-in-Needs
 returns-in-Needs c =
-    let a = c.args in 
+    let a = c.args in
     let e = sym c.after.ensures ∙ c.in-Needs.is in
     c.stopped-in-Needs.ensures ∙ sym (turn_needs a.s.now a.most a.plan c.if-plan-ne0.false e)

@@ -13,7 +13,7 @@ returns-then-bytes-lt-INDEX_SIZE c = let both = let a = c.args in count_short a.
 
 pub returns : goal.returns
 returns c =
-    let both = let a = c.args in 
+    let both = let a = c.args in
     let e = c.count.ensures ∙ ap (λ (x : Index). count_in x a.kind) c.index_in.ensures in
     count_long a.bytes.now a.kind a.count.now c.if-bytes-lt-INDEX_SIZE.false
     (c.hand_count.ensures.value ∙ ap zero_or e) (c.hand_count.ensures.count_after ∙ ap (λ (n : Answer ℕ). count_or n a.count.now) e) in record { value = both.0; count_after = both.1 }

@@ -10,15 +10,15 @@ returns-then-s-gt65536 c = let both = let a = c.args in too_long a.s.now a.buf.n
 
 pub put_text-requires : goal.put_text-requires
 put_text-requires c =
-    let s = c.args.s.now in 
+    let s = c.args.s.now in
     omega (arith, text_size s (λ i. (c.shared_slice_known-1.given i).fits) c.if-s-gt65536.false, c.if-s-gt65536.false)
 
 pub returns-then-fits : goal.returns-then-fits
 returns-then-fits c =
-    let both = let a = c.args in 
+    let both = let a = c.args in
     text_put a.s.now a.buf.now c.if-s-gt65536.false (sym c.fits.ensures ∙ c.if-fits.true) c.put_text.ensures.value c.put_text.ensures.buf_after in record { result_value = both.0; buf_after = both.1 }
 
 pub returns : goal.returns
 returns c =
-    let both = let a = c.args in 
+    let both = let a = c.args in
     no_room a.s.now a.buf.now c.if-s-gt65536.false (sym c.fits.ensures ∙ c.if-fits.false) in record { result_value = both.0; buf_after = both.1 }

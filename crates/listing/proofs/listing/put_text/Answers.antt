@@ -22,7 +22,7 @@ loop-frame-preserved c =
 
 pub shape_of-buf-in-End : goal.shape_of-buf-in-End
 shape_of-buf-in-End c =
-    let a = c.args in 
+    let a = c.args in
     omega (arith, c.put_totals.auto, c.loop-frame.invariant.rest.pending.size, length-sets a.buf.now 0 (text_of a.s.now))
 
 pub returns-in-End : goal.returns-in-End
@@ -31,7 +31,7 @@ returns-in-End c =
 
 pub shape_of-buf-in-Needs : goal.shape_of-buf-in-Needs
 shape_of-buf-in-Needs c =
-    let a = c.args in 
+    let a = c.args in
     omega (arith, c.loop-frame.invariant.rest.pending.size, length-sets a.buf.now 0 (text_of a.s.now))
 
 pub returns-in-Needs : goal.returns-in-Needs

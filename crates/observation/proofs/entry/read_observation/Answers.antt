@@ -16,7 +16,7 @@ overflow_sub-s c = omega (arith, whole first (length c.args.s.now) (sym c.is_obs
 
 pub returns-then-i-s : goal.returns-then-i-s
 returns-then-i-s c =
-    let a = c.args in 
+    let a = c.args in
     let start = start_of first a.i in
     let size : start + 16 - start ≡ 16 = omega arith in
     let there = ap (λ (n : ℕ). decode observation.fields (take n (drop start a.s.now)) 0) size
@@ -27,10 +27,10 @@ returns-then-i-s c =
 
 pub returns-then-is_obs_length : goal.returns-then-is_obs_length
 returns-then-is_obs_length c =
-    let a = c.args in 
+    let a = c.args in
     sym (entry_25 first a.s.now a.i (sym c.is_obs_length.ensures ∙ c.if-is_obs_length.true) c.if-i-s.false)
 
 pub returns : goal.returns
 returns c =
-    let a = c.args in 
+    let a = c.args in
     sym (entry_22 first a.s.now a.i (sym c.is_obs_length.ensures ∙ c.if-is_obs_length.false))

@@ -21,7 +21,7 @@ overflow_cast-result c = omega (arith, whole first (length c.args.s.now) (fitted
 
 pub returns-then-is_obs_length : goal.returns-then-is_obs_length
 returns-then-is_obs_length c =
-    let s = c.args.s.now in 
+    let s = c.args.s.now in
     (λ i. given (record {
       tow = c.read_u32.ensures i;
       wn = c.read_u16.ensures i;

@@ -6,5 +6,5 @@ use Rattle.orbits.proofs.ephemeris_sbas.put.Goals as goal
 
 pub returns : goal.returns
 returns c =
-    let a = c.args in 
+    let a = c.args in
     then _ _ _ (then _ _ _ (then_part motion a.r.motion 30 c.put.ensures c.put-2.ensures) c.store_double.ensures) c.store_double-2.ensures

@@ -8,6 +8,6 @@ use Rattle.orbits.proofs.motion.put.Goals as goal
 
 pub returns : goal.returns
 returns c =
-    let a = c.args in 
+    let a = c.args in
     then_part vector a.r.acc (a.at + 24 + 24) (then_part vector a.r.vel (a.at + 24) c.put_vector.ensures c.put_vector-2.ensures) c.put_vector-3.ensures
     ∙ sym (put_motion a.buf.now a.at a.r)

@@ -10,7 +10,7 @@ loop-i-init c = none_looked_at c.args.s.now
 
 pub loop-i-preserved : goal.loop-i-preserved
 loop-i-preserved c =
-    let s = c.args.s.now in 
+    let s = c.args.s.now in
     subst⁻¹ (λ (clean : Bool). Clean s clean (c.loop-i.i + 1)) c.clean_after-clean.ensures (looked_at s c.loop-i.i c.loop-i.clean c.loop-i.invariant c.loop-i-test.true)
 
 pub returns : goal.returns

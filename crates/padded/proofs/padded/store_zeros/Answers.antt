@@ -24,12 +24,12 @@ loop-i-init c = let a = c.args in copied_none a.at a.buf.now (zeros a.n)
 
 pub overflow_add-buf : goal.overflow_add-buf
 overflow_add-buf c =
-    let a = c.args in 
+    let a = c.args in
     omega (arith, fits a.at a.n a.buf.now c.room.ensures c.if-room.true, length-replicate {A = ℕ} a.n 0)
 
 pub bounds-buf-at : goal.bounds-buf-at
 bounds-buf-at c =
-    let a = c.args in 
+    let a = c.args in
     omega (
       arith,
       fits a.at a.n a.buf.now c.room.ensures c.if-room.true,
@@ -39,22 +39,22 @@ bounds-buf-at c =
 
 pub loop-i-preserved : goal.loop-i-preserved
 loop-i-preserved c =
-    let a = c.args in 
+    let a = c.args in
     subst (λ (b : ℕ). Copied a.at a.buf.now (zeros a.n) (set c.loop-i.buf (a.at + c.loop-i.i) b) (c.loop-i.i + 1)) (get_or-replicate a.n c.loop-i.i 0 0 c.loop-i-test.true)
     (copied_more a.at a.buf.now (zeros a.n) c.loop-i.buf c.loop-i.i c.loop-i.invariant (omega (arith, c.loop-i-test.true, length-replicate {A = ℕ} a.n 0)))
 
 pub shape_of-buf : goal.shape_of-buf
 shape_of-buf c =
-    let a = c.args in 
+    let a = c.args in
     copied_length a.at a.buf.now (zeros a.n) c.loop-i.buf c.loop-i.i c.loop-i.invariant
 
 pub returns-after-loop-i : goal.returns-after-loop-i
 returns-after-loop-i c =
-    let a = c.args in 
+    let a = c.args in
     copied_all a.at a.buf.now (zeros a.n) c.loop-i.buf c.loop-i.i c.loop-i.invariant (omega (arith, c.loop-i-test.false, length-replicate {A = ℕ} a.n 0))
     ∙ sym (bytes_sets (zeros a.n) a.buf.now a.at (fits a.at a.n a.buf.now c.room.ensures c.if-room.true))
 
 pub returns-else-room : goal.returns-else-room
 returns-else-room c =
-    let a = c.args in 
+    let a = c.args in
     sym (bytes_nowhere (zeros a.n) a.buf.now a.at (fits_not a.at a.n a.buf.now c.room.ensures c.if-room.false))

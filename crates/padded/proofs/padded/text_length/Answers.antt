@@ -9,7 +9,7 @@ use Rattle.padded.proofs.padded.text_length.Goals as goal
 
 pub returns-then-no_zero : goal.returns-then-no_zero
 returns-then-no_zero c =
-    let s = c.args.s.now in 
+    let s = c.args.s.now in
     let none = ap (λ (k : ℕ). no_zero (take k s)) (sym (sub-zero c.trimmed-n.result)) ∙ sym c.no_zero.ensures ∙ c.if-no_zero.true in
     whole_text s c.trimmed-n.result c.trimmed-n.ensures.0 none c.trimmed-n.ensures.1
 

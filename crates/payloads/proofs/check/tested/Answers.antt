@@ -30,22 +30,22 @@ returns-in-Length c = as_met c.args.s.now c.refusal.ensures c.in-Length.is
 pub returns-in-Ns : goal.returns-in-Ns
 unfolding in_ns
 returns-in-Ns c =
-    let s = c.args.s.now in 
+    let s = c.args.s.now in
     as_met s (inside_as (eqb (length s) c.in-Ns.n) c.refusal-in-Ns.ensures (c.ns_allowed.ensures ∙ ap ns_inside (came_back w32 c.read_s32.type_inv c.read_s32.ensures))) c.in-Ns.is
 
 pub returns-in-Fix : goal.returns-in-Fix
 unfolding fix_up_to
 returns-in-Fix c =
-    let s = c.args.s.now in 
+    let s = c.args.s.now in
     as_met s (inside_as (eqb (length s) c.in-Fix.n) c.refusal-in-Fix.ensures (c.fix_allowed.ensures ∙ ap (mode_inside _) c.read_u8.ensures)) c.in-Fix.is
 
 pub returns-in-Obs : goal.returns-in-Obs
 returns-in-Obs c =
-    let s = c.args.s.now in 
+    let s = c.args.s.now in
     as_met s (fits_as true c.refusal-in-Obs.ensures (c.is_obs_length.ensures ∙ obs_length (length s))) c.in-Obs.is
 
 pub returns-in-Log : goal.returns-in-Log
 returns-in-Log c =
-    let s = c.args.s.now in 
+    let s = c.args.s.now in
     let long = fits_as c.log_padded.result c.refusal-in-Log.ensures (c.is_log_length.ensures ∙ log_length_lem (length s)) in
     as_met s (inside_as (log_long (length s)) long c.log_padded.ensures) c.in-Log.is

@@ -11,15 +11,15 @@ loop-i-init c = sym (zero-add (place_in c.args.kinds.now c.args.kind))
 
 pub returns-then-kinds-i : goal.returns-then-kinds-i
 returns-then-kinds-i c =
-    let a = c.args in 
+    let a = c.args in
     sym (c.loop-i.invariant ∙ place_here a.kinds.now a.kind c.loop-i.i c.loop-i-test.true c.if-kinds-i.true)
 
 pub loop-i-preserved : goal.loop-i-preserved
 loop-i-preserved c =
-    let a = c.args in 
+    let a = c.args in
     c.loop-i.invariant ∙ place_on a.kinds.now a.kind c.loop-i.i c.loop-i-test.true c.if-kinds-i.false
 
 pub returns : goal.returns
 returns c =
-    let a = c.args in 
+    let a = c.args in
     sym (c.loop-i.invariant ∙ place_none a.kinds.now a.kind c.loop-i.i c.loop-i-test.false)

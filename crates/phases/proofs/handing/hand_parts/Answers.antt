@@ -9,7 +9,7 @@ use Rattle.phases.proofs.handing.hand_parts.Goals as goal
 
 pub returns-in-Parts : goal.returns-in-Parts
 returns-in-Parts c =
-    let both = let a = c.args in 
+    let both = let a = c.args in
     let e = sym (ap parts_answer c.in-Parts.is) ∙ c.phase_parts-parts.ensures ∙ ap read_phase (came_back w64 c.ranges.phase.sfits refl) in (
       ap (as_number (λ p. 0)) e,
       (
@@ -20,7 +20,7 @@ returns-in-Parts c =
 
 pub returns-in-Refused : goal.returns-in-Refused
 returns-in-Refused c =
-    let both = let a = c.args in 
+    let both = let a = c.args in
     let e = sym (ap parts_answer c.in-Refused.is) ∙ c.phase_parts-parts.ensures ∙ ap read_phase (came_back w64 c.ranges.phase.sfits refl) in (
       ap (as_number (λ p. 0)) e,
       (ap (λ (x : Answer Phase). leaves (λ p was. p.l_i) x a.l_i.now) e, ap (λ (x : Answer Phase). leaves (λ p was. p.l_f) x a.l_f.now) e),

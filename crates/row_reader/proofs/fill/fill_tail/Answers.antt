@@ -17,7 +17,7 @@ fill_text-requires c =
 
 pub returns-then-each-eq-TEXT : goal.returns-then-each-eq-TEXT
 returns-then-each-eq-TEXT c =
-    let a = c.args in 
+    let a = c.args in
     c.fill_text.ensures ∙ sym (ap (λ (ns : List ℕ). beginning ns a.row.now) (text_tail a.each a.s.now c.if-each-eq-TEXT.true))
 
 pub nonzero_div-row : goal.nonzero_div-row

@@ -24,13 +24,13 @@ slice_bounds-run_fits-start c = slice_bounds-run_fits-count (goal.at.slice_bound
 
 pub loop-i-preserved : goal.loop-i-preserved
 loop-i-preserved c =
-    let a = c.args in 
+    let a = c.args in
     fit_more observation.fields a.rows.now a.k c.loop-i.i c.loop-i.invariant c.loop-i-test.true
     (sym c.if-run_fits.true ∙ c.run_fits.ensures ∙ fits_lent observation.fields a.rows.now (c.loop-i.i * 8) each_formats)
 
 pub returns-else-run_fits : goal.returns-else-run_fits
 returns-else-run_fits c =
-    let a = c.args in 
+    let a = c.args in
     fit_not observation.fields a.rows.now a.k c.loop-i.i c.loop-i.invariant c.loop-i-test.true
     (sym c.if-run_fits.false ∙ c.run_fits.ensures ∙ fits_lent observation.fields a.rows.now (c.loop-i.i * 8) each_formats)
 

@@ -19,12 +19,12 @@ few c = let a = c.args in few_rows a.kind a.head.now a.rows.now (fit c)
 
 pub returns-then-number-ne0 : goal.returns-then-number-ne0
 returns-then-number-ne0 c =
-    let both = let a = c.args in 
+    let both = let a = c.args in
     wrote_refused a.kind a.writer a.head.now a.rows.now a.out.now a.size.now c.refusal-number.ensures c.if-number-ne0.true in record { value = both.0; out_after = both.1; size_after = both.2 }
 
 pub pack_rows-requires : goal.pack_rows-requires
 pack_rows-requires c =
-    let both = let a = c.args in 
+    let both = let a = c.args in
     (omega arith, (omega (arith, few (goal.at.pack_rows-requires c).Else-number-ne0, c.store_run.auto), (fitting_rows a.kind a.head.now a.rows.now (fit (goal.at.pack_rows-requires c).Else-number-ne0)).1)) in record { k_in_bounds = both.0; k_in_bounds_2 = both.1; rows_value = both.2 }
 
 pub slice_bounds-bytes-end : goal.slice_bounds-bytes-end
@@ -36,7 +36,7 @@ slice_bounds-send_frame-end c =
 
 pub returns : goal.returns
 returns c =
-    let both = let a = c.args in 
+    let both = let a = c.args in
     let f = fit (goal.at.returns c).Else-number-ne0 in
     let words : Words a.head.now = λ i. (c.shared_slice_known-1.given i).fits in
     wrote_sent a.kind a.writer a.head.now a.rows.now a.out.now a.size.now f

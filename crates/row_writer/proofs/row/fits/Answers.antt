@@ -5,10 +5,10 @@ use Rattle.row_writer.proofs.row.fits.Goals as goal
 
 pub returns-then-run_fits : goal.returns-then-run_fits
 returns-then-run_fits c =
-    let a = c.args in 
+    let a = c.args in
     fit_both (formats_by a.shape.head) (formats_by a.shape.more) a.row.now c.count-n.ensures c.run_fits.ensures c.if-run_fits.true c.run_fits-then-run_fits.ensures
 
 pub returns : goal.returns
 returns c =
-    let a = c.args in 
+    let a = c.args in
     fit_not (formats_by a.shape.head) (formats_by a.shape.more) a.row.now c.count-n.ensures c.run_fits.ensures c.if-run_fits.false

@@ -11,7 +11,7 @@ use Rattle.row_writer.proofs.row.is_alone.Goals as goal
 
 pub returns-then-is_known : goal.returns-then-is_known
 returns-then-is_known c =
-    let kind = c.args.kind in 
+    let kind = c.args.kind in
     ap (λ (s : Shape). eqb s.each 0) c.shape_of-shape.ensures
     ∙ alone_by_shape (layout_for kind) (unpacks kind).1
     ∙ ap (λ (t : Bool). t && alone (layout_for kind)) (sym c.if-is_known.true ∙ c.is_known.ensures)

@@ -5,5 +5,5 @@ use Rattle.row_writer.proofs.row.pack.Goals as goal
 
 pub returns : goal.returns
 returns c =
-    let a = c.args in 
+    let a = c.args in
     packed (formats_by a.shape.head) (formats_by a.shape.more) a.row.now c.count-n.ensures a.bytes.now c.size-at.ensures c.requires.more_in_bounds c.store_run.ensures c.store_run-2.ensures

@@ -21,7 +21,7 @@ known c = sym c.is_alone.ensures ∙ c.if-is_alone.true
 
 counted : (c : After-count-then-is_alone) → c.count.result + c.count-then-is_alone.result ≡ number_count (layout_for c.args.kind)
 counted c =
-    let kind = c.args.kind in 
+    let kind = c.args.kind in
     counted_as kind c.shape_of-shape.ensures c.count.ensures c.count-then-is_alone.ensures (only_fields kind (known c))
 
 fitted : (c : tie.After-fits2) → c.fits2.result ≡ fits_row (front_of (layout_for c.before.before.before.before.before.before.before.before.args.kind)) c.before.before.before.before.before.before.before.before.args.row.now 0
@@ -36,17 +36,17 @@ overflow_add-count c =
 
 pub returns-then-fits : goal.returns-then-fits
 returns-then-fits c =
-    let a = c.args in 
+    let a = c.args in
     number_0 a.kind a.row.now (known (goal.at.returns-then-fits c).After-shape_of-shape) (eq-eqb (length a.row.now) (number_count (layout_for a.kind)) (c.if-row-count.true ∙ counted (goal.at.returns-then-fits c).After-count-then-is_alone)) (sym (fitted (goal.at.returns-then-fits c).After-fits) ∙ c.if-fits.true)
 
 pub returns-then-row-count : goal.returns-then-row-count
 returns-then-row-count c =
-    let a = c.args in 
+    let a = c.args in
     number_23 a.kind a.row.now (known (goal.at.returns-then-row-count c).After-shape_of-shape) (eq-eqb (length a.row.now) (number_count (layout_for a.kind)) (c.if-row-count.true ∙ counted (goal.at.returns-then-row-count c).After-count-then-is_alone)) (sym (fitted (goal.at.returns-then-row-count c).After-fits) ∙ c.if-fits.false)
 
 pub returns-then-is_alone : goal.returns-then-is_alone
 returns-then-is_alone c =
-    let a = c.args in 
+    let a = c.args in
     number_22 a.kind a.row.now (known (goal.at.returns-then-is_alone c).After-shape_of-shape) (ne_eqb (length a.row.now) (number_count (layout_for a.kind)) (λ e. c.if-row-count.false (e ∙ sym (counted (goal.at.returns-then-is_alone c).After-count-then-is_alone))))
 
 pub returns : goal.returns

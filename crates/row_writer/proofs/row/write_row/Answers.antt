@@ -28,7 +28,7 @@ short c = omega (arith, sized c, (plain_for c.args.kind).1)
 
 pub returns-then-number-ne0 : goal.returns-then-number-ne0
 returns-then-number-ne0 c =
-    let both = let a = c.args in 
+    let both = let a = c.args in
     wrote_refused a.kind a.writer a.row.now a.out.now a.size.now c.refusal-number.ensures c.if-number-ne0.true in record { value = both.0; out_after = both.1; size_after = both.2 }
 
 pub overflow_add-n : goal.overflow_add-n
@@ -36,7 +36,7 @@ overflow_add-n c = omega (arith, short (goal.at.overflow_add-n c).After-size-2)
 
 pub pack-requires : goal.pack-requires
 pack-requires c =
-    let a = c.args in 
+    let a = c.args in
     let f = fit (goal.at.pack-requires c).After-shape_of-shape in
     let counted = counted_as a.kind c.shape_of-shape.ensures refl refl f.only in
     record { head_in_bounds = omega (arith, eqb-true (length a.row.now) (number_count (layout_for a.kind)) f.counted, counted); more_in_bounds = omega (arith, short (goal.at.pack-requires c).After-size-2, c.size.ensures, c.size-2.ensures) }
@@ -49,7 +49,7 @@ slice_bounds-send-end c = sym (length-take-le _ c.pack.new.0 (omega (arith, shor
 
 pub returns : goal.returns
 returns c =
-    let both = let a = c.args in 
+    let both = let a = c.args in
     let words : Words a.row.now = λ i. (c.shared_slice_known-1.given i).fits in
     let f = fit (goal.at.returns c).After-shape_of-shape in
     wrote_sent a.kind a.writer a.row.now a.out.now a.size.now words f

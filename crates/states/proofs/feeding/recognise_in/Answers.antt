@@ -8,6 +8,6 @@ use Rattle.states.proofs.feeding.recognise_in.Goals as goal
 
 pub returns : goal.returns
 returns c =
-    let a = c.args in 
+    let a = c.args in
     c.recognise.ensures
     ∙ ap₂ (λ (n : ℕ) (xs : List ℕ). for_place (take n xs) (record { kind = a.kind; sender = a.sender; payload = a.payload.now })) c.read_u8-count.ensures c.seats_in-roster.ensures

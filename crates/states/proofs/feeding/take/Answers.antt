@@ -18,19 +18,22 @@ own c = mod-eq_of_lt c.requires
 -- what the place answers
 answers : (c : After-step-step) → step_answer c.step-step.result ≡ step_in c.args.s.now c.args.i c.args.packet
 answers c =
-    let a = c.args in 
+    let a = c.args in
     c.step-step.ensures
     ∙ ap (λ (q : Place). reply (stepping q.group a.packet)) (c.place_in-place.ensures ∙ ap (place_in a.s.now) (own c))
 
 pub returns-in-Refused : goal.returns-in-Refused
 returns-in-Refused c =
-    let a = c.args in 
+    let a = c.args in
     let e = ap step_answer (sym c.in-Refused.is) ∙ answers (goal.at.returns-in-Refused c).After-step-step in
     record { value = ap (came_to a.sender a.packet) e; s_after = ap (place_left a.s.now a.i) e }
 
 pub returns-in-To : goal.returns-in-To
 returns-in-To c =
-    let a = c.args in 
-    let e = ap step_answer (sym c.in-To.is) ∙ answers (goal.at.returns-in-To c).After-step-step in record { value = c.outcome.ensures ∙ ap (came_to a.sender a.packet) e; s_after = c.put_place.ensures
+    let a = c.args in
+    let e = ap step_answer (sym c.in-To.is) ∙ answers (goal.at.returns-in-To c).After-step-step in record {
+      value = c.outcome.ensures ∙ ap (came_to a.sender a.packet) e;
+      s_after = c.put_place.ensures
           ∙ ap (λ (i : ℕ). place_stored a.s.now i (record { group = c.in-To.next.group })) (own (goal.at.returns-in-To c).After-step-step)
-          ∙ ap (place_left a.s.now a.i) e }
+          ∙ ap (place_left a.s.now a.i) e;
+    }

@@ -7,5 +7,5 @@ returns-then-state-lt-STATE_SIZE c = let both = let a = c.args in enlist_32 a.st
 
 pub returns : goal.returns
 returns c =
-    let both = let a = c.args in 
+    let both = let a = c.args in
     enlist_put a.state.now a.kind a.sender c.if-state-lt-STATE_SIZE.false c.enlist_in.ensures in record { value = both.0; state_after = both.1 }

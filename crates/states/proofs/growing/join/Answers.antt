@@ -8,15 +8,15 @@ use Rattle.states.proofs.growing.join.Goals as goal
 
 pub take_seat-requires : goal.take_seat-requires
 take_seat-requires c =
-    let a = c.args in 
+    let a = c.args in
     seat_eight (seats_in a.s.now) (senders_in a.s.now) a.sender (sym c.new_seat_in-seat.ensures ∙ c.in-At.is)
 
 pub returns-in-At : goal.returns-in-At
 returns-in-At c =
-    let a = c.args in 
+    let a = c.args in
     c.take_seat.ensures ∙ ap (λ (x : Seat). seated_by x a.s.now a.sender) (sym c.in-At.is ∙ c.new_seat_in-seat.ensures)
 
 pub returns-in_default : goal.returns-in_default
 returns-in_default c =
-    let a = c.args in 
+    let a = c.args in
     ap (λ (x : Seat). seated_by x a.s.now a.sender) (sym c.in_default.is ∙ c.new_seat_in-seat.ensures)

@@ -7,5 +7,5 @@ use Rattle.states.proofs.growing.new_seat_in.Goals as goal
 
 pub returns : goal.returns
 returns c =
-    let sender = c.args.sender in 
+    let sender = c.args.sender in
     c.new_seat.ensures ∙ ap₂ (λ (xs : List ℕ) (n : ℕ). new_seat xs n sender) c.seats_in-roster.ensures c.read_u8-count.ensures

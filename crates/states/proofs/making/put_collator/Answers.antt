@@ -5,6 +5,6 @@ use Rattle.states.proofs.making.put_collator.Goals as goal
 
 pub returns : goal.returns
 returns c =
-    let a = c.args in 
+    let a = c.args in
     c.put_places.ensures
     ∙ ap (places_stored a.c.places) (c.put_seats.ensures ∙ ap (seats_stored a.c.roster) c.store_u8.ensures)

@@ -15,7 +15,7 @@ loop-i-init c = (omega arith, rows_none _ _ _ _)
 
 pub loop-i-preserved : goal.loop-i-preserved
 loop-i-preserved c =
-    let a = c.args in 
+    let a = c.args in
     let own : c.loop-i.i % 8 ≡ c.loop-i.i = mod-eq_of_lt (omega arith) in (
       omega arith,
       rows_more slot_fields (place_row a.t2) a.s.now places_at c.loop-i.i c.loop-i.invariant.1

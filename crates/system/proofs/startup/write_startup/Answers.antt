@@ -7,10 +7,10 @@ use Rattle.system.proofs.startup.write_startup.Goals as goal
 
 pub returns-in-Bytes : goal.returns-in-Bytes
 returns-in-Bytes c =
-    let both = let a = c.args in 
+    let both = let a = c.args in
     wrote startup a.writer a.r a.buf.now refl refl c.plan-answer.ensures (known c.plan-answer.ensures c.in-Bytes.is) c.put.ensures c.seal.ensures in record { result_value = both.0; buf_after = both.1 }
 
 pub returns-in_default : goal.returns-in_default
 returns-in_default c =
-    let both = let a = c.args in 
+    let both = let a = c.args in
     wrote_nothing startup a.writer a.r a.buf.now refl refl c.plan-answer.ensures (known c.plan-answer.ensures c.in_default.is) in record { result_value = both.0; buf_after = both.1 }

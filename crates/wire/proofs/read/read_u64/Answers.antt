@@ -8,5 +8,5 @@ returns-then-s-at c = sym (number_past 8 c.args.s.now c.args.at c.if-s-at.true)
 
 pub returns : goal.returns
 returns c =
-    let a = c.args in 
+    let a = c.args in
     number_halves 4 4 a.s.now a.at c.read_u32.ensures c.read_u32-2.ensures

@@ -6,5 +6,5 @@ use Rattle.wire.proofs.store.store_double.Goals as goal
 
 pub returns : goal.returns
 returns c =
-    let a = c.args in 
+    let a = c.args in
     c.store_u64.ensures ∙ ap (λ (n : ℕ). stored_at 8 n a.buf.now a.at) c.bits.ensures

@@ -9,6 +9,6 @@ use Rattle.wire.proofs.store.store_s16.Goals as goal
 
 pub returns : goal.returns
 returns c =
-    let a = c.args in 
+    let a = c.args in
     c.store_u16.ensures ∙ ap (λ (n : ℕ). stored_at 2 n a.buf.now a.at)
     (c.bits_16.ensures ∙ ap (of_z w16) (to_z-of_z w16 a.v c.ranges.v))

@@ -9,6 +9,6 @@ use Rattle.wire.proofs.store.store_s32.Goals as goal
 
 pub returns : goal.returns
 returns c =
-    let a = c.args in 
+    let a = c.args in
     c.store_u32.ensures ∙ ap (λ (n : ℕ). stored_at 4 n a.buf.now a.at)
     (c.bits_32.ensures ∙ ap (of_z w32) (to_z-of_z w32 a.v c.ranges.v))

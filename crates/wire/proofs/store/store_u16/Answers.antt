@@ -9,15 +9,15 @@ use Rattle.wire.proofs.store.store_u16.Goals as goal
 
 pub overflow_add-at : goal.overflow_add-at
 overflow_add-at c =
-    let a = c.args in 
+    let a = c.args in
     omega (arith, leb-true (a.at + 2) (length a.buf.now) (sym c.room.ensures ∙ c.if-room.true))
 
 pub returns-then-room : goal.returns-then-room
 returns-then-room c =
-    let a = c.args in 
+    let a = c.args in
     stored_halves 1 1 a.v a.buf.now a.at (sym c.room.ensures ∙ c.if-room.true) c.store_u8.ensures c.store_u8-then-room.ensures
 
 pub returns-else-room : goal.returns-else-room
 returns-else-room c =
-    let a = c.args in 
+    let a = c.args in
     stored_nowhere 2 a.v a.buf.now a.at (sym c.room.ensures ∙ c.if-room.false)

@@ -19,6 +19,6 @@ returns-then-repeated c = made_twice c.args.roster.now c.if-n-lt1.false c.if-n-g
 
 pub returns : goal.returns
 returns c =
-    let s = c.args.roster.now in 
+    let s = c.args.roster.now in
     let filled = ap {B = Collator} (λ (seats : List ℕ). record { places = replicate 8 idle; roster = seats; count = length s }) c.seats.ensures in
     made_whole s c.if-n-lt1.false c.if-n-gt8.false (sym c.repeated.ensures ∙ c.if-repeated.false) (c.fresh-2.ensures ∙ filled)

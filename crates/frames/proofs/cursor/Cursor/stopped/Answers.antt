@@ -6,5 +6,5 @@ use Rattle.frames.proofs.cursor.Cursor.stopped.Goals as goal
 
 pub returns : goal.returns
 returns c =
-    let a = c.args in 
+    let a = c.args in
     ap {B = Reached} (λ (f : Frame). record { number = a.number; needed = a.needed; frame = f; cursor = a.self }) c.no_frame.ensures

@@ -11,10 +11,10 @@ returns-then-value c = sym (bits_of_number c.args.self (equals_itself c.args.sel
 
 pub returns-then-is_nan_pattern : goal.returns-then-is_nan_pattern
 returns-then-is_nan_pattern c =
-    let d = c.args.self in 
+    let d = c.args.self in
     sym (bits_of_nan d (differs_from_self d.value c.if-value.false) (sym c.is_nan_pattern.ensures ∙ c.if-is_nan_pattern.true))
 
 pub returns : goal.returns
 returns c =
-    let d = c.args.self in 
+    let d = c.args.self in
     sym (bits_of_other_nan d (differs_from_self d.value c.if-value.false) (sym c.is_nan_pattern.ensures ∙ c.if-is_nan_pattern.false))
