@@ -18,10 +18,10 @@ bounds-more-i c =
     seat_eight a.collator.roster a.collator.count a.sender (sym c.new_seat.ensures ∙ c.in-At.is)
 
 pub offset_bounds-more-i : goal.offset_bounds-more-i
-offset_bounds-more-i c = omega (arith, bounds-more-i (goal.at.offset_bounds-more-i c).In-At)
+offset_bounds-more-i c = omega (arith, bounds-more-i c)
 
 pub overflow_add-more : goal.overflow_add-more
-overflow_add-more c = omega (arith, bounds-more-i (goal.at.overflow_add-more c).In-At)
+overflow_add-more c = omega (arith, bounds-more-i c)
 
 pub returns : goal.returns
 returns c =

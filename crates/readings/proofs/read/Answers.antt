@@ -13,4 +13,4 @@ returns-in-73 c = let a = c.args in at_kind a.kind a.payload.now (typed.obs_read
 pub returns-in_default : goal.returns-in_default
 returns-in_default c =
     let a = c.args in
-    gives_record a.kind a.payload.now c.answer-n.ensures c.if-n-ne0.false c.in_default.rest c.record_in.ensures
+    gives_record a.kind a.payload.now c.answer-n.ensures c.if-n-ne0.false c.in_default.in_default-own.rest c.record_in.ensures

@@ -8,9 +8,9 @@ use Rattle.senders.proofs.sender_number.Goals as goal
 use Rattle.senders.proofs.sender_number.Goals.{In-Unnamed}
 
 -- none is given: the type decides
-by_type : (at : In-Unnamed) (t : Bool) → let a = c.args in
+by_type : (at : In-Unnamed) (t : Bool) → let a = at.args in
     obeyed_from42 a.kind ≡ t → cond t 0x42 a.writer.own ≡ carried a.kind a.writer
-by_type at t e = let a = c.args in unnamed a.kind a.writer t c.in-Unnamed.is e
+by_type at t e = let a = at.args in unnamed a.kind a.writer t at.in-Unnamed.is e
 
 pub returns-in-Named : goal.returns-in-Named
 returns-in-Named c = let a = c.args in as_given a.kind a.writer c.in-Named.is
@@ -22,4 +22,4 @@ pub returns-in-162 : goal.returns-in-162
 returns-in-162 c = by_type (goal.at.returns-in-162 c).In-Unnamed true (ap obeyed_from42 c.in-162.is)
 
 pub returns-in_default : goal.returns-in_default
-returns-in_default c = by_type (goal.at.returns-in_default c).In-Unnamed false (rw (ne_eqb _ _ c.in_default.rest.0.1, ne_eqb _ _ c.in_default.rest.1))
+returns-in_default c = by_type (goal.at.returns-in_default c).In-Unnamed false (rw (ne_eqb _ _ c.in_default.in_default-own.rest.0.1, ne_eqb _ _ c.in_default.in_default-own.rest.1))

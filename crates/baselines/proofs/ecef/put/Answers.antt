@@ -13,4 +13,4 @@ returns c =
     then _ _ _ (then _ _ _ (then _ _ _ (then_signed w32 r.z _ c.struct_told-3-1.given.1.1.1.0.1 (then_signed w32 r.y _ c.struct_told-2-1.given.1.1.0.1 (then_signed w32 r.x _ c.struct_told-1.given.1.0.1 c.store_u32.ensures c.store_s32.ensures) c.store_s32-2.ensures) c.store_s32-3.ensures) c.store_u16.ensures) c.store_u8.ensures) c.store_u8-2.ensures
 
 pub shape_of-buf : goal.shape_of-buf
-shape_of-buf c = let a = c.args in ap length (returns (goal.at.shape_of-buf c).After-slice_known-8-1) ∙ length-body_stored vel_ecef.layout (vel_ecef.row a.r) a.buf.now 6
+shape_of-buf c = let a = c.args in ap length (returns c) ∙ length-body_stored vel_ecef.layout (vel_ecef.row a.r) a.buf.now 6

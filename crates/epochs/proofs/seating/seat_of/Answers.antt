@@ -12,8 +12,8 @@ use Rattle.epochs.proofs.seating.seat_of.Goals as goal
 
 pub slice_bounds-search-end : goal.slice_bounds-search-end
 slice_bounds-search-end c =
-    let size : length c.args.t1 ≡ 8 = search rules in
-    sym (length-take-le c.seats_listed-end.result c.args.t1 (omega (arith, c.seats_listed-end.ensures)))
+    let size : length c.args.roster ≡ 8 = search rules in
+    sym (length-take-le c.seats_listed-end.result c.args.roster (omega (arith, c.seats_listed-end.ensures)))
 
 pub returns : goal.returns
 returns c =

@@ -7,5 +7,5 @@ use Rattle.exports.proofs.texting.sbp_list.Goals as goal
 
 pub returns : goal.returns
 returns c =
-    let both = let a = c.args in
-    (c.hand_on.ensures.value ∙ ap zero_or c.list-written.ensures.result_value, (c.list-written.ensures.buf_after, c.hand_on.ensures.size_after ∙ ap (λ (x : Answer ℕ). size_left x a.size.now) c.list-written.ensures.result_value)) in record { value = both.0; text_after = both.1; size_after = both.2 }
+    let a = c.args in
+    record { value = c.hand_on.ensures.value ∙ ap zero_or c.list-written.ensures.result_value; text_after = c.list-written.ensures.buf_after; size_after = c.hand_on.ensures.size_after ∙ ap (λ (x : Answer ℕ). size_left x a.size.now) c.list-written.ensures.result_value }

@@ -6,5 +6,5 @@ use Rattle.exports.proofs.writing.sbp_write.Goals as goal
 
 pub returns : goal.returns
 returns c =
-    let both = let a = c.args in
-    (c.write_row.ensures.value, (c.write_row.ensures.out_after.0 ∙ ap (λ (w : Writer). row_written a.kind w a.row.now a.out.now) c.writer_from.ensures, c.write_row.ensures.out_after.1)) in record { value = both.0; out_after = both.1; size_after = both.2 }
+    let a = c.args in
+    record { value = c.write_row.ensures.value; out_after = c.write_row.ensures.out_after.0 ∙ ap (λ (w : Writer). row_written a.kind w a.row.now a.out.now) c.writer_from.ensures; size_after = c.write_row.ensures.out_after.1 }

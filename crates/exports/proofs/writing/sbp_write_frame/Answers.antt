@@ -6,5 +6,5 @@ use Rattle.exports.proofs.writing.sbp_write_frame.Goals as goal
 
 pub returns : goal.returns
 returns c =
-    let both = let a = c.args in
-    (c.send_frame.ensures.value, (c.send_frame.ensures.out_after.0 ∙ ap (λ (w : Writer). with_frame a.kind w a.payload.now a.out.now) c.writer_from.ensures, c.send_frame.ensures.out_after.1)) in record { value = both.0; out_after = both.1; size_after = both.2 }
+    let a = c.args in
+    record { value = c.send_frame.ensures.value; out_after = c.send_frame.ensures.out_after.0 ∙ ap (λ (w : Writer). with_frame a.kind w a.payload.now a.out.now) c.writer_from.ensures; size_after = c.send_frame.ensures.out_after.1 }

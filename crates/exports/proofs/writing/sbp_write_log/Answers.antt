@@ -10,10 +10,5 @@ use Rattle.exports.proofs.writing.sbp_write_log.Goals as goal
 
 pub returns : goal.returns
 returns c =
-    let both = let a = c.args in (
-      c.hand_on.ensures.value ∙ ap zero_or c.write_log-written.ensures.result_value,
-      (
-        c.write_log-written.ensures.buf_after ∙ ap (λ (w : Writer). written_as log w (logged a.level a.text.now a.padding) a.out.now) c.writer_from.ensures,
-        c.hand_on.ensures.size_after ∙ ap (λ (x : Answer ℕ). size_left x a.size.now) c.write_log-written.ensures.result_value,
-      ),
-    ) in record { value = both.0; out_after = both.1; size_after = both.2 }
+    let a = c.args in
+    record { value = c.hand_on.ensures.value ∙ ap zero_or c.write_log-written.ensures.result_value; out_after = c.write_log-written.ensures.buf_after ∙ ap (λ (w : Writer). written_as log w (logged a.level a.text.now a.padding) a.out.now) c.writer_from.ensures; size_after = c.hand_on.ensures.size_after ∙ ap (λ (x : Answer ℕ). size_left x a.size.now) c.write_log-written.ensures.result_value }

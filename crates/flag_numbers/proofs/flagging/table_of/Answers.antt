@@ -25,4 +25,4 @@ unfolding table_for
 returns-in-519 c = sym (ap table_for c.in-519.is)
 
 pub returns-in_default : goal.returns-in_default
-returns-in_default c = no_table c.args.kind c.in_default.rest
+returns-in_default c = no_table c.args.kind c.in_default.in_default-own.rest

@@ -17,7 +17,7 @@ loop-rest-smaller c = omega (arith, c.loop-rest-test.true)
 
 pub loop-rest-preserved : goal.loop-rest-preserved
 loop-rest-preserved c =
-    (omega (arith, c.loop-rest), sized_more c.args.digits c.loop-rest.rest c.loop-rest.n c.width_of-n.result (below c.args.digits c.loop-rest.rest c.ranges.digits.fits c.loop-rest) c.loop-rest-test.true c.width_of-n.ensures c.loop-rest.invariant.1)
+    (omega (arith, c.loop-rest.invariant.0), sized_more c.args.digits c.loop-rest.rest c.loop-rest.n c.width_of-n.result (below c.args.digits c.loop-rest.rest c.ranges.digits.fits c.loop-rest.invariant.0) c.loop-rest-test.true c.width_of-n.ensures c.loop-rest.invariant.1)
 
 pub returns : goal.returns
 returns c = sized_all c.args.digits c.loop-rest.rest c.loop-rest.n c.loop-rest-test.false c.loop-rest.invariant.1

@@ -21,4 +21,4 @@ returns-in-4 c = sym (either wide 4 12 refl refl c.in-4.is)
 
 pub returns-in_default : goal.returns-in_default
 returns-in_default c =
-    sym (ap width (otherwise c.args.digit c.in_default.rest.0.0.1 (λ e. c.in_default.rest.0.1 (inl e)) (λ e. c.in_default.rest.1 (inl e)) (λ e. c.in_default.rest.0.1 (inr e)) (λ e. c.in_default.rest.1 (inr e))))
+    sym (ap width (otherwise c.args.digit c.in_default.in_default-own.rest.0.0.1 (λ e. c.in_default.in_default-own.rest.0.1 (inl e)) (λ e. c.in_default.in_default-own.rest.1 (inl e)) (λ e. c.in_default.in_default-own.rest.0.1 (inr e)) (λ e. c.in_default.in_default-own.rest.1 (inr e))))

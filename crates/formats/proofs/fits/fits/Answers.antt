@@ -29,4 +29,4 @@ returns-in-12 c = c.low_or_high-in-12.ensures ∙ sym (ap (by c.args.n) c.in-12.
 pub returns-in_default : goal.returns-in_default
 returns-in_default c =
     let a = c.args in
-    sym (ap (λ (k : Format). fits_in k a.n) (otherwise a.digit c.in_default.rest.0.0.0.0.1 c.in_default.rest.0.0.0.1 c.in_default.rest.0.0.1 c.in_default.rest.0.1 c.in_default.rest.1))
+    sym (ap (λ (k : Format). fits_in k a.n) (otherwise a.digit c.in_default.in_default-own.rest.0.0.0.0.1 c.in_default.in_default-own.rest.0.0.0.1 c.in_default.in_default-own.rest.0.0.1 c.in_default.in_default-own.rest.0.1 c.in_default.in_default-own.rest.1))

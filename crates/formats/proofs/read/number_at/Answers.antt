@@ -45,4 +45,4 @@ returns-in_default c =
     let n = number_at 8 a.s.now a.at in
     c.read_u64.ensures
     ∙ sym (bits_double_of n (number_lt 8 a.s.now a.at (λ i. (c.shared_slice_known-1.given i).fits)))
-    ∙ sym (ap (wide a.s.now a.at) (otherwise a.digit c.in_default.rest.0.0.0.0.1 c.in_default.rest.0.0.0.1 c.in_default.rest.0.0.1 c.in_default.rest.0.1 c.in_default.rest.1))
+    ∙ sym (ap (wide a.s.now a.at) (otherwise a.digit c.in_default.in_default-own.rest.0.0.0.0.1 c.in_default.in_default-own.rest.0.0.0.1 c.in_default.in_default-own.rest.0.0.1 c.in_default.in_default-own.rest.0.1 c.in_default.in_default-own.rest.1))

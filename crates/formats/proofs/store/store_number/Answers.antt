@@ -37,5 +37,5 @@ returns-in-4 c =
 pub returns-in_default : goal.returns-in_default
 returns-in_default c =
     let a = c.args in
-    let double = otherwise a.digit c.in_default.rest.0.0.1 (λ e. c.in_default.rest.0.1 (inl e)) (λ e. c.in_default.rest.1 (inl e)) (λ e. c.in_default.rest.0.1 (inr e)) (λ e. c.in_default.rest.1 (inr e)) in
+    let double = otherwise a.digit c.in_default.in_default-own.rest.0.0.1 (λ e. c.in_default.in_default-own.rest.0.1 (inl e)) (λ e. c.in_default.in_default-own.rest.1 (inl e)) (λ e. c.in_default.in_default-own.rest.0.1 (inr e)) (λ e. c.in_default.in_default-own.rest.1 (inr e)) in
     c.store_u64.ensures ∙ sym (ap (λ k. stored_at (width k) a.n a.buf.now a.at) double)

@@ -17,4 +17,4 @@ pub returns-in-3 : goal.returns-in-3
 returns-in-3 c = let a = c.args in ap (passes a.opened) (tells_bad a.seen c.in-3.is)
 
 pub returns-in_default : goal.returns-in_default
-returns-in_default c = let a = c.args in ap (passes a.opened) (tells_found a.seen c.in_default.rest)
+returns-in_default c = let a = c.args in ap (passes a.opened) (tells_found a.seen c.in_default.in_default-own.rest)

@@ -16,4 +16,4 @@ pub returns-in-3 : goal.returns-in-3
 returns-in-3 c = tells_bad c.seen_at-seen.result c.in-3.is ∙ c.seen_at-seen.ensures
 
 pub returns-in_default : goal.returns-in_default
-returns-in_default c = tells_found c.seen_at-seen.result c.in_default.rest ∙ c.seen_at-seen.ensures
+returns-in_default c = tells_found c.seen_at-seen.result c.in_default.in_default-own.rest ∙ c.seen_at-seen.ensures

@@ -2,4 +2,4 @@
 use Rattle.index.proofs.turning.advanced.Goals as goal
 
 pub returns : goal.returns
-returns c = rw (c.counted-counts.ensures, c.wrapping_add_usize.ensures)
+returns c = rw (c.counted-counts.ensures, c.wrapping_add_usize.ensures.value)

@@ -7,7 +7,7 @@ use Rattle.index.proofs.turning.counted.Goals as goal
 pub returns-then-place-lt-MESSAGES : goal.returns-then-place-lt-MESSAGES
 returns-then-place-lt-MESSAGES c =
     let a = c.args in
-    counted_here a.counts a.kind c.place_of-place.ensures c.wrapping_add_u64.ensures
+    counted_here a.counts a.kind c.place_of-place.ensures c.wrapping_add_u64.ensures.value
 
 pub returns-else-place-lt-MESSAGES : goal.returns-else-place-lt-MESSAGES
 returns-else-place-lt-MESSAGES c =

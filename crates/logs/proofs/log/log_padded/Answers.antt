@@ -9,7 +9,7 @@ pub slice_bounds-all_zero-count : goal.slice_bounds-all_zero-count
 slice_bounds-all_zero-count c = no_longer c.after_level-rest.result.now c.text_length-n.ensures
 
 pub slice_bounds-all_zero-start : goal.slice_bounds-all_zero-start
-slice_bounds-all_zero-start c = slice_bounds-all_zero-count (goal.at.slice_bounds-all_zero-start c).After-text_length-n
+slice_bounds-all_zero-start c = slice_bounds-all_zero-count c
 
 pub returns : goal.returns
 returns c =

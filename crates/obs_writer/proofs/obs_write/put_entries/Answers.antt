@@ -13,7 +13,7 @@ pub slice_bounds-put-count : goal.slice_bounds-put-count
 slice_bounds-put-count c = omega (arith, has_room c.loop-i.invariant c.loop-i-test.true)
 
 pub slice_bounds-put-start : goal.slice_bounds-put-start
-slice_bounds-put-start c = slice_bounds-put-count (goal.at.slice_bounds-put-start c).After-o-1
+slice_bounds-put-start c = slice_bounds-put-count c
 
 pub loop-i-preserved : goal.loop-i-preserved
 loop-i-preserved c =

@@ -102,4 +102,4 @@ unfolding check_in
 returns-in-1025 c = sym (ap check_for c.in-1025.is)
 
 pub returns-in_default : goal.returns-in_default
-returns-in_default c = (no_check document c.args.kind c.in_default.rest).1
+returns-in_default c = (no_check document c.args.kind c.in_default.in_default-own.rest).1

@@ -25,4 +25,4 @@ returns-in-Unknown c =
 
 pub returns-in_default : goal.returns-in_default
 returns-in_default c =
-    other c.check_of.result c.in_default.keys2 ∙ ap known_by c.check_of.ensures ∙ known_agrees c.args.kind
+    other c.check_of.result c.in_default.in_default-own.keys2 ∙ ap known_by c.check_of.ensures ∙ known_agrees c.args.kind

@@ -102,4 +102,4 @@ unfolding entry_for
 returns-in-1025 c = c.digits-in-1025.ensures ∙ sym (ap shape_for c.in-1025.is)
 
 pub returns-in_default : goal.returns-in_default
-returns-in_default c = c.digits-in_default.ensures ∙ sym (ap (λ (e : Entry). shape_of e.layout) (no_entry_lem table c.args.kind c.in_default.rest).1)
+returns-in_default c = c.digits-in_default.ensures ∙ sym (ap (λ (e : Entry). shape_of e.layout) (no_entry_lem table c.args.kind c.in_default.in_default-own.rest).1)

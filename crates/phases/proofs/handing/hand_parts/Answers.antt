@@ -9,19 +9,10 @@ use Rattle.phases.proofs.handing.hand_parts.Goals as goal
 
 pub returns-in-Parts : goal.returns-in-Parts
 returns-in-Parts c =
-    let both = let a = c.args in
-    let e = sym (ap parts_answer c.in-Parts.is) ∙ c.phase_parts-parts.ensures ∙ ap read_phase (came_back w64 c.ranges.phase.sfits refl) in (
-      ap (as_number (λ p. 0)) e,
-      (
-        came_back w32 c.struct_told-1.given.0.1 (ap (λ (x : Answer Phase). leaves (λ p was. p.l_i) x a.l_i.now) e),
-        ap (λ (x : Answer Phase). leaves (λ p was. p.l_f) x a.l_f.now) e,
-      ),
-    ) in record { value = both.0; l_i_after = both.1; l_f_after = both.2 }
+    let a = c.args in
+    let e = sym (ap parts_answer c.in-Parts.is) ∙ c.phase_parts-parts.ensures ∙ ap read_phase (came_back w64 c.ranges.phase.sfits refl) in record { value = ap (as_number (λ p. 0)) e; l_i_after = came_back w32 c.struct_told-1.given.0.1 (ap (λ (x : Answer Phase). leaves (λ p was. p.l_i) x a.l_i.now) e); l_f_after = ap (λ (x : Answer Phase). leaves (λ p was. p.l_f) x a.l_f.now) e }
 
 pub returns-in-Refused : goal.returns-in-Refused
 returns-in-Refused c =
-    let both = let a = c.args in
-    let e = sym (ap parts_answer c.in-Refused.is) ∙ c.phase_parts-parts.ensures ∙ ap read_phase (came_back w64 c.ranges.phase.sfits refl) in (
-      ap (as_number (λ p. 0)) e,
-      (ap (λ (x : Answer Phase). leaves (λ p was. p.l_i) x a.l_i.now) e, ap (λ (x : Answer Phase). leaves (λ p was. p.l_f) x a.l_f.now) e),
-    ) in record { value = both.0; l_i_after = both.1; l_f_after = both.2 }
+    let a = c.args in
+    let e = sym (ap parts_answer c.in-Refused.is) ∙ c.phase_parts-parts.ensures ∙ ap read_phase (came_back w64 c.ranges.phase.sfits refl) in record { value = ap (as_number (λ p. 0)) e; l_i_after = ap (λ (x : Answer Phase). leaves (λ p was. p.l_i) x a.l_i.now) e; l_f_after = ap (λ (x : Answer Phase). leaves (λ p was. p.l_f) x a.l_f.now) e }

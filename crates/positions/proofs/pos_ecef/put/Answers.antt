@@ -11,4 +11,4 @@ returns c =
     then _ _ _ (then _ _ _ (then _ _ _ (then _ _ _ (then _ _ _ (then _ _ _ c.store_u32.ensures c.store_double.ensures) c.store_double-2.ensures) c.store_double-3.ensures) c.store_u16.ensures) c.store_u8.ensures) c.store_u8-2.ensures
 
 pub shape_of-buf : goal.shape_of-buf
-shape_of-buf c = let a = c.args in ap length (returns (goal.at.shape_of-buf c).After-slice_known-8-1) ∙ length-body_stored pos_ecef.layout (pos_ecef.row a.r) a.buf.now 6
+shape_of-buf c = let a = c.args in ap length (returns c) ∙ length-body_stored pos_ecef.layout (pos_ecef.row a.r) a.buf.now 6

@@ -105,4 +105,4 @@ unfolding entry_for
 returns-in-1025 c = ap (λ r. M.Log r) c.take_log.ensures ∙ met c.args.s.now c.in-1025.is
 
 pub returns-in_default : goal.returns-in_default
-returns-in_default c = let a = c.args in sym (ap (λ (e : Entry). e.holds a.s.now) (no_entry_lem (map entry_of others) a.kind c.in_default.rest).1)
+returns-in_default c = let a = c.args in sym (ap (λ (e : Entry). e.holds a.s.now) (no_entry_lem (map entry_of others) a.kind c.in_default.in_default-own.rest).1)

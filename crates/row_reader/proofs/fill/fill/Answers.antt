@@ -17,7 +17,7 @@ slice_bounds-fill_rest-count c =
     has_start c.args.shape.head (rest_in c.args.shape.more c.args.shape.each) c.args.s.now c.args.row.now c.requires.s_in_bounds c.count-start.ensures c.size-at.ensures c.read_run.ensures
 
 pub slice_bounds-fill_rest-start : goal.slice_bounds-fill_rest-start
-slice_bounds-fill_rest-start c = slice_bounds-fill_rest-count (goal.at.slice_bounds-fill_rest-start c).After-slice_known-2-1
+slice_bounds-fill_rest-start c = slice_bounds-fill_rest-count c
 
 pub fill_rest-requires : goal.fill_rest-requires
 fill_rest-requires c =

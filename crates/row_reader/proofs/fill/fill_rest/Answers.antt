@@ -13,7 +13,7 @@ slice_bounds-fill_tail-count c =
     has_start c.args.more (tail_in c.args.each) c.args.s.now c.args.row.now c.requires.s_in_bounds c.count-start.ensures c.size-at.ensures c.read_run.ensures
 
 pub slice_bounds-fill_tail-start : goal.slice_bounds-fill_tail-start
-slice_bounds-fill_tail-start c = slice_bounds-fill_tail-count (goal.at.slice_bounds-fill_tail-start c).After-slice_known-2-1
+slice_bounds-fill_tail-start c = slice_bounds-fill_tail-count c
 
 pub fill_tail-requires : goal.fill_tail-requires
 fill_tail-requires c =

@@ -17,7 +17,7 @@ slice_bounds-read_run-count c =
     omega (arith, c.requires.each_in_bounds, ap (λ (n : ℕ). c.args.index * n) c.size-2.ensures, c.size.ensures)
 
 pub slice_bounds-read_run-start : goal.slice_bounds-read_run-start
-slice_bounds-read_run-start c = slice_bounds-read_run-count (goal.at.slice_bounds-read_run-start c).After-read_run-arg-1
+slice_bounds-read_run-start c = slice_bounds-read_run-count c
 
 pub returns : goal.returns
 returns c =

@@ -22,7 +22,7 @@ pub slice_bounds-store_run-count : goal.slice_bounds-store_run-count
 slice_bounds-store_run-count c = omega (arith, has_room c.loop-i.invariant c.loop-i-test.true)
 
 pub slice_bounds-store_run-start : goal.slice_bounds-store_run-start
-slice_bounds-store_run-start c = slice_bounds-store_run-count (goal.at.slice_bounds-store_run-start c).In-loop-i
+slice_bounds-store_run-start c = slice_bounds-store_run-count c
 
 pub offset_bounds-rows-from : goal.offset_bounds-rows-from
 offset_bounds-rows-from c = omega (arith, c.requires.k_in_bounds)

@@ -20,7 +20,7 @@ pub slice_bounds-run_fits-count : goal.slice_bounds-run_fits-count
 slice_bounds-run_fits-count c = omega (arith, c.requires)
 
 pub slice_bounds-run_fits-start : goal.slice_bounds-run_fits-start
-slice_bounds-run_fits-start c = slice_bounds-run_fits-count (goal.at.slice_bounds-run_fits-start c).In-loop-i
+slice_bounds-run_fits-start c = slice_bounds-run_fits-count c
 
 pub loop-i-preserved : goal.loop-i-preserved
 loop-i-preserved c =

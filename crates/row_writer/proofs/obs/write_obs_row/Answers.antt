@@ -24,8 +24,8 @@ returns-then-number-ne0 c =
 
 pub pack_rows-requires : goal.pack_rows-requires
 pack_rows-requires c =
-    let both = let a = c.args in
-    (omega arith, (omega (arith, few (goal.at.pack_rows-requires c).Else-number-ne0, c.store_run.auto), (fitting_rows a.kind a.head.now a.rows.now (fit (goal.at.pack_rows-requires c).Else-number-ne0)).1)) in record { k_in_bounds = both.0; k_in_bounds_2 = both.1; rows_value = both.2 }
+    let a = c.args in
+    record { k_in_bounds = omega arith; k_in_bounds_2 = omega (arith, few (goal.at.pack_rows-requires c).Else-number-ne0, c.store_run.auto); rows_value = (fitting_rows a.kind a.head.now a.rows.now (fit (goal.at.pack_rows-requires c).Else-number-ne0)).1 }
 
 pub slice_bounds-bytes-end : goal.slice_bounds-bytes-end
 slice_bounds-bytes-end c = omega (arith, few (goal.at.slice_bounds-bytes-end c).Else-number-ne0)

@@ -7,7 +7,4 @@ use Rattle.row_writer.proofs.send.send_frame.Goals as goal
 
 pub returns : goal.returns
 returns c =
-    let both = (
-      c.hand_on.ensures.value ∙ ap zero_or c.write_frame-written.ensures.result_value,
-      (c.write_frame-written.ensures.buf_after, c.hand_on.ensures.size_after ∙ ap (λ (x : Answer ℕ). size_left x c.args.size.now) c.write_frame-written.ensures.result_value),
-    ) in record { value = both.0; out_after = both.1; size_after = both.2 }
+    record { value = c.hand_on.ensures.value ∙ ap zero_or c.write_frame-written.ensures.result_value; out_after = c.write_frame-written.ensures.buf_after; size_after = c.hand_on.ensures.size_after ∙ ap (λ (x : Answer ℕ). size_left x c.args.size.now) c.write_frame-written.ensures.result_value }

@@ -19,7 +19,7 @@ returns-then-packet-eq0 c = rw (eq-eqb _ _ c.if-packet-eq0.true) c.goes_on.ensur
 pub returns-then-part-packet : goal.returns-then-part-packet
 returns-then-part-packet c =
     let same = sym c.same_key.ensures ∙ c.if-same_key.true in
-    rw (opened (goal.at.returns-then-part-packet c).In-Open, same, eq-eqb _ _ c.if-part-packet.true, ← c.wrapping_add_u16.ensures) c.goes_on-then-part-packet.ensures
+    rw (opened (goal.at.returns-then-part-packet c).In-Open, same, eq-eqb _ _ c.if-part-packet.true, ← c.wrapping_add_u16.ensures.value) c.goes_on-then-part-packet.ensures
 
 pub returns-then-same_key : goal.returns-then-same_key
 returns-then-same_key c =

@@ -14,7 +14,7 @@ use Rattle.epochs.proofs.collating.Collator.feed.Goals as goal
 use Rattle.epochs.proofs.collating.Collator.feed.Goals.{In-For}
 
 for : (c : In-For)
-    → for_place (roster_of c.args.t1) (record { kind = c.args.kind; sender = c.args.sender; payload = c.args.payload.now })
+    → for_place (roster_of c.args.self) (record { kind = c.args.kind; sender = c.args.sender; payload = c.args.payload.now })
     ≡ given (c.in-For.at, c.in-For.packet)
 for c = sym c.recognise-found.ensures ∙ ap recognised_answer c.in-For.is
 

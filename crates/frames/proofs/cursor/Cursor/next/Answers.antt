@@ -9,4 +9,4 @@ pub returns-in-1 : goal.returns-in-1
 returns-in-1 c = tells_end c.search-r.result _ c.search-r.ensures c.in-1.is
 
 pub returns-in_default : goal.returns-in_default
-returns-in_default c = tells_needs c.search-r.result _ c.search-r.ensures c.in_default.rest
+returns-in_default c = tells_needs c.search-r.result _ c.search-r.ensures c.in_default.in_default-own.rest

@@ -27,4 +27,4 @@ returns-in-3 c =
 pub returns-in_default : goal.returns-in_default
 returns-in_default c =
     let a = c.args in
-    c.past-in_default.ensures ∙ ap (past a.self (a.seen.frame.length + 8)) c.tally-in_default.ensures ∙ ap (over a.self) (tells_found a.seen c.in_default.rest)
+    c.past-in_default.ensures ∙ ap (past a.self (a.seen.frame.length + 8)) c.tally-in_default.ensures ∙ ap (over a.self) (tells_found a.seen c.in_default.in_default-own.rest)

@@ -4,9 +4,9 @@ use Rattle.frames.proofs.cursor.Cursor.past.Goals as goal
 pub returns : goal.returns
 returns c =
     rw (
-      c.wrapping_add_usize.ensures,
-      c.wrapping_add_usize-2.ensures,
-      c.wrapping_add_usize-3.ensures,
-      c.wrapping_add_usize-4.ensures,
-      c.wrapping_add_usize-5.ensures,
+      c.wrapping_add_usize.ensures.value,
+      c.wrapping_add_usize-2.ensures.value,
+      c.wrapping_add_usize-3.ensures.value,
+      c.wrapping_add_usize-4.ensures.value,
+      c.wrapping_add_usize-5.ensures.value,
     )

@@ -29,6 +29,6 @@ returns-in-3 c =
 pub returns-in_default : goal.returns-in_default
 returns-in_default c =
     let a = c.args in
-    let found = tells_found a.seen c.in_default.rest in
+    let found = tells_found a.seen c.in_default.in_default-own.rest in
     ap (λ (d : Cursor). record { number = 0; needed = 0; frame = a.seen.frame; cursor = d }) (c.over.ensures ∙ ap (over a.self) (sym found))
     ∙ ap (λ (x : Step). reached_in (ended a.self x)) found

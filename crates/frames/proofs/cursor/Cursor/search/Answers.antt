@@ -16,7 +16,7 @@ slice_bounds-junk_run-count c =
     omega (arith, junk_inside c.args.s.now c.well_formed.1.0.0 c.loop-seen.c (tells_junk c.seen_at-seen.result c.if-seen-eq-JUNK.true ∙ c.seen_at-seen.ensures))
 
 pub slice_bounds-junk_run-start : goal.slice_bounds-junk_run-start
-slice_bounds-junk_run-start c = slice_bounds-junk_run-count (goal.at.slice_bounds-junk_run-start c).Then-seen-eq-JUNK
+slice_bounds-junk_run-start c = slice_bounds-junk_run-count c
 
 pub loop-seen-smaller-then-seen-eq-JUNK : goal.loop-seen-smaller-then-seen-eq-JUNK
 loop-seen-smaller-then-seen-eq-JUNK c =
