@@ -13,7 +13,8 @@ returns c =
     let s = c.args.capture.now in
     let list = c.args.entries.now in
     let done = c.extend-done.ensures.0 ∙ ap (λ (x : Index). extended_by x s (length list)) c.extendable-x.ensures in
-    let all = settled bytes s list (omega arith) in
-    (c.settle.ensures.value ∙ ap (settled_number (length bytes)) done ∙ all.0.0,
-    c.settle.ensures.bytes_after ∙ ap (λ (d : Indexed). settled_in d bytes) done ∙ all.0.1,
-    c.extend-done.ensures.1 ∙ ap (λ (x : Index). entries_after x s list) c.extendable-x.ensures ∙ all.1)
+    let all = settled bytes s list (omega arith) in (
+      c.settle.ensures.value ∙ ap (settled_number (length bytes)) done ∙ all.0.0,
+      c.settle.ensures.bytes_after ∙ ap (λ (d : Indexed). settled_in d bytes) done ∙ all.0.1,
+      c.extend-done.ensures.1 ∙ ap (λ (x : Index). entries_after x s list) c.extendable-x.ensures ∙ all.1,
+    )
