@@ -32,7 +32,7 @@ fn put_output(capture: &[u8], text: &mut [u8]) -> usize
 // One byte more is read than is taken, to know that there are more.
 fn main(rt: HostRuntime) -> io::Result<()> {
     let mut capture = Vec::new(rt.alloc());
-    let mut text = [0u8; 524320];
+    let mut text = vec![in rt.alloc(); 0u8; 524320]?;
     if let Err(e) = rt.stdin().take(65537).read_to_end(&mut capture) {
         return eprintln!(rt; "read: {e}");
     }
