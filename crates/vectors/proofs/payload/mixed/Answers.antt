@@ -1,5 +1,5 @@
 -- `vectors::payload::mixed` is safe and ends: it counts to 300, and the array keeps its length.
-use Rattle.std.proofs.Common.{◌-◌, sym, refl, arith, length-set}
+use Rattle.std.proofs.Common.{sym, refl, arith, length-set}
 use Rattle.vectors.proofs.payload.mixed.Goals as goal
 
 pub loop-i-init : goal.loop-i-init
