@@ -2,7 +2,7 @@
 -- defined here, so a new edition or a wider key changes this crate alone.
 use Rattle.std.specs.Prelude.{ℕ, ◌/◌, ◌%◌, ◌≤◌, ◌<◌, Bool, ◌&&◌, not, List, [], ◌∷◌, ◌++◌, eqb, ltb}
 use Rattle.refusals.specs.Refusals.{refused, given, Answer, Tests, ordered}
-use Rattle.observation.specs.Edition.{first, is_obs}
+use Rattle.observation.specs.Edition.{is_obs}
 use Rattle.observation.specs.Obs.{reading_obs, obs_in}
 use Rattle.observation.specs.declared.obs.Obs.{Obs}
 use Rattle.packets.specs.declared.packet.Key.{Key}

@@ -1,6 +1,5 @@
 -- `epochs::collating::repeated` meets its contract. The loop's invariant: the answer is that of what is left.
 use mathlib.Core.Path.{refl, sym, ◌∙◌}
-use Prim.Native.Nat.{◌-◌}
 use Rattle.epochs.proofs.Searches.{repeats_none, repeats_on}
 use Rattle.epochs.proofs.collating.repeated.Goals as goal
 

@@ -1,6 +1,5 @@
 -- `epochs::collating::seats` meets its contract. The loop's invariant: the first i seats are filled.
 use mathlib.Core.Path.{◌≡◌, refl, ap, ◌∙◌}
-use Prim.Native.Nat.{◌-◌}
 use native.Mathlib.Omega.{arith}
 use borrow.Author.Rules.{rules}
 use Rattle.epochs.proofs.Searches.{filled, filled_on, filled_end}

@@ -1,6 +1,5 @@
 -- `epochs::seating::search` meets its contract. The loop's invariant: the answer is that of what is left.
 use mathlib.Core.Path.{refl, sym, ◌∙◌}
-use Prim.Native.Nat.{◌-◌}
 use Rattle.epochs.proofs.Searches.{seat_none, seat_here, seat_on}
 use Rattle.epochs.proofs.seating.search.Goals as goal
 

@@ -1,6 +1,5 @@
 -- `row_writer::obs::pack_rows` meets its contract. The loop's invariant: the observations left, stored from here on, make what all make
 -- of the start.
-use Prim.Native.Nat.{◌-◌}
 use native.Mathlib.Omega.{arith}
 use Rattle.obs_writer.proofs.EntriesStored.{stored_length, has_room}
 use Rattle.row_writer.proofs.ObsPacked.{packed_none, packed_all, packed_more}

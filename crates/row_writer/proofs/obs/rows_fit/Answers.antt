@@ -1,6 +1,6 @@
 -- `row_writer::obs::rows_fit` meets its contract. The loop's invariant: whether the observations left fit is whether all do.
 use mathlib.Core.Path.{sym, ◌∙◌}
-use Prim.Native.Nat.{◌-◌, ◌*◌}
+use Prim.Native.Nat.{◌*◌}
 use native.Mathlib.Omega.{arith}
 use Rattle.observation.specs.Edition.{observation}
 use Rattle.row_writer.proofs.ObsRows.{fits_lent, fit_none, fit_all, fit_more, fit_not}
