@@ -22,8 +22,8 @@ use Rattle.index.specs.declared.counting.Counted.TheVariants as Total
 use Rattle.lent_index.specs.Bytes.{index_from_bytes}
 use Rattle.indexed.specs.Growing.{Grows, OfTheRest, Extension, CallsGrow, IndexOf, open_frames}
 use Rattle.indexed.specs.Asking.{Asked, Such, FirstOf, CallsFind, Tallied, CallsCount}
-use Rattle.index.proofs as index
-use Rattle.exports.proofs as exports
+use Rattle.index.specs.contracts as index
+use Rattle.exports.specs.contracts as exports
 
 -- ---- calls, each with what it was lent and for how long, and what it left; and what it came to
 
