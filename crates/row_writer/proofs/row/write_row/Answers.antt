@@ -45,7 +45,7 @@ pub slice_bounds-bytes-end : goal.slice_bounds-bytes-end
 slice_bounds-bytes-end c = omega (arith, short (goal.at.slice_bounds-bytes-end c).After-size-2)
 
 pub slice_bounds-send-end : goal.slice_bounds-send-end
-slice_bounds-send-end c = sym (length-take-le _ c.pack.new.0 (omega (arith, short (goal.at.slice_bounds-send-end c).After-size-2, c.pack.auto)))
+slice_bounds-send-end c = sym (length-take-le _ c.pack.new.bytes (omega (arith, short (goal.at.slice_bounds-send-end c).After-size-2, c.pack.auto)))
 
 pub returns : goal.returns
 returns c =
@@ -54,4 +54,4 @@ returns c =
     let f = fit (goal.at.returns c).After-shape_of-shape in
     wrote_sent a.kind a.writer a.row.now a.out.now a.size.now words f
     (payload_packed a.kind a.row.now words f _ c.shape_of-shape.ensures (sized (goal.at.returns c).After-size-2) c.pack.ensures (omega arith))
-    (c.send.ensures.value, c.send.ensures.out_after, c.send.ensures.size_after) in record { value = both.0; out_after = both.1.0; size_after = both.1.1 }
+    (c.send.ensures.value, (c.send.ensures.out_after, c.send.ensures.size_after)) in record { value = both.0; out_after = both.1.0; size_after = both.1.1 }
