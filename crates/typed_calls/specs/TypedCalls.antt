@@ -1,7 +1,7 @@
 -- Every typed reader and writer by its own contract. A reader hands back the record of a payload, or the number of its refusal; a writer hands back
 -- how many bytes it wrote, or that number, and leaves the frame at the buffer's start, or the buffer as it was. What the calls are by which they do
 -- so (`reading`, `writing`), and what a record is in bytes, is the message's description.
-use Rattle.std.specs.Prelude.{List, [], ◌++◌, ℕ, length, drop}
+use Rattle.std.specs.Prelude.{List, ℕ, length}
 use seplogic.Ra.Ura.{Ura}
 use base.Logic.{SProp}
 use prog.Memory.{Memory}
@@ -17,7 +17,6 @@ use Rattle.senders.specs.declared.Writer.{Writer}
 use Rattle.frame_writer.specs.Writer.{planning}
 use Rattle.frame_writer.specs.Faithful.{writing}
 use Rattle.frame_writer.specs.declared.write.Written.{Written}
-use Rattle.frame_writer.specs.declared.write.Written.TheVariants as Written
 use Rattle.calls.specs.Replies.{hands_back, puts, hands}
 use Rattle.calls.specs.Gives.{Gives, GivesAs}
 use Rattle.time_and_dops.specs.GpsTime.{gps_time}
