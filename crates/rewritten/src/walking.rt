@@ -11,7 +11,6 @@ pub struct Two {
     pub second: ObservationRead,
 }
 
-// Walked by hand, as each function with a reader in a local is.
 fn asked(kind: u16, payload: &[u8]) -> Two
     ensures { (entry_answer result.first ≡ read_entry_of kind payload.now 0) × (entry_answer result.second ≡ read_entry_of kind payload.now (at_after kind payload.now 0)) }
 {
