@@ -41,7 +41,7 @@ use Rattle.groups.specs.contracts as groups
 use Rattle.epochs.specs.contracts as epochs
 use Rattle.captures.specs.contracts as captures
 use Rattle.enlisting.specs.contracts as enlisting
-use Rattle.listing.specs.contracts as listings
+use Rattle.listing.specs.contracts as listing
 
 -- at every model of the logic, as every contract is stated
 module _ {M : Type 1} {𝓤 : Ura M} (𝓛 : Logic 𝓤) (mem : Memory → SProp 𝓤) (run : Routine → Fun 𝓤) where
@@ -83,7 +83,7 @@ module _ {M : Type 1} {𝓤 : Ura M} (𝓛 : Logic 𝓤) (mem : Memory → SProp
     pub new_seat : Gives 𝓤 enlisting.new_seat.ended (enlisting.new_seat.clauses 𝓛 mem run) (λ κs roster count sender. (new_seat roster count sender, tt))
     pub collate : Gives 𝓤 captures.collate.ended (captures.collate.clauses 𝓛 mem run) (λ κs s roster. (collated s.now roster.now, tt))
     pub enlist : Gives 𝓤 enlisting.enlist.ended (enlisting.enlist.clauses 𝓛 mem run) (λ κs c kind sender. (enlisted_to c kind sender, tt))
-    pub list : Gives 𝓤 listings.list.ended (listings.list.clauses 𝓛 mem run) (λ κs s buf. puts (listing s.now (length buf.now)) (text_of s.now) buf.now)
+    pub list : Gives 𝓤 listing.list.ended (listing.list.clauses 𝓛 mem run) (λ κs s buf. puts (listing s.now (length buf.now)) (text_of s.now) buf.now)
 
   -- a reader that keeps the lent payload and its place
   pub record Observations : Type 1 where
