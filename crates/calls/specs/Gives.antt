@@ -23,11 +23,11 @@ pub record End (T : Ended) : Type 0 where
 -- what is left of a parameter, if it was lent to be changed, before what is left of the others
 abbrev pub LeftAt : {D : Type 0} (e : Exit D) (x : D) → Type 0 → Type 0
 LeftAt unchanged x rest = rest
-LeftAt (leaves L l S s) x rest = L x × rest
+LeftAt (leaves L l S s r) x rest = L x × rest
 
 abbrev pub IsLeftAt : {D : Type 0} (e : Exit D) (x : D) → Last e x → (Rest : Type 0) → LeftAt e x Rest → (Rest → Type 0) → Type 0
 IsLeftAt unchanged x w Rest v rest = rest v
-IsLeftAt (leaves L l S s) x w Rest v rest = (w ≡ v.0) × rest v.1
+IsLeftAt (leaves L l S s r) x w Rest v rest = (w ≡ v.0) × rest v.1
 
 module _ {n : ℕ} (κs : Lfts n) where
   abbrev pub Left : (ss : List (Slot n)) (ks : Kepts ss) → Denots (types_at ss κs) → Type 0

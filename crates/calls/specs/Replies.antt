@@ -2,10 +2,8 @@
 use Rattle.std.specs.Prelude.{List, ◌++◌, ℕ, drop}
 use Rattle.refusals.specs.Refusals.{Answer, given, refused, Call, reply, leaves, as_number, zero_or}
 use Rattle.frame_writer.specs.declared.write.Written.{Written}
-use Rattle.frame_writer.specs.declared.write.Written.TheVariants as Written
 use Rattle.index.specs.Index.{Hit, at, nowhere}
 use Rattle.index.specs.declared.asking.Sought.{Sought}
-use Rattle.index.specs.declared.asking.Sought.TheVariants as Sought
 
 -- ---- in Rattle: an enum of what was asked for and a refusal
 

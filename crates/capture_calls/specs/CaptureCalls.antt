@@ -30,18 +30,18 @@ use Rattle.enlisting.specs.Enlisting.{new_seat, enlisted_to}
 use Rattle.listing.specs.Listing.{text_of, listing}
 use Rattle.calls.specs.Replies.{variant_of, hands_back, puts}
 use Rattle.calls.specs.Gives.{Gives, GivesAs}
-use Rattle.crc.proofs as crc
-use Rattle.frames.proofs as frames
-use Rattle.flags.proofs as flags
-use Rattle.phases.proofs as phases
-use Rattle.system.proofs as system
-use Rattle.obs_reader.proofs as obs_reader
-use Rattle.packets.proofs as packets
-use Rattle.groups.proofs as groups
-use Rattle.epochs.proofs as epochs
-use Rattle.captures.proofs as captures
-use Rattle.enlisting.proofs as enlisting
-use Rattle.listing.proofs as listings
+use Rattle.crc.specs.contracts as crc
+use Rattle.frames.specs.contracts as frames
+use Rattle.flags.specs.contracts as flags
+use Rattle.phases.specs.contracts as phases
+use Rattle.system.specs.contracts as system
+use Rattle.obs_reader.specs.contracts as obs_reader
+use Rattle.packets.specs.contracts as packets
+use Rattle.groups.specs.contracts as groups
+use Rattle.epochs.specs.contracts as epochs
+use Rattle.captures.specs.contracts as captures
+use Rattle.enlisting.specs.contracts as enlisting
+use Rattle.listing.specs.contracts as listing
 
 -- at every model of the logic, as every contract is stated
 module _ {M : Type 1} {𝓤 : Ura M} (𝓛 : Logic 𝓤) (mem : Memory → SProp 𝓤) (run : Routine → Fun 𝓤) where
@@ -56,7 +56,7 @@ module _ {M : Type 1} {𝓤 : Ura M} (𝓛 : Logic 𝓤) (mem : Memory → SProp
     pub counts : Gives 𝓤 frames.cursor.Cursor.counts.ended (frames.cursor.Cursor.counts.clauses 𝓛 mem run)
         (λ κs c. (record { framed = c.framed; junk = c.junk; bad = c.bad; short = c.short }, tt))
     pub totals : Gives 𝓤 frames.totals.ended (frames.totals.clauses 𝓛 mem run) (λ κs s. (counts_of (closed_steps s.now), tt))
-    pub step_at_lem : Gives 𝓤 frames.step_at.ended (frames.step_at.clauses 𝓛 mem run) (λ κs s at. (step_at s.now at, tt))
+    pub step_at : Gives 𝓤 frames.step_at.ended (frames.step_at.clauses 𝓛 mem run) (λ κs s at. (step_at s.now at, tt))
     -- "from p + 6 for N bytes"
     pub payload : GivesAs 𝓤 frames.payload.ended (frames.payload.clauses 𝓛 mem run) (λ κs. List ℕ) (λ κs r. r.now)
         (λ κs s f. (take f.length (drop (f.at + 6) s.now), tt))
@@ -80,17 +80,17 @@ module _ {M : Type 1} {𝓤 : Ura M} (𝓛 : Logic 𝓤) (mem : Memory → SProp
     -- and the packet at that place: 47 for a counter that has come already
     pub place_step : Gives 𝓤 groups.step.ended (groups.step.clauses 𝓛 mem run) (λ κs group p. hands_back Answered.To Answered.Refused (stepping group p))
     pub outcome : Gives 𝓤 epochs.outcome.ended (epochs.outcome.clauses 𝓛 mem run) (λ κs sender p ended. (outcome sender p ended, tt))
-    pub new_seat_lem : Gives 𝓤 enlisting.new_seat.ended (enlisting.new_seat.clauses 𝓛 mem run) (λ κs roster count sender. (new_seat roster count sender, tt))
+    pub new_seat : Gives 𝓤 enlisting.new_seat.ended (enlisting.new_seat.clauses 𝓛 mem run) (λ κs roster count sender. (new_seat roster count sender, tt))
     pub collate : Gives 𝓤 captures.collate.ended (captures.collate.clauses 𝓛 mem run) (λ κs s roster. (collated s.now roster.now, tt))
     pub enlist : Gives 𝓤 enlisting.enlist.ended (enlisting.enlist.clauses 𝓛 mem run) (λ κs c kind sender. (enlisted_to c kind sender, tt))
-    pub list : Gives 𝓤 listings.list.ended (listings.list.clauses 𝓛 mem run) (λ κs s buf. puts (listing s.now (length buf.now)) (text_of s.now) buf.now)
+    pub list : Gives 𝓤 listing.list.ended (listing.list.clauses 𝓛 mem run) (λ κs s buf. puts (listing s.now (length buf.now)) (text_of s.now) buf.now)
 
   -- a reader that keeps the lent payload and its place
   pub record Observations : Type 1 where
     pub make : Gives 𝓤 obs_reader.made.ended (obs_reader.made.clauses 𝓛 mem run) (λ κs kind payload. (record { kind = kind; payload = payload; at = 0 }, tt))
     pub next : Gives 𝓤 obs_reader.next.ended (obs_reader.next.clauses 𝓛 mem run)
         (λ κs reader.
-        let r = reader .now in
+        let r = reader.now in
         (variant_of ObservationRead.Record ObservationRead.Refused (reply (one_of_frame r.kind r.payload.now r.at)), (asked r, tt)))
     pub step_from : Gives 𝓤 obs_reader.step_from.ended (obs_reader.step_from.clauses 𝓛 mem run)
         (λ κs kind payload at.

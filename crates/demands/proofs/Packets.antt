@@ -1,19 +1,18 @@
 -- A well-formed observation frame and its packet, number by number; and what is reported of an epoch.
 use mathlib.Core.Path.{◌≡◌, refl, sym, ap, ◌∙◌, subst}
-use mathlib.Core.Bool.{Bool, true, false, not}
+use mathlib.Core.Bool.{not}
 use mathlib.Core.List.{List, ◌++◌}
 use mathlib.Core.Logic.{◌↔◌}
-use Prim.Native.Nat.{ℕ, ◌+◌, ◌-◌, ◌*◌, ◌/◌, ◌%◌, ◌≤◌, ◌<◌}
+use Prim.Native.Nat.{ℕ, ◌-◌, ◌/◌}
 use native.Mathlib.Omega.{arith}
-use lib.Dec.{eqb, ltb}
+use lib.Dec.{eqb}
 use lib.ListN.{length}
 use borrow.Author.Tests.{eqb-true, eqb-false, ltb-true, not-true, eq-eqb, ne_eqb, lt-ltb}
-use Rattle.wire.specs.Number.{number_at}
 use Rattle.refusals.specs.Refusals.{given}
 use Rattle.refusals.proofs.Ordered.{exactly_all}
 use Rattle.layouts.proofs.Layouts.{lengths_true, lengths_of}
 use Rattle.frames.specs.Frame.{Content}
-use Rattle.observation.specs.Edition.{obs, first, fitting, is_obs}
+use Rattle.observation.specs.Edition.{obs, first, is_obs}
 use Rattle.packets.specs.Packet.{packet_in, shape, numbering}
 use Rattle.packets.specs.declared.packet.Packet.{Packet}
 use Rattle.epochs.specs.Epoch.{own_packet, EndsEpoch}

@@ -12,7 +12,7 @@ use types.Logic.{Logic}
 use contract.Monad.{Fun, fact, fact_use, fact_i}
 use Rattle.stays.specs.Stays.{Leads}
 use Rattle.frame_rows.specs.Found.{next_answer, next_stored}
-use Rattle.exports.proofs as exports
+use Rattle.exports.specs.contracts as exports
 use Rattle.demands.specs.RowsStay.{RowCall, RowCallsStay}
 use Rattle.demands.proofs.RowsGoOn.{rows_stay}
 

@@ -10,8 +10,8 @@ use contract.Monad.{Fun}
 use Rattle.std.specs.Int.Bits.{bit_xor}
 use Rattle.crc.specs.Remainder.{times, IsRemainder}
 use Rattle.crc.specs.Calls.{Call, CallsLeave}
-use Rattle.crc.proofs as crc
-use Rattle.exports.proofs as exports
+use Rattle.crc.specs.contracts as crc
+use Rattle.exports.specs.contracts as exports
 
 -- at every model of the logic, as every contract is stated
 module _ {M : Type 1} {𝓤 : Ura M} (𝓛 : Logic 𝓤) (mem : Memory → SProp 𝓤) (run : Routine → Fun 𝓤) where

@@ -7,9 +7,9 @@ use types.Logic.{Logic}
 use contract.Monad.{Fun}
 use Rattle.crc.specs.Parts.{GoesOn}
 use Rattle.crc.specs.Calls.{Call, CallsGoOn}
-use Rattle.crc.proofs as crc
+use Rattle.crc.specs.contracts as crc
 use Rattle.frames.specs.Apart.{SameApart}
-use Rattle.exports.proofs as exports
+use Rattle.exports.specs.contracts as exports
 
 -- at every model of the logic, as every contract is stated
 module _ {M : Type 1} {𝓤 : Ura M} (𝓛 : Logic 𝓤) (mem : Memory → SProp 𝓤) (run : Routine → Fun 𝓤) where

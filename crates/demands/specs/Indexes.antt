@@ -8,7 +8,7 @@ use prog.Routine.{Routine}
 use types.Logic.{Logic}
 use contract.Lifetimes.{Lfts}
 use contract.Monad.{Fun, fact}
-use Rattle.std.specs.Borrow.{Bor}
+use Rattle.std.specs.Borrow.{Bor, MutBor}
 use Rattle.wire.specs.Number.{Bytes, number_at}
 use Rattle.index.specs.Index.{empty}
 use Rattle.index.specs.declared.entry.Entry.{Entry}
@@ -22,8 +22,8 @@ use Rattle.index.specs.declared.counting.Counted.TheVariants as Total
 use Rattle.lent_index.specs.Bytes.{index_from_bytes}
 use Rattle.indexed.specs.Growing.{Grows, OfTheRest, Extension, CallsGrow, IndexOf, open_frames}
 use Rattle.indexed.specs.Asking.{Asked, Such, FirstOf, CallsFind, Tallied, CallsCount}
-use Rattle.index.proofs as index
-use Rattle.exports.proofs as exports
+use Rattle.index.specs.contracts as index
+use Rattle.exports.specs.contracts as exports
 
 -- ---- calls, each with what it was lent and for how long, and what it left; and what it came to
 
@@ -31,9 +31,9 @@ pub record Extend : Type 0 where
   pub lives : Lfts 2
   pub index : Index
   pub capture : Bor (List ℕ)
-  pub entries : Bor (List Entry)
+  pub entries : MutBor (List Entry)
   pub result : Indexed
-  pub left : Bor (List Entry)
+  pub left : MutBor (List Entry)
 
 abbrev pub extend_came : Extend → Extension
 extend_came k =
@@ -91,13 +91,13 @@ count_came k = record { room = 208; index = k.index; kind = k.kind; number = cou
 -- the linked functions: the index is what its bytes stand for. A lent slice holds bytes, and fewer than 2^64 of anything
 pub record LinkedExtend : Type 0 where
   pub lives : Lfts 3
-  pub index : Bor (List ℕ)
+  pub index : MutBor (List ℕ)
   pub capture : Bor (List ℕ)
-  pub entries : Bor (List Entry)
+  pub entries : MutBor (List Entry)
   pub number : ℕ
-  pub kept : Bor (List ℕ)
-  pub left : Bor (List Entry)
-  pub bytes : Bytes (index).now
+  pub kept : MutBor (List ℕ)
+  pub left : MutBor (List Entry)
+  pub bytes : Bytes index.now
   pub small : length capture.now < 2 ^ 64
   pub few : length entries.now < 2 ^ 64
 
@@ -119,9 +119,9 @@ pub record LinkedFirst : Type 0 where
   pub kind : ℕ
   pub sender : ℕ
   pub offset : ℕ
-  pub place : Bor ℕ
+  pub place : MutBor ℕ
   pub number : ℕ
-  pub found : Bor ℕ
+  pub found : MutBor ℕ
 
 abbrev pub linked_first_came : LinkedFirst → Asked
 linked_first_came k = record {
@@ -140,9 +140,9 @@ pub record LinkedCount : Type 0 where
   pub lives : Lfts 2
   pub index : Bor (List ℕ)
   pub kind : ℕ
-  pub count : Bor ℕ
+  pub count : MutBor ℕ
   pub number : ℕ
-  pub total : Bor ℕ
+  pub total : MutBor ℕ
 
 abbrev pub linked_count_came : LinkedCount → Tallied
 linked_count_came k = record { room = length k.index.now; index = index_from_bytes k.index.now; kind = k.kind; number = k.number; count = k.total.now }
@@ -162,11 +162,11 @@ module _ {M : Type 1} {𝓤 : Ura M} (𝓛 : Logic 𝓤) (mem : Memory → SProp
     pub sbp_extend_calls : CallsGrow 𝓤 linked_extend_came
         (λ (k : LinkedExtend).
         (exports.sbp_extend.clauses 𝓛 mem run k.lives (k.index, (k.capture, (k.entries, tt)))).ensures tt k.number (k.kept, (k.capture, (k.left, tt))))
-    pub sbp_index_made : (P : SProp 𝓤) (lives : Lfts 1) (bytes kept : Bor (List ℕ))
+    pub sbp_index_made : (P : SProp 𝓤) (lives : Lfts 1) (bytes kept : MutBor (List ℕ))
         → ent 𝓤 P ((exports.sbp_index.clauses 𝓛 mem run lives (bytes, tt)).ensures tt 0 (kept, tt)) → ent 𝓤 P (fact 𝓤 (index_from_bytes kept.now ≡ empty))
     -- the bytes begin with the position reached and the number of entries held, and none past the 208 changes
     pub index_numbers : (s : List ℕ) → ((index_from_bytes s).reached ≡ number_at 8 s 0) × ((index_from_bytes s).held ≡ number_at 8 s 8)
-    pub sbp_index_alone : (P : SProp 𝓤) (lives : Lfts 1) (bytes kept : Bor (List ℕ)) (n : ℕ)
+    pub sbp_index_alone : (P : SProp 𝓤) (lives : Lfts 1) (bytes kept : MutBor (List ℕ)) (n : ℕ)
         → ent 𝓤 P ((exports.sbp_index.clauses 𝓛 mem run lives (bytes, tt)).ensures tt n (kept, tt)) → ent 𝓤 P (fact 𝓤 (drop 208 kept.now ≡ drop 208 bytes.now))
     pub sbp_extend_alone : (P : SProp 𝓤) (k : LinkedExtend)
         → ent 𝓤 P

@@ -24,7 +24,7 @@ use Rattle.formats.specs.Digits.{front_of}
 use Rattle.row_reader.specs.ReadRow.{reading_row, reading_one}
 use Rattle.row_writer.specs.WriteRow.{alone, body_of, writing_row}
 use Rattle.row_writer.specs.WriteObsRow.{writing_obs_row}
-use Rattle.epochs.specs.Search.{seat_of, names}
+use Rattle.epochs.specs.Search.{seat_of}
 use Rattle.groups.specs.declared.grouping.Part.{Part}
 use Rattle.groups.specs.declared.grouping.Group.TheVariants.{Open}
 use Rattle.epochs.specs.Collator.{seat_number, placing, idle, feeding, rostering, roster_of}

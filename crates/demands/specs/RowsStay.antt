@@ -4,7 +4,7 @@ use seplogic.Ra.Ura.{Ura}
 use base.Logic.{SProp, ent}
 use contract.Lifetimes.{Lfts}
 use contract.Monad.{fact}
-use Rattle.std.specs.Borrow.{Bor}
+use Rattle.std.specs.Borrow.{Bor, MutBor}
 use Rattle.frames.specs.Cursors.{next_of}
 use Rattle.stays.specs.Stays.{Leads}
 use Rattle.frames.specs.declared.cursor.Next as Next
@@ -47,8 +47,8 @@ pub record RowCall : Type 0 where
   pub lives : Lfts 2
   pub capture : Bor (List ℕ)
   pub at : ℕ
-  pub found : Bor (List ℕ)
-  pub left : Bor (List ℕ)
+  pub found : MutBor (List ℕ)
+  pub left : MutBor (List ℕ)
   pub number : ℕ
 
 -- at a model of the logic, with what the function's contract ensures of a call

@@ -10,8 +10,8 @@ use types.Logic.{Logic}
 use contract.Monad.{Fun}
 use Rattle.stays.specs.Stays.{Stays}
 use Rattle.stays.specs.Watching.{Call, CallsStay}
-use Rattle.frames.proofs as frames
-use Rattle.exports.proofs as exports
+use Rattle.frames.specs.contracts as frames
+use Rattle.exports.specs.contracts as exports
 use Rattle.demands.specs.RowsStay.{RowsStay, RowCall, RowCallsStay}
 use Rattle.demands.specs.Swallowed.{Swallowed}
 

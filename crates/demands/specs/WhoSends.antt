@@ -8,7 +8,7 @@ use prog.Routine.{Routine}
 use types.Logic.{Logic}
 use contract.Monad.{Fun}
 use Rattle.senders.specs.Calls.{CallsCarry}
-use Rattle.senders.proofs as senders
+use Rattle.senders.specs.contracts as senders
 
 -- at every model of the logic, as every contract is stated
 module _ {M : Type 1} {𝓤 : Ura M} (𝓛 : Logic 𝓤) (mem : Memory → SProp 𝓤) (run : Routine → Fun 𝓤) where

@@ -8,48 +8,48 @@ use prog.Memory.{Memory}
 use prog.Routine.{Routine}
 use types.Logic.{Logic}
 use contract.Monad.{Fun}
-use Rattle.wire.proofs as wire
-use Rattle.padded.proofs as padded
-use Rattle.text.proofs as text
-use Rattle.crc.proofs as crc
-use Rattle.formats.proofs as formats
-use Rattle.frames.proofs as frames
-use Rattle.senders.proofs as senders
-use Rattle.frame_writer.proofs as frame_writer
-use Rattle.flags.proofs as flags
-use Rattle.positions.proofs as positions
-use Rattle.time_and_dops.proofs as time_and_dops
-use Rattle.baselines.proofs as baselines
-use Rattle.phases.proofs as phases
-use Rattle.observation.proofs as observation
-use Rattle.obs_writer.proofs as obs_writer
-use Rattle.base_positions.proofs as base_positions
-use Rattle.parts.proofs as parts
-use Rattle.orbits.proofs as orbits
-use Rattle.gps_orbits.proofs as gps_orbits
-use Rattle.atmosphere.proofs as atmosphere
-use Rattle.logs.proofs as logs
-use Rattle.system.proofs as system
-use Rattle.obs_reader.proofs as obs_reader
-use Rattle.payloads.proofs as payloads
-use Rattle.readings.proofs as readings
-use Rattle.row_reader.proofs as row_reader
-use Rattle.row_writer.proofs as row_writer
-use Rattle.packets.proofs as packets
-use Rattle.runs.proofs as runs
-use Rattle.groups.proofs as groups
-use Rattle.epochs.proofs as epochs
-use Rattle.captures.proofs as captures
-use Rattle.enlisting.proofs as enlisting
-use Rattle.lines.proofs as lines
-use Rattle.listing.proofs as listing
-use Rattle.frame_rows.proofs as frame_rows
-use Rattle.flag_numbers.proofs as flag_numbers
-use Rattle.index.proofs as index
-use Rattle.lent_index.proofs as lent_index
-use Rattle.places.proofs as places
-use Rattle.states.proofs as states
-use Rattle.exports.proofs as exports
+use Rattle.wire.specs.contracts as wire
+use Rattle.padded.specs.contracts as padded
+use Rattle.text.specs.contracts as text
+use Rattle.crc.specs.contracts as crc
+use Rattle.formats.specs.contracts as formats
+use Rattle.frames.specs.contracts as frames
+use Rattle.senders.specs.contracts as senders
+use Rattle.frame_writer.specs.contracts as frame_writer
+use Rattle.flags.specs.contracts as flags
+use Rattle.positions.specs.contracts as positions
+use Rattle.time_and_dops.specs.contracts as time_and_dops
+use Rattle.baselines.specs.contracts as baselines
+use Rattle.phases.specs.contracts as phases
+use Rattle.observation.specs.contracts as observation
+use Rattle.obs_writer.specs.contracts as obs_writer
+use Rattle.base_positions.specs.contracts as base_positions
+use Rattle.parts.specs.contracts as parts
+use Rattle.orbits.specs.contracts as orbits
+use Rattle.gps_orbits.specs.contracts as gps_orbits
+use Rattle.atmosphere.specs.contracts as atmosphere
+use Rattle.logs.specs.contracts as logs
+use Rattle.system.specs.contracts as system
+use Rattle.obs_reader.specs.contracts as obs_reader
+use Rattle.payloads.specs.contracts as payloads
+use Rattle.readings.specs.contracts as readings
+use Rattle.row_reader.specs.contracts as row_reader
+use Rattle.row_writer.specs.contracts as row_writer
+use Rattle.packets.specs.contracts as packets
+use Rattle.runs.specs.contracts as runs
+use Rattle.groups.specs.contracts as groups
+use Rattle.epochs.specs.contracts as epochs
+use Rattle.captures.specs.contracts as captures
+use Rattle.enlisting.specs.contracts as enlisting
+use Rattle.lines.specs.contracts as lines
+use Rattle.listing.specs.contracts as listing
+use Rattle.frame_rows.specs.contracts as frame_rows
+use Rattle.flag_numbers.specs.contracts as flag_numbers
+use Rattle.index.specs.contracts as index
+use Rattle.lent_index.specs.contracts as lent_index
+use Rattle.places.specs.contracts as places
+use Rattle.states.specs.contracts as states
+use Rattle.exports.specs.contracts as exports
 use Rattle.determined.specs.Determined.{Determined, DeterminedAs}
 
 -- at every model of the logic, as every contract is stated
@@ -103,7 +103,7 @@ module _ {M : Type 1} {𝓤 : Ura M} (𝓛 : Logic 𝓤) (mem : Memory → SProp
     pub counts : Determined 𝓤 frames.cursor.Cursor.counts.ended (frames.cursor.Cursor.counts.clauses 𝓛 mem run)
     pub totals : Determined 𝓤 frames.totals.ended (frames.totals.clauses 𝓛 mem run)
     pub frame_crc : Determined 𝓤 frames.frame_crc.ended (frames.frame_crc.clauses 𝓛 mem run)
-    pub step_at_lem : Determined 𝓤 frames.step_at.ended (frames.step_at.clauses 𝓛 mem run)
+    pub step_at : Determined 𝓤 frames.step_at.ended (frames.step_at.clauses 𝓛 mem run)
     -- a part of what was lent: what it holds
     pub payload : DeterminedAs 𝓤 frames.payload.ended (frames.payload.clauses 𝓛 mem run) (λ κs. List ℕ) (λ κs r. r.now)
 
@@ -132,31 +132,31 @@ module _ {M : Type 1} {𝓤 : Ura M} (𝓛 : Logic 𝓤) (mem : Memory → SProp
     pub fix_allowed : Determined 𝓤 flags.fix_allowed.ended (flags.fix_allowed.clauses 𝓛 mem run)
 
   pub record Positions : Type 1 where
-    pub take-pos_ecef : Determined 𝓤 positions.take_pos_ecef.ended (positions.take_pos_ecef.clauses 𝓛 mem run)
+    pub take_pos_ecef : Determined 𝓤 positions.take_pos_ecef.ended (positions.take_pos_ecef.clauses 𝓛 mem run)
     pub read_pos_ecef : Determined 𝓤 positions.read_pos_ecef.ended (positions.read_pos_ecef.clauses 𝓛 mem run)
     pub write_pos_ecef : Determined 𝓤 positions.write_pos_ecef.ended (positions.write_pos_ecef.clauses 𝓛 mem run)
-    pub take-pos_llh : Determined 𝓤 positions.take_pos_llh.ended (positions.take_pos_llh.clauses 𝓛 mem run)
+    pub take_pos_llh : Determined 𝓤 positions.take_pos_llh.ended (positions.take_pos_llh.clauses 𝓛 mem run)
     pub read_pos_llh : Determined 𝓤 positions.read_pos_llh.ended (positions.read_pos_llh.clauses 𝓛 mem run)
     pub write_pos_llh : Determined 𝓤 positions.write_pos_llh.ended (positions.write_pos_llh.clauses 𝓛 mem run)
 
   pub record TimeAndDops : Type 1 where
-    pub take-dops : Determined 𝓤 time_and_dops.take_dops.ended (time_and_dops.take_dops.clauses 𝓛 mem run)
+    pub take_dops : Determined 𝓤 time_and_dops.take_dops.ended (time_and_dops.take_dops.clauses 𝓛 mem run)
     pub read_dops : Determined 𝓤 time_and_dops.read_dops.ended (time_and_dops.read_dops.clauses 𝓛 mem run)
     pub write_dops : Determined 𝓤 time_and_dops.write_dops.ended (time_and_dops.write_dops.clauses 𝓛 mem run)
-    pub take-gps_time : Determined 𝓤 time_and_dops.take_gps_time.ended (time_and_dops.take_gps_time.clauses 𝓛 mem run)
+    pub take_gps_time : Determined 𝓤 time_and_dops.take_gps_time.ended (time_and_dops.take_gps_time.clauses 𝓛 mem run)
     pub read_gps_time : Determined 𝓤 time_and_dops.read_gps_time.ended (time_and_dops.read_gps_time.clauses 𝓛 mem run)
     pub write_gps_time : Determined 𝓤 time_and_dops.write_gps_time.ended (time_and_dops.write_gps_time.clauses 𝓛 mem run)
 
   pub record Baselines : Type 1 where
-    pub take-ecef : Determined 𝓤 baselines.take_ecef.ended (baselines.take_ecef.clauses 𝓛 mem run)
+    pub take_ecef : Determined 𝓤 baselines.take_ecef.ended (baselines.take_ecef.clauses 𝓛 mem run)
     pub read_baseline_ecef : Determined 𝓤 baselines.read_baseline_ecef.ended (baselines.read_baseline_ecef.clauses 𝓛 mem run)
     pub write_baseline_ecef : Determined 𝓤 baselines.write_baseline_ecef.ended (baselines.write_baseline_ecef.clauses 𝓛 mem run)
     pub read_vel_ecef : Determined 𝓤 baselines.read_vel_ecef.ended (baselines.read_vel_ecef.clauses 𝓛 mem run)
     pub write_vel_ecef : Determined 𝓤 baselines.write_vel_ecef.ended (baselines.write_vel_ecef.clauses 𝓛 mem run)
-    pub take-baseline_heading : Determined 𝓤 baselines.take_baseline_heading.ended (baselines.take_baseline_heading.clauses 𝓛 mem run)
+    pub take_baseline_heading : Determined 𝓤 baselines.take_baseline_heading.ended (baselines.take_baseline_heading.clauses 𝓛 mem run)
     pub read_baseline_heading : Determined 𝓤 baselines.read_baseline_heading.ended (baselines.read_baseline_heading.clauses 𝓛 mem run)
     pub write_baseline_heading : Determined 𝓤 baselines.write_baseline_heading.ended (baselines.write_baseline_heading.clauses 𝓛 mem run)
-    pub take-ned : Determined 𝓤 baselines.take_ned.ended (baselines.take_ned.clauses 𝓛 mem run)
+    pub take_ned : Determined 𝓤 baselines.take_ned.ended (baselines.take_ned.clauses 𝓛 mem run)
     pub read_baseline_ned : Determined 𝓤 baselines.read_baseline_ned.ended (baselines.read_baseline_ned.clauses 𝓛 mem run)
     pub write_baseline_ned : Determined 𝓤 baselines.write_baseline_ned.ended (baselines.write_baseline_ned.clauses 𝓛 mem run)
     pub read_vel_ned : Determined 𝓤 baselines.read_vel_ned.ended (baselines.read_vel_ned.clauses 𝓛 mem run)
@@ -170,55 +170,55 @@ module _ {M : Type 1} {𝓤 : Ura M} (𝓛 : Logic 𝓤) (mem : Memory → SProp
   pub record Observation : Type 1 where
     pub read_observation : Determined 𝓤 observation.read_observation.ended (observation.read_observation.clauses 𝓛 mem run)
     pub read_observation_of : Determined 𝓤 observation.read_observation_of.ended (observation.read_observation_of.clauses 𝓛 mem run)
-    pub is_obs_lem : Determined 𝓤 observation.is_obs.ended (observation.is_obs.clauses 𝓛 mem run)
+    pub is_obs : Determined 𝓤 observation.is_obs.ended (observation.is_obs.clauses 𝓛 mem run)
     pub is_obs_length : Determined 𝓤 observation.is_obs_length.ended (observation.is_obs_length.clauses 𝓛 mem run)
-    pub read_obs_lem : Determined 𝓤 observation.read_obs.ended (observation.read_obs.clauses 𝓛 mem run)
+    pub read_obs : Determined 𝓤 observation.read_obs.ended (observation.read_obs.clauses 𝓛 mem run)
 
   pub record ObsWriter : Type 1 where
     pub write_obs : Determined 𝓤 obs_writer.write_obs.ended (obs_writer.write_obs.clauses 𝓛 mem run)
 
   pub record BasePositions : Type 1 where
-    pub take-base_pos_ecef : Determined 𝓤 base_positions.take_base_pos_ecef.ended (base_positions.take_base_pos_ecef.clauses 𝓛 mem run)
+    pub take_base_pos_ecef : Determined 𝓤 base_positions.take_base_pos_ecef.ended (base_positions.take_base_pos_ecef.clauses 𝓛 mem run)
     pub read_base_pos_ecef : Determined 𝓤 base_positions.read_base_pos_ecef.ended (base_positions.read_base_pos_ecef.clauses 𝓛 mem run)
     pub write_base_pos_ecef : Determined 𝓤 base_positions.write_base_pos_ecef.ended (base_positions.write_base_pos_ecef.clauses 𝓛 mem run)
-    pub take-base_pos_llh : Determined 𝓤 base_positions.take_base_pos_llh.ended (base_positions.take_base_pos_llh.clauses 𝓛 mem run)
+    pub take_base_pos_llh : Determined 𝓤 base_positions.take_base_pos_llh.ended (base_positions.take_base_pos_llh.clauses 𝓛 mem run)
     pub read_base_pos_llh : Determined 𝓤 base_positions.read_base_pos_llh.ended (base_positions.read_base_pos_llh.clauses 𝓛 mem run)
     pub write_base_pos_llh : Determined 𝓤 base_positions.write_base_pos_llh.ended (base_positions.write_base_pos_llh.clauses 𝓛 mem run)
 
   pub record Parts : Type 1 where
-    pub take-time : Determined 𝓤 parts.time_of_week.take.ended (parts.time_of_week.take.clauses 𝓛 mem run)
+    pub take_time : Determined 𝓤 parts.time_of_week.take.ended (parts.time_of_week.take.clauses 𝓛 mem run)
     pub put_time : Determined 𝓤 parts.time_of_week.put.ended (parts.time_of_week.put.clauses 𝓛 mem run)
-    pub take-common : Determined 𝓤 parts.common.take.ended (parts.common.take.clauses 𝓛 mem run)
+    pub take_common : Determined 𝓤 parts.common.take.ended (parts.common.take.clauses 𝓛 mem run)
     pub put_common : Determined 𝓤 parts.common.put.ended (parts.common.put.clauses 𝓛 mem run)
 
   pub record Orbits : Type 1 where
-    pub take-ephemeris_sbas : Determined 𝓤 orbits.take_ephemeris_sbas.ended (orbits.take_ephemeris_sbas.clauses 𝓛 mem run)
+    pub take_ephemeris_sbas : Determined 𝓤 orbits.take_ephemeris_sbas.ended (orbits.take_ephemeris_sbas.clauses 𝓛 mem run)
     pub read_ephemeris_sbas : Determined 𝓤 orbits.read_ephemeris_sbas.ended (orbits.read_ephemeris_sbas.clauses 𝓛 mem run)
     pub write_ephemeris_sbas : Determined 𝓤 orbits.write_ephemeris_sbas.ended (orbits.write_ephemeris_sbas.clauses 𝓛 mem run)
-    pub take-ephemeris_glo : Determined 𝓤 orbits.take_ephemeris_glo.ended (orbits.take_ephemeris_glo.clauses 𝓛 mem run)
+    pub take_ephemeris_glo : Determined 𝓤 orbits.take_ephemeris_glo.ended (orbits.take_ephemeris_glo.clauses 𝓛 mem run)
     pub read_ephemeris_glo : Determined 𝓤 orbits.read_ephemeris_glo.ended (orbits.read_ephemeris_glo.clauses 𝓛 mem run)
     pub write_ephemeris_glo : Determined 𝓤 orbits.write_ephemeris_glo.ended (orbits.write_ephemeris_glo.clauses 𝓛 mem run)
 
   pub record GpsOrbits : Type 1 where
-    pub take-ephemeris_gps : Determined 𝓤 gps_orbits.take_ephemeris_gps.ended (gps_orbits.take_ephemeris_gps.clauses 𝓛 mem run)
+    pub take_ephemeris_gps : Determined 𝓤 gps_orbits.take_ephemeris_gps.ended (gps_orbits.take_ephemeris_gps.clauses 𝓛 mem run)
     pub read_ephemeris_gps : Determined 𝓤 gps_orbits.read_ephemeris_gps.ended (gps_orbits.read_ephemeris_gps.clauses 𝓛 mem run)
     pub write_ephemeris_gps : Determined 𝓤 gps_orbits.write_ephemeris_gps.ended (gps_orbits.write_ephemeris_gps.clauses 𝓛 mem run)
 
   pub record Atmosphere : Type 1 where
-    pub take-iono : Determined 𝓤 atmosphere.take_iono.ended (atmosphere.take_iono.clauses 𝓛 mem run)
+    pub take_iono : Determined 𝓤 atmosphere.take_iono.ended (atmosphere.take_iono.clauses 𝓛 mem run)
     pub read_iono : Determined 𝓤 atmosphere.read_iono.ended (atmosphere.read_iono.clauses 𝓛 mem run)
     pub write_iono : Determined 𝓤 atmosphere.write_iono.ended (atmosphere.write_iono.clauses 𝓛 mem run)
-    pub take-sv_configuration_gps : Determined 𝓤 atmosphere.take_sv_configuration_gps.ended (atmosphere.take_sv_configuration_gps.clauses 𝓛 mem run)
+    pub take_sv_configuration_gps : Determined 𝓤 atmosphere.take_sv_configuration_gps.ended (atmosphere.take_sv_configuration_gps.clauses 𝓛 mem run)
     pub read_sv_configuration_gps : Determined 𝓤 atmosphere.read_sv_configuration_gps.ended (atmosphere.read_sv_configuration_gps.clauses 𝓛 mem run)
     pub write_sv_configuration_gps : Determined 𝓤 atmosphere.write_sv_configuration_gps.ended (atmosphere.write_sv_configuration_gps.clauses 𝓛 mem run)
-    pub take-group_delay : Determined 𝓤 atmosphere.take_group_delay.ended (atmosphere.take_group_delay.clauses 𝓛 mem run)
+    pub take_group_delay : Determined 𝓤 atmosphere.take_group_delay.ended (atmosphere.take_group_delay.clauses 𝓛 mem run)
     pub read_group_delay : Determined 𝓤 atmosphere.read_group_delay.ended (atmosphere.read_group_delay.clauses 𝓛 mem run)
     pub write_group_delay : Determined 𝓤 atmosphere.write_group_delay.ended (atmosphere.write_group_delay.clauses 𝓛 mem run)
 
   pub record Logs : Type 1 where
     pub is_log_length : Determined 𝓤 logs.is_log_length.ended (logs.is_log_length.clauses 𝓛 mem run)
     pub log_padded : Determined 𝓤 logs.log_padded.ended (logs.log_padded.clauses 𝓛 mem run)
-    pub take-log : Determined 𝓤 logs.take_log.ended (logs.take_log.clauses 𝓛 mem run)
+    pub take_log : Determined 𝓤 logs.take_log.ended (logs.take_log.clauses 𝓛 mem run)
     pub read_log : Determined 𝓤 logs.read_log.ended (logs.read_log.clauses 𝓛 mem run)
     -- a part of what was lent: what it holds
     pub log_text : DeterminedAs 𝓤 logs.log_text.ended (logs.log_text.clauses 𝓛 mem run) (λ κs. List ℕ) (λ κs r. r.now)
@@ -233,13 +233,13 @@ module _ {M : Type 1} {𝓤 : Ura M} (𝓛 : Logic 𝓤) (mem : Memory → SProp
     pub io_error : Determined 𝓤 system.io_error.ended (system.io_error.clauses 𝓛 mem run)
     pub nap_error : Determined 𝓤 system.nap_error.ended (system.nap_error.clauses 𝓛 mem run)
     pub external_antenna : Determined 𝓤 system.external_antenna.ended (system.external_antenna.clauses 𝓛 mem run)
-    pub take-heartbeat : Determined 𝓤 system.take_heartbeat.ended (system.take_heartbeat.clauses 𝓛 mem run)
+    pub take_heartbeat : Determined 𝓤 system.take_heartbeat.ended (system.take_heartbeat.clauses 𝓛 mem run)
     pub read_heartbeat : Determined 𝓤 system.read_heartbeat.ended (system.read_heartbeat.clauses 𝓛 mem run)
     pub write_heartbeat : Determined 𝓤 system.write_heartbeat.ended (system.write_heartbeat.clauses 𝓛 mem run)
-    pub take-read_by_index_req : Determined 𝓤 system.take_read_by_index_req.ended (system.take_read_by_index_req.clauses 𝓛 mem run)
+    pub take_read_by_index_req : Determined 𝓤 system.take_read_by_index_req.ended (system.take_read_by_index_req.clauses 𝓛 mem run)
     pub read_read_by_index_req : Determined 𝓤 system.read_read_by_index_req.ended (system.read_read_by_index_req.clauses 𝓛 mem run)
     pub write_read_by_index_req : Determined 𝓤 system.write_read_by_index_req.ended (system.write_read_by_index_req.clauses 𝓛 mem run)
-    pub take-startup : Determined 𝓤 system.take_startup.ended (system.take_startup.clauses 𝓛 mem run)
+    pub take_startup : Determined 𝓤 system.take_startup.ended (system.take_startup.clauses 𝓛 mem run)
     pub read_startup : Determined 𝓤 system.read_startup.ended (system.read_startup.clauses 𝓛 mem run)
     pub write_startup : Determined 𝓤 system.write_startup.ended (system.write_startup.clauses 𝓛 mem run)
 
@@ -289,7 +289,7 @@ module _ {M : Type 1} {𝓤 : Ura M} (𝓛 : Logic 𝓤) (mem : Memory → SProp
     pub collate : Determined 𝓤 captures.collate.ended (captures.collate.clauses 𝓛 mem run)
 
   pub record Enlisting : Type 1 where
-    pub new_seat_lem : Determined 𝓤 enlisting.new_seat.ended (enlisting.new_seat.clauses 𝓛 mem run)
+    pub new_seat : Determined 𝓤 enlisting.new_seat.ended (enlisting.new_seat.clauses 𝓛 mem run)
     pub enlist : Determined 𝓤 enlisting.enlist.ended (enlisting.enlist.clauses 𝓛 mem run)
 
   pub record Lines : Type 1 where
@@ -322,7 +322,7 @@ module _ {M : Type 1} {𝓤 : Ura M} (𝓛 : Logic 𝓤) (mem : Memory → SProp
     pub make : Determined 𝓤 lent_index.make.ended (lent_index.make.clauses 𝓛 mem run)
     pub settle : Determined 𝓤 lent_index.settle.ended (lent_index.settle.clauses 𝓛 mem run)
     pub hand_place : Determined 𝓤 lent_index.hand_place.ended (lent_index.hand_place.clauses 𝓛 mem run)
-    pub count_in_lem : Determined 𝓤 lent_index.count_in.ended (lent_index.count_in.clauses 𝓛 mem run)
+    pub count_in : Determined 𝓤 lent_index.count_in.ended (lent_index.count_in.clauses 𝓛 mem run)
 
   pub record Places : Type 1 where
     pub place_in : Determined 𝓤 places.place_in.ended (places.place_in.clauses 𝓛 mem run)

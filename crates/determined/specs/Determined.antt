@@ -25,7 +25,7 @@ pub record Ends (T : Ended) : Type 0 where
 -- the last value of each parameter that has one is the same
 abbrev pub SameAt : {D : Type 0} (e : Exit D) (x : D) → Last e x → Last e x → Type 0 → Type 0
 SameAt unchanged x v w rest = rest
-SameAt (leaves L l S s) x v w rest = (v ≡ w) × rest
+SameAt (leaves L l S s r) x v w rest = (v ≡ w) × rest
 
 abbrev pub SameLast : {n : ℕ} (κs : Lfts n) (ss : List (Slot n)) (ks : Kepts ss) (a : Denots (types_at ss κs)) → Fins κs ss ks a → Fins κs ss ks a → Type 0
 SameLast κs [] ks a v w = Unit {0}

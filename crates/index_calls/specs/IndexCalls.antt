@@ -6,7 +6,7 @@ use prog.Memory.{Memory}
 use prog.Routine.{Routine}
 use types.Logic.{Logic}
 use contract.Monad.{Fun}
-use Rattle.std.specs.Borrow.{Bor}
+use Rattle.std.specs.Borrow.{Bor, MutBor}
 use Rattle.refusals.specs.Refusals.{Answer, reply, leaves, as_number, zero_or}
 use Rattle.frames.specs.Reading.{steps, frames_of}
 use Rattle.index.specs.Index.{entry_of, written, extending, asking, sought_answer, counting}
@@ -19,18 +19,24 @@ use Rattle.lent_index.specs.Bytes.{in_bytes, index_from_bytes, index_stored, hit
 use Rattle.lent_index.specs.Inner.{settled_number, settled_in, unless_short}
 use Rattle.calls.specs.Replies.{hands_back, sought_of, fills}
 use Rattle.calls.specs.Gives.{Gives}
-use Rattle.index.proofs as index
-use Rattle.lent_index.proofs as lent_index
-use Rattle.exports.proofs as exports
+use Rattle.index.specs.contracts as index
+use Rattle.lent_index.specs.contracts as lent_index
+use Rattle.exports.specs.contracts as exports
 
 -- ---- what they come to
 
--- bytes, and entries, that a call is lent
+-- bytes, and entries, that a call is lent to be read; and to be changed
 abbrev pub Lent : Type 0
 Lent = Bor (List ℕ)
 
 abbrev pub Entries : Type 0
 Entries = Bor (List Entry)
+
+abbrev pub Buffer : Type 0
+Buffer = MutBor (List ℕ)
+
+abbrev pub Space : Type 0
+Space = MutBor (List Entry)
 
 -- the entries of the frames that open reading finds from the reached position on stand after those held
 abbrev pub entered : Index → List ℕ → List Entry → List Entry
@@ -40,25 +46,25 @@ entered x s = written x.held (map entry_of (frames_of (steps true s x.reached)))
 abbrev pub indexed : Index → Answer Index → Indexed
 indexed x a = record { answer = zero_or a; index = leaves (λ new old. new) a x }
 
-abbrev pub extend_gives : Index → Lent → Entries → Indexed × (List Entry × Unit {0})
+abbrev pub extend_gives : Index → Lent → Space → Indexed × (List Entry × Unit {0})
 extend_gives x capture entries =
     let a = reply (extending x capture.now (length entries.now)) in (indexed x a, (leaves (λ new. entered x capture.now) a entries.now, tt))
 
-abbrev pub make_gives : Lent → ℕ × (List ℕ × Unit {0})
+abbrev pub make_gives : Buffer → ℕ × (List ℕ × Unit {0})
 make_gives bytes =
     fills (λ x. 0) index_stored (in_bytes bytes.now (record { tests = []; value = record { reached = 0; held = 0; counts = replicate 24 0 } })) bytes.now
 
-abbrev pub extend_in_gives : Lent → Lent → Entries → ℕ × (List ℕ × (List Entry × Unit {0}))
+abbrev pub extend_in_gives : Buffer → Lent → Space → ℕ × (List ℕ × (List Entry × Unit {0}))
 extend_in_gives bytes capture entries =
     let x = index_from_bytes bytes.now in
     let a = reply (in_bytes bytes.now (extending x capture.now (length entries.now))) in
     (zero_or a, (leaves index_stored a bytes.now, (leaves (λ new. entered x capture.now) a entries.now, tt)))
 
-abbrev pub first_in_gives : Lent → Entries → ℕ → ℕ → ℕ → Bor ℕ → ℕ × (ℕ × Unit {0})
+abbrev pub first_in_gives : Lent → Entries → ℕ → ℕ → ℕ → MutBor ℕ → ℕ × (ℕ × Unit {0})
 first_in_gives bytes entries kind sender offset place =
     fills hit_number place_or (in_bytes bytes.now (asking (index_from_bytes bytes.now) entries.now kind sender offset)) place.now
 
-abbrev pub count_in_gives : Lent → ℕ → Bor ℕ → ℕ × (ℕ × Unit {0})
+abbrev pub count_in_gives : Lent → ℕ → MutBor ℕ → ℕ × (ℕ × Unit {0})
 count_in_gives bytes kind count = fills (λ n. 0) (λ n old. n) (in_bytes bytes.now (counting (index_from_bytes bytes.now) kind)) count.now
 
 -- ---- that they do, at every model of the logic, as every contract is stated
@@ -90,4 +96,4 @@ module _ {M : Type 1} {𝓤 : Ura M} (𝓛 : Logic 𝓤) (mem : Memory → SProp
         (λ κs bytes sought place.
         let a = unless_short (length bytes.now) (sought_answer sought) in
         (as_number hit_number a, (leaves place_or a place.now, tt)))
-    pub count_in_lem : Gives 𝓤 lent_index.count_in.ended (lent_index.count_in.clauses 𝓛 mem run) (λ κs. count_in_gives)
+    pub count_in : Gives 𝓤 lent_index.count_in.ended (lent_index.count_in.clauses 𝓛 mem run) (λ κs. count_in_gives)

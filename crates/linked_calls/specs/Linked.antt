@@ -2,7 +2,7 @@
 -- back its number and leaves all as it was. When a call is refused stands in the demands (Order.antt), what they come to in Demand2.antt, Demand3.antt
 -- and Exported.antt. A sender comes as the number that the frame gets.
 use Rattle.std.specs.Prelude.{Bool, List, ℕ, eqb, ℤ, length}
-use Rattle.std.specs.Borrow.{Bor}
+use Rattle.std.specs.Borrow.{Bor, MutBor}
 use Rattle.refusals.specs.Refusals.{reply, leaves, as_number, zero_or}
 use Rattle.layouts.specs.Layout.{encode_body}
 use Rattle.frames.specs.Frame.{Content, frame_bytes}
@@ -26,9 +26,12 @@ use Rattle.states.specs.Feed.{making, happened_number, happened_stored, feeding_
 use Rattle.states.specs.Enlist.{growing, enlisting}
 use Rattle.calls.specs.Replies.{hands, fills, sends}
 
--- lent bytes or numbers
+-- lent bytes or numbers, to be read; and to be changed
 abbrev pub Lent : Type 0
 Lent = Bor (List ℕ)
+
+abbrev pub Buffer : Type 0
+Buffer = MutBor (List ℕ)
 
 -- a number; and with it what is left of one thing that was lent, or of two
 abbrev pub Number : Type 0
@@ -43,14 +46,14 @@ Sent = ℕ × (List ℕ × (ℕ × Unit {0}))
 -- ---- frames, their counts, the listing
 
 -- 0 a frame, 1 the end, 2 more bytes are needed, and the row of what is found
-abbrev pub next_gives : Lent → ℕ → Bool → Lent → Filled
+abbrev pub next_gives : Lent → ℕ → Bool → Buffer → Filled
 next_gives capture at opened found =
     fills number_in (λ x. at_front found_fields (found_values (found_in x))) (finding capture.now at opened (length found.now)) found.now
 
-abbrev pub totals_gives : Lent → Lent → Filled
+abbrev pub totals_gives : Lent → Buffer → Filled
 totals_gives capture counts = fills (λ c. 0) (λ c. at_front totals_fields (totals_row c)) (totalling capture.now (length counts.now)) counts.now
 
-abbrev pub list_gives : Lent → Lent → Bor ℕ → Sent
+abbrev pub list_gives : Lent → Buffer → MutBor ℕ → Sent
 list_gives capture text size = sends (listing capture.now (length text.now)) (text_of capture.now) text.now size.now
 
 -- ---- payloads, as an answer alone and as numbers
@@ -58,45 +61,45 @@ list_gives capture text size = sends (listing capture.now (length text.now)) (te
 abbrev pub answer_gives : ℕ → Lent → Number
 answer_gives kind payload = hands (λ m. 0) (reading_any kind payload.now)
 
-abbrev pub read_gives : ℕ → Lent → Lent → Filled
+abbrev pub read_gives : ℕ → Lent → Buffer → Filled
 read_gives kind payload row = fills (λ ns. 0) beginning (reading_row kind payload.now (length row.now)) row.now
 
-abbrev pub observation_gives : ℕ → Lent → ℕ → Lent → Filled
+abbrev pub observation_gives : ℕ → Lent → ℕ → Buffer → Filled
 observation_gives kind payload index row = fills (λ ns. 0) beginning (reading_one kind payload.now index (length row.now)) row.now
 
 -- ---- frames written
 
-abbrev pub write_gives : Lent → ℕ → ℕ → Lent → Bor ℕ → Sent
+abbrev pub write_gives : Buffer → ℕ → ℕ → Lent → MutBor ℕ → Sent
 write_gives out kind sender row size =
     sends (writing_row kind row.now (length out.now)) (frame_bytes kind sender (encode_body (layout_for kind) (body_of (layout_for kind) row.now))) out.now size.now
 
-abbrev pub write_obs_gives : Lent → ℕ → ℕ → Lent → Lent → Bor ℕ → Sent
+abbrev pub write_obs_gives : Buffer → ℕ → ℕ → Lent → Lent → MutBor ℕ → Sent
 write_obs_gives out kind sender head rows size =
     sends (writing_obs_row kind head.now rows.now (length out.now))
     (frame_bytes kind sender (encode_body (obs first).layout ((obs first).row (observed_of head.now rows.now)))) out.now size.now
 
-abbrev pub write_log_gives : Lent → ℕ → ℕ → Lent → ℕ → Bor ℕ → Sent
+abbrev pub write_log_gives : Buffer → ℕ → ℕ → Lent → ℕ → MutBor ℕ → Sent
 write_log_gives out sender level text padding size =
     let r = logged level text.now padding in
     sends (writing log r (length out.now)) (frame_bytes log.kind sender (encode_body log.layout (log.row r))) out.now size.now
 
-abbrev pub write_frame_gives : Lent → ℕ → ℕ → Lent → Bor ℕ → Sent
+abbrev pub write_frame_gives : Buffer → ℕ → ℕ → Lent → MutBor ℕ → Sent
 write_frame_gives out kind sender payload size =
     sends (planning (length payload.now) (length out.now)) (frame_bytes kind sender payload.now) out.now size.now
 
 -- ---- a collator in the caller's bytes
 
-abbrev pub collator_gives : Lent → Lent → Filled
+abbrev pub collator_gives : Buffer → Lent → Filled
 collator_gives state roster = fills (λ c. 0) collator_stored (making roster.now (length state.now)) state.now
 
-abbrev pub growing_gives : Lent → Filled
+abbrev pub growing_gives : Buffer → Filled
 growing_gives state = fills (λ c. 0) collator_stored (growing (length state.now)) state.now
 
-abbrev pub enlist_gives : Lent → ℕ → ℕ → Filled
+abbrev pub enlist_gives : Buffer → ℕ → ℕ → Filled
 enlist_gives state kind sender = fills (λ t. 0) (λ t was. t) (enlisting state.now kind sender) state.now
 
 -- the frame is that of the type, sender and payload handed in: its own place moves, and an epoch that ends is reported
-abbrev pub feed_gives : Lent → ℕ → ℕ → Lent → Lent → ℕ × (List ℕ × (List ℕ × Unit {0}))
+abbrev pub feed_gives : Buffer → ℕ → ℕ → Lent → Buffer → ℕ × (List ℕ × (List ℕ × Unit {0}))
 feed_gives state kind sender payload report =
     let x : Content = record { kind = kind; sender = sender; payload = payload.now } in
     let a = reply (feeding_in state.now (length report.now) x) in (
@@ -106,7 +109,7 @@ feed_gives state kind sender payload report =
 
 -- ---- phases and flags
 
-abbrev pub parts_gives : ℤ → Bor ℤ → Bor ℕ → ℕ × (ℤ × (ℕ × Unit {0}))
+abbrev pub parts_gives : ℤ → MutBor ℤ → MutBor ℕ → ℕ × (ℤ × (ℕ × Unit {0}))
 parts_gives phase cycles parts =
     let a = reply (reading_phase phase) in (zero_or a, (leaves (λ p was. p.l_i) a cycles.now, (leaves (λ p was. p.l_f) a parts.now, tt)))
 

@@ -11,13 +11,13 @@ use Rattle.crc.specs.Crc.{crc_from}
 use Rattle.senders.specs.Senders.{carried, writer_from}
 use Rattle.phases.specs.Phase.{phase_of}
 use Rattle.calls.specs.Gives.{Gives}
-use Rattle.phases.proofs as phases
-use Rattle.row_reader.proofs as row_reader
-use Rattle.row_writer.proofs as row_writer
-use Rattle.frame_rows.proofs as frame_rows
-use Rattle.flag_numbers.proofs as flag_numbers
-use Rattle.states.proofs as states
-use Rattle.exports.proofs as exports
+use Rattle.phases.specs.contracts as phases
+use Rattle.row_reader.specs.contracts as row_reader
+use Rattle.row_writer.specs.contracts as row_writer
+use Rattle.frame_rows.specs.contracts as frame_rows
+use Rattle.flag_numbers.specs.contracts as flag_numbers
+use Rattle.states.specs.contracts as states
+use Rattle.exports.specs.contracts as exports
 use Rattle.linked_calls.specs.Linked.{next_gives, totals_gives, list_gives, answer_gives, read_gives, observation_gives, write_gives, write_obs_gives, write_log_gives, write_frame_gives, collator_gives, growing_gives, enlist_gives, feed_gives, parts_gives, fix_gives, available_gives, repaired_gives, above_sea_gives}
 
 -- at every model of the logic, as every contract is stated

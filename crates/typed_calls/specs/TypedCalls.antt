@@ -1,14 +1,14 @@
 -- Every typed reader and writer by its own contract. A reader hands back the record of a payload, or the number of its refusal; a writer hands back
 -- how many bytes it wrote, or that number, and leaves the frame at the buffer's start, or the buffer as it was. What the calls are by which they do
 -- so (`reading`, `writing`), and what a record is in bytes, is the message's description.
-use Rattle.std.specs.Prelude.{List, [], ◌++◌, ℕ, length, drop}
+use Rattle.std.specs.Prelude.{List, ℕ, length}
 use seplogic.Ra.Ura.{Ura}
 use base.Logic.{SProp}
 use prog.Memory.{Memory}
 use prog.Routine.{Routine}
 use types.Logic.{Logic}
 use contract.Monad.{Fun}
-use Rattle.std.specs.Borrow.{Bor}
+use Rattle.std.specs.Borrow.{Bor, MutBor}
 use Rattle.layouts.specs.Layout.{encode_body}
 use Rattle.layouts.specs.Description.{Description, reading}
 use Rattle.frames.specs.Frame.{frame_bytes}
@@ -17,7 +17,6 @@ use Rattle.senders.specs.declared.Writer.{Writer}
 use Rattle.frame_writer.specs.Writer.{planning}
 use Rattle.frame_writer.specs.Faithful.{writing}
 use Rattle.frame_writer.specs.declared.write.Written.{Written}
-use Rattle.frame_writer.specs.declared.write.Written.TheVariants as Written
 use Rattle.calls.specs.Replies.{hands_back, puts, hands}
 use Rattle.calls.specs.Gives.{Gives, GivesAs}
 use Rattle.time_and_dops.specs.GpsTime.{gps_time}
@@ -67,26 +66,26 @@ use Rattle.logs.specs.Log.{log, logged, reading_log, text_in}
 use Rattle.logs.specs.declared.log.LogRead.TheVariants as LogRead
 use Rattle.payloads.specs.Payloads.{reading_any}
 use Rattle.payloads.specs.declared.Reading.TheVariants as Reading
-use Rattle.frame_writer.proofs as frame_writer
-use Rattle.time_and_dops.proofs as time_and_dops
-use Rattle.positions.proofs as positions
-use Rattle.baselines.proofs as baselines
-use Rattle.observation.proofs as observation
-use Rattle.obs_writer.proofs as obs_writer
-use Rattle.base_positions.proofs as base_positions
-use Rattle.gps_orbits.proofs as gps_orbits
-use Rattle.orbits.proofs as orbits
-use Rattle.atmosphere.proofs as atmosphere
-use Rattle.logs.proofs as logs
-use Rattle.system.proofs as system
-use Rattle.payloads.proofs as payloads
-use Rattle.readings.proofs as readings
+use Rattle.frame_writer.specs.contracts as frame_writer
+use Rattle.time_and_dops.specs.contracts as time_and_dops
+use Rattle.positions.specs.contracts as positions
+use Rattle.baselines.specs.contracts as baselines
+use Rattle.observation.specs.contracts as observation
+use Rattle.obs_writer.specs.contracts as obs_writer
+use Rattle.base_positions.specs.contracts as base_positions
+use Rattle.gps_orbits.specs.contracts as gps_orbits
+use Rattle.orbits.specs.contracts as orbits
+use Rattle.atmosphere.specs.contracts as atmosphere
+use Rattle.logs.specs.contracts as logs
+use Rattle.system.specs.contracts as system
+use Rattle.payloads.specs.contracts as payloads
+use Rattle.readings.specs.contracts as readings
 
 -- a message with a description
 abbrev pub read_by : {R E : Type 0} → Description R → (R → E) → (ℕ → E) → Bor (List ℕ) → E × Unit {0}
 read_by d record_of refusal payload = hands_back record_of refusal (reading d payload.now)
 
-abbrev pub write_by : {R : Type 0} → Description R → Bor (List ℕ) → Writer → R → Written × (List ℕ × Unit {0})
+abbrev pub write_by : {R : Type 0} → Description R → MutBor (List ℕ) → Writer → R → Written × (List ℕ × Unit {0})
 write_by d buf writer r = puts (writing d r (length buf.now)) (frame_bytes d.kind (carried d.kind writer) (encode_body d.layout (d.row r))) buf.now
 
 -- ---- the calls, at every model of the logic, as every contract is stated
@@ -155,7 +154,7 @@ module _ {M : Type 1} {𝓤 : Ura M} (𝓛 : Logic 𝓤) (mem : Memory → SProp
 
   -- OBS and LOG, of which the code shows and takes parts; a frame of any type; any payload
   pub record Others : Type 1 where
-    pub read_obs_lem : Gives 𝓤 observation.read_obs.ended (observation.read_obs.clauses 𝓛 mem run) (λ κs s. hands_back ObsRead.Record ObsRead.Refused (reading_obs s.now))
+    pub read_obs : Gives 𝓤 observation.read_obs.ended (observation.read_obs.clauses 𝓛 mem run) (λ κs s. hands_back ObsRead.Record ObsRead.Refused (reading_obs s.now))
     pub read_observation : Gives 𝓤 observation.read_observation.ended (observation.read_observation.clauses 𝓛 mem run)
         (λ κs s i. hands_back ObservationRead.Record ObservationRead.Refused (one_observation first s.now i))
     pub read_observation_of : Gives 𝓤 observation.read_observation_of.ended (observation.read_observation_of.clauses 𝓛 mem run)
@@ -164,7 +163,7 @@ module _ {M : Type 1} {𝓤 : Ura M} (𝓛 : Logic 𝓤) (mem : Memory → SProp
     pub write_obs : Gives 𝓤 obs_writer.write_obs.ended (obs_writer.write_obs.clauses 𝓛 mem run)
         (λ κs buf writer o entries.
         puts (writing_obs first o.count (length buf.now))
-        (frame_bytes first.kind (carried first.kind writer) (encode_body (obs first.layout) (obs first.row (observed first (head_of o) o.count entries)))) buf.now)
+        (frame_bytes first.kind (carried first.kind writer) (encode_body (obs first).layout ((obs first).row (observed first (head_of o) o.count entries)))) buf.now)
     pub read_log : Gives 𝓤 logs.read_log.ended (logs.read_log.clauses 𝓛 mem run) (λ κs s. hands_back LogRead.Record LogRead.Refused (reading_log s.now))
     pub log_text : GivesAs 𝓤 logs.log_text.ended (logs.log_text.clauses 𝓛 mem run) (λ κs. List ℕ) (λ κs r. r.now) (λ κs s. (text_in s.now, tt))
     pub write_log : Gives 𝓤 logs.write_log.ended (logs.write_log.clauses 𝓛 mem run) (λ κs buf writer level text padding. write_by log buf writer (logged level text.now padding))
