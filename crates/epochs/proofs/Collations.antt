@@ -62,12 +62,17 @@ after_one c (y ∷ xs) x = after_one (fed_frame c y).collator xs x
 
 module _ {roster : List ℕ} where
   pub epochs_in : (past xs : List Content) (hs : List Happened) → CameTo roster past xs hs → Epochs roster past xs (reports_in hs)
+  epochs_in past [] (_ ∷ hs) c = elim c [ ]
+  epochs_in past (x ∷ xs) [] c = elim c [ ]
   epochs_in past [] [] c = none
   epochs_in past (x ∷ xs) (H.Refused n ∷ hs) c = passing (λ e w. never_refused ((c.0 e).1 w)) (epochs_in (past ++ x ∷ []) xs hs c.1)
   epochs_in past (x ∷ xs) (H.Taken ∷ hs) c = passing (λ e w. never_taken ((c.0 e).1 w)) (epochs_in (past ++ x ∷ []) xs hs c.1)
   epochs_in past (x ∷ xs) (H.Epoch r ∷ hs) c = ending ((c.0 r).0 refl) (epochs_in (past ++ x ∷ []) xs hs c.1)
 
   pub only_epochs : {past xs : List Content} {es : List Report} → Epochs roster past xs es → (hs : List Happened) → CameTo roster past xs hs → es ≡ reports_in hs
+  only_epochs (none {past = past}) (h ∷ hs) c = elim c [ ]
+  only_epochs (ending {past = past} {xs = xs} {e = e} {es = es} w rest) [] c = elim c [ ]
+  only_epochs (passing {past = past} {xs = xs} {es = es} never rest) [] c = elim c [ ]
   only_epochs none [] c = refl
   only_epochs (ending {e = e} w rest) (h ∷ hs) c = ap₂ report_in (sym ((c.0 e).1 w)) (only_epochs rest hs c.1)
   only_epochs (passing {es = es} never rest) (h ∷ hs) c = by h refl ∙ ap (report_in h) (only_epochs rest hs c.1)

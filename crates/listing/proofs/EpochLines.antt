@@ -23,6 +23,7 @@ use Rattle.listing.specs.Words.{Lines, none, ending, passing}
 module _ {s roster : List ℕ} where
   lines_in : (past : List Content) (fs : List Frame) (hs : List Happened) → CameTo roster past (map (content_in s) fs) hs → Lines s roster past fs (frames_text s fs hs)
   unfolding frames_text
+  lines_in past (f ∷ fs) [] c = elim c [ ]
   lines_in past [] hs c = none
   lines_in past (f ∷ fs) (H.Refused n ∷ hs) c = passing (λ e w. never_refused ((c.0 e).1 w)) (lines_in (past ++ content_in s f ∷ []) fs hs c.1)
   lines_in past (f ∷ fs) (H.Taken ∷ hs) c = passing (λ e w. never_taken ((c.0 e).1 w)) (lines_in (past ++ content_in s f ∷ []) fs hs c.1)
@@ -31,6 +32,8 @@ module _ {s roster : List ℕ} where
   only_lines : {past : List Content} {fs : List Frame} {text : List ℕ} → Lines s roster past fs text → (hs : List Happened) → CameTo roster past (map (content_in s) fs) hs
       → text ≡ frames_text s fs hs
   unfolding frames_text
+  only_lines (ending {past = past} {f = f} {fs = fs} {e = e} {text = text} w rest) [] c = elim c [ ]
+  only_lines (passing {past = past} {f = f} {fs = fs} {text = text} never rest) [] c = elim c [ ]
   only_lines none hs c = refl
   only_lines (ending {f = f} {e = e} w rest) (h ∷ hs) c = ap₂ (λ (h : Happened) (t : List ℕ). frame_line s f ++ (epoch_part h ++ t)) (sym ((c.0 e).1 w)) (only_lines rest hs c.1)
   only_lines (passing {f = f} {text = text} never rest) (h ∷ hs) c =

@@ -37,6 +37,8 @@ first_of (t ∷ ts) = t.0
 
 pub tests_agree : (es : List Entry) (ds : List (ℕ × Check)) → Agrees es ds → (kind : ℕ) (s : List ℕ) → tests_of (entry_for es kind) s ≡ tests_by (check_in ds kind) s
 unfolding entry_for check_in
+tests_agree [] (d ∷ ds) h kind s = elim h [ ]
+tests_agree (e ∷ es) [] h kind s = elim h [ ]
 tests_agree [] [] h kind s = refl
 tests_agree (e ∷ es) (d ∷ ds) h kind s =
     ap (λ (k : ℕ). tests_of (cond (eqb kind k) e (entry_for es kind)) s) h.0 ∙ by (eqb kind d.0) (tests_agree es ds h.2 kind s)

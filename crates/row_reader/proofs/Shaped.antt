@@ -47,6 +47,11 @@ one_byte = refl
 
 -- what is repeated to the end
 tails : (l : Layout) → Ends l → (s : List ℕ) → wide_row (front_of l) (decode (front_of l) s 0) ++ tail_in (repeated l) (drop (size (front_of l)) s) ≡ wide_body l (decode_body l s)
+tails (then fs (run _)) e s = elim e [ ]
+tails (then fs (then _ _)) e s = elim e [ ]
+tails (bytes _) e s = elim e [ ]
+tails (text _) e s = elim e [ ]
+tails (rows _ _) e s = elim e [ ]
 tails (run fs) e s = append-nil (wide_row fs (decode fs s 0))
 tails (then fs (bytes most)) e s =
     let t = drop (size fs) s in

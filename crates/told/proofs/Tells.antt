@@ -32,6 +32,7 @@ From k [] = Unit {0}
 From k (t ∷ ts) = (k ≤ t.1) × From k ts
 
 first_from : (k : ℕ) (ts : Tests) {n : ℕ} → From k ts → FirstFails ts n → k ≤ n
+first_from k [] {n = n} h e = elim e [ ]
 first_from k (t ∷ ts) h (inl f) = omega (arith, h.0, f.1)
 first_from k (t ∷ ts) h (inr f) = first_from k ts h.1 f.1
 

@@ -8,7 +8,7 @@ use Rattle.sbplist.proofs.put_output.Goals as goal
 pub returns-in-Bytes : goal.returns-in-Bytes
 returns-in-Bytes c =
     let both = let a = c.args in
-    puts_listing a.capture.now a.text.now (sym c.list.ensures.result_value ∙ ap written_answer c.in-Bytes.is) c.list.ensures.buf_after in record { value = both.0; text_after = both.1; upper_bound = both.2 }
+    puts_listing a.capture.now a.text.now (sym c.list.ensures.result_value ∙ ap written_answer c.in-Bytes.is) c.list.ensures.buf_after in record { value = both.0; text_after = both.1.0; upper_bound = both.1.1 }
 
 pub bounds-text-1 : goal.bounds-text-1
 bounds-text-1 c =
@@ -29,4 +29,4 @@ bounds-text-4 c =
 pub returns : goal.returns
 returns c =
     let both = let a = c.args in
-    puts_refusal a.capture.now a.text.now (λ i. (c.shared_slice_known-1.given i).fits) c.requires (sym c.list.ensures.result_value ∙ ap written_answer c.in_default.is) c.list.ensures.buf_after in record { value = both.0; text_after = both.1; upper_bound = both.2 }
+    puts_refusal a.capture.now a.text.now (λ i. (c.shared_slice_known-1.given i).fits) c.requires (sym c.list.ensures.result_value ∙ ap written_answer c.in_default.is) c.list.ensures.buf_after in record { value = both.0; text_after = both.1.0; upper_bound = both.1.1 }

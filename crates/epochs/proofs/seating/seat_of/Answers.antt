@@ -18,5 +18,5 @@ slice_bounds-search-end c =
 pub returns : goal.returns
 returns c =
     let a = c.args in
-    let size : length a.t1 ≡ 8 = search rules in
-    c.search.ensures ∙ ap (λ (xs : List ℕ). seat_of xs a.sender 0) (ap (λ (n : ℕ). take n a.t1) c.seats_listed-end.ensures ∙ take-eight a.count a.t1 size)
+    let size : length a.roster ≡ 8 = search rules in
+    c.search.ensures ∙ ap (λ (xs : List ℕ). seat_of xs a.sender 0) (ap (λ (n : ℕ). take n a.roster) c.seats_listed-end.ensures ∙ take-eight a.count a.roster size)

@@ -36,4 +36,4 @@ shape_of-buf-in-Needs c =
 
 pub returns-in-Needs : goal.returns-in-Needs
 returns-in-Needs c =
-    let both = absurd (never_needs c.args.s.now c.well_formed.0.0 c.loop-frame.invariant.honest (sym c.next-next.ensures ∙ c.in-Needs.is)) in record { value = both.0; buf_after = both.1 }
+    absurd (never_needs c.args.s.now c.well_formed.0.0 c.loop-frame.invariant.honest (sym c.next-next.ensures ∙ c.in-Needs.is))

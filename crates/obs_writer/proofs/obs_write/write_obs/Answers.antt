@@ -21,9 +21,9 @@ returns-then-k-gt-MOST c =
 
 pub put_entries-requires : goal.put_entries-requires
 put_entries-requires c =
-    let both = let a = c.args in
+    let a = c.args in
     let room = fits (start_of first a.obs.count) (length a.buf.now) (known c.plan-answer.ensures c.in-Bytes.is) in
-    omega (arith, room, c.put_head.auto) in record { k_bound = both.0; k_in_bounds = both.1 }
+    record { k_bound = omega arith; k_in_bounds = omega (arith, room, c.put_head.auto) }
 
 pub returns-in-Bytes : goal.returns-in-Bytes
 returns-in-Bytes c =

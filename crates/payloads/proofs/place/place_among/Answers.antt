@@ -1,6 +1,5 @@
 -- `payloads::place::place_among` meets its contract. The loop's invariant: the place is that of what is left, after those passed.
 use mathlib.Core.Path.{sym, ◌∙◌}
-use Prim.Native.Nat.{◌-◌}
 use native.Mathlib.Nat.{zero-add}
 use Rattle.payloads.specs.Places.{place_in}
 use Rattle.payloads.proofs.Placed.{place_none, place_here, place_on}

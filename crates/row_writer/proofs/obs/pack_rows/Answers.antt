@@ -7,7 +7,7 @@ use Rattle.row_writer.proofs.ObsPacked.{packed_none, packed_all, packed_more}
 use Rattle.row_writer.proofs.obs.pack_rows.Goals as goal
 
 pub loop-i-init : goal.loop-i-init
-loop-i-init c = packed_none c.args.rows.now c.args.bytes.now c.args.k c.requires.k_in_bounds_2.0
+loop-i-init c = packed_none c.args.rows.now c.args.bytes.now c.args.k c.requires.k_in_bounds_2
 
 pub overflow_mul-from : goal.overflow_mul-from
 overflow_mul-from c = omega (arith, c.requires.k_in_bounds)
@@ -32,7 +32,7 @@ slice_bounds-store_run-count-in-loop-i c = omega (arith, c.requires.k_in_bounds)
 
 pub loop-i-preserved : goal.loop-i-preserved
 loop-i-preserved c =
-    packed_more c.args.rows.now c.args.bytes.now c.args.k c.loop-i.invariant (λ i. (c.shared_slice_known-1.given i).fits) c.requires.k_in_bounds_2.1 c.loop-i-test.true
+    packed_more c.args.rows.now c.args.bytes.now c.args.k c.loop-i.invariant (λ i. (c.shared_slice_known-1.given i).fits) c.requires.rows_value c.loop-i-test.true
     c.store_run.ensures
 
 pub shape_of-bytes : goal.shape_of-bytes

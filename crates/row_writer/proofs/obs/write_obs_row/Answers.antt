@@ -20,7 +20,7 @@ few c = let a = c.args in few_rows a.kind a.head.now a.rows.now (fit c)
 pub returns-then-number-ne0 : goal.returns-then-number-ne0
 returns-then-number-ne0 c =
     let both = let a = c.args in
-    wrote_refused a.kind a.writer a.head.now a.rows.now a.out.now a.size.now c.refusal-number.ensures c.if-number-ne0.true in record { value = both.0; out_after = both.1; size_after = both.2 }
+    wrote_refused a.kind a.writer a.head.now a.rows.now a.out.now a.size.now c.refusal-number.ensures c.if-number-ne0.true in record { value = both.0; out_after = both.1.0; size_after = both.1.1 }
 
 pub pack_rows-requires : goal.pack_rows-requires
 pack_rows-requires c =
@@ -32,7 +32,7 @@ slice_bounds-bytes-end c = omega (arith, few (goal.at.slice_bounds-bytes-end c).
 
 pub slice_bounds-send_frame-end : goal.slice_bounds-send_frame-end
 slice_bounds-send_frame-end c =
-    sym (length-take-le _ c.pack_rows.new.0 (omega (arith, few (goal.at.slice_bounds-send_frame-end c).Else-number-ne0, c.pack_rows.auto, c.store_run.auto)))
+    sym (length-take-le _ c.pack_rows.new.bytes (omega (arith, few (goal.at.slice_bounds-send_frame-end c).Else-number-ne0, c.pack_rows.auto, c.store_run.auto)))
 
 pub returns : goal.returns
 returns c =
@@ -41,4 +41,4 @@ returns c =
     let words : Words a.head.now = λ i. (c.shared_slice_known-1.given i).fits in
     wrote_sent a.kind a.writer a.head.now a.rows.now a.out.now a.size.now f
     (payload_packed a.head.now a.rows.now words (fitting_rows a.kind a.head.now a.rows.now f).0 _ c.store_run.ensures c.pack_rows.ensures (omega (arith, few (goal.at.returns c).Else-number-ne0)))
-    (c.send_frame.ensures.value, c.send_frame.ensures.out_after, c.send_frame.ensures.size_after) in record { value = both.0; out_after = both.1; size_after = both.2 }
+    (c.send_frame.ensures.value, (c.send_frame.ensures.out_after, c.send_frame.ensures.size_after)) in record { value = both.0; out_after = both.1.0; size_after = both.1.1 }

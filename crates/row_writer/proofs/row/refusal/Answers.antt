@@ -13,7 +13,7 @@ use Rattle.row_writer.specs.WriteRow.{alone}
 use Rattle.row_writer.proofs.Alone.{only_fields, counted_as, fits_shaped}
 use Rattle.row_writer.proofs.RowsSent.{number_21, number_22, number_23, number_0}
 use Rattle.row_writer.proofs.row.refusal.Goals as goal
-use Rattle.row_writer.proofs.row.refusal.Goals.{After-count-then-is_alone, After-shape_of-shape}
+use Rattle.row_writer.proofs.row.refusal.Goals.{After-count-then-is_alone, After-fits, After-shape_of-shape}
 
 -- the type is written, and its shape is known
 known : (c : After-shape_of-shape) → (known_for c.args.kind && alone (layout_for c.args.kind)) ≡ true
@@ -22,13 +22,12 @@ known c = sym c.is_alone.ensures ∙ c.if-is_alone.true
 counted : (c : After-count-then-is_alone) → c.count.result + c.count-then-is_alone.result ≡ number_count (layout_for c.args.kind)
 counted c =
     let kind = c.args.kind in
-    counted_as kind c.shape_of-shape.ensures c.count.ensures c.count-then-is_alone.ensures (only_fields kind (known c))
+    counted_as kind c.shape_of-shape.ensures c.count.ensures c.count-then-is_alone.ensures (only_fields kind (sym c.is_alone.ensures ∙ c.if-is_alone.true))
 
-fitted : (c : tie.After-fits2) → c.fits2.result ≡ fits_row (front_of (layout_for c.before.before.before.before.before.before.before.before.args.kind)) c.before.before.before.before.before.before.before.before.args.row.now 0
+fitted : (c : After-fits) → c.fits.result ≡ fits_row (front_of (layout_for c.args.kind)) c.args.row.now 0
 fitted c =
-    let shape = c.before.before.before.before in
-    let a = shape.before.before.before.before.args in
-    c.fits2.ensures ∙ fits_shaped a.kind shape.shape_of.ensures a.row.now
+    let a = c.args in
+    c.fits.ensures ∙ fits_shaped a.kind c.shape_of-shape.ensures a.row.now
 
 pub overflow_add-count : goal.overflow_add-count
 overflow_add-count c =

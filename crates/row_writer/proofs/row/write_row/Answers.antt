@@ -29,7 +29,7 @@ short c = omega (arith, sized c, (plain_for c.args.kind).1)
 pub returns-then-number-ne0 : goal.returns-then-number-ne0
 returns-then-number-ne0 c =
     let both = let a = c.args in
-    wrote_refused a.kind a.writer a.row.now a.out.now a.size.now c.refusal-number.ensures c.if-number-ne0.true in record { value = both.0; out_after = both.1; size_after = both.2 }
+    wrote_refused a.kind a.writer a.row.now a.out.now a.size.now c.refusal-number.ensures c.if-number-ne0.true in record { value = both.0; out_after = both.1.0; size_after = both.1.1 }
 
 pub overflow_add-n : goal.overflow_add-n
 overflow_add-n c = omega (arith, short (goal.at.overflow_add-n c).After-size-2)
@@ -45,7 +45,7 @@ pub slice_bounds-bytes-end : goal.slice_bounds-bytes-end
 slice_bounds-bytes-end c = omega (arith, short (goal.at.slice_bounds-bytes-end c).After-size-2)
 
 pub slice_bounds-send-end : goal.slice_bounds-send-end
-slice_bounds-send-end c = sym (length-take-le _ c.pack.new.0 (omega (arith, short (goal.at.slice_bounds-send-end c).After-size-2, c.pack.auto)))
+slice_bounds-send-end c = sym (length-take-le _ c.pack.new.bytes (omega (arith, short (goal.at.slice_bounds-send-end c).After-size-2, c.pack.auto)))
 
 pub returns : goal.returns
 returns c =
@@ -54,4 +54,4 @@ returns c =
     let f = fit (goal.at.returns c).After-shape_of-shape in
     wrote_sent a.kind a.writer a.row.now a.out.now a.size.now words f
     (payload_packed a.kind a.row.now words f _ c.shape_of-shape.ensures (sized (goal.at.returns c).After-size-2) c.pack.ensures (omega arith))
-    (c.send.ensures.value, c.send.ensures.out_after, c.send.ensures.size_after) in record { value = both.0; out_after = both.1; size_after = both.2 }
+    (c.send.ensures.value, (c.send.ensures.out_after, c.send.ensures.size_after)) in record { value = both.0; out_after = both.1.0; size_after = both.1.1 }

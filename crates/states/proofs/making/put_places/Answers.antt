@@ -18,12 +18,12 @@ loop-i-preserved c =
     let a = c.args in
     let own : c.loop-i.i % 8 ≡ c.loop-i.i = mod-eq_of_lt (omega arith) in (
       omega arith,
-      rows_more slot_fields (place_row a.t2) a.s.now places_at c.loop-i.i c.loop-i.invariant.1
-          (c.put_place.ensures ∙ ap (λ (i : ℕ). place_stored c.loop-i.s i (get_or a.t2 c.loop-i.i idle)) own),
+      rows_more slot_fields (place_row a.places) a.s.now places_at c.loop-i.i c.loop-i.invariant.1
+          (c.put_place.ensures ∙ ap (λ (i : ℕ). place_stored c.loop-i.s i (get_or a.places c.loop-i.i idle)) own),
     )
 
 pub shape_of-s : goal.shape_of-s
-shape_of-s c = let a = c.args in ap length c.loop-i.invariant.1 ∙ length-stored slot_fields (place_row a.t2) a.s.now places_at c.loop-i.i
+shape_of-s c = let a = c.args in ap length c.loop-i.invariant.1 ∙ length-stored slot_fields (place_row a.places) a.s.now places_at c.loop-i.i
 
 pub returns : goal.returns
-returns c = let a = c.args in let end : c.loop-i.i ≡ 8 = omega arith in c.loop-i.invariant.1 ∙ ap (λ (n : ℕ). first_rows_stored slot_fields (place_row a.t2) n a.s.now places_at) end
+returns c = let a = c.args in let end : c.loop-i.i ≡ 8 = omega arith in c.loop-i.invariant.1 ∙ ap (λ (n : ℕ). first_rows_stored slot_fields (place_row a.places) n a.s.now places_at) end

@@ -21,8 +21,8 @@ for c = sym c.recognise-found.ensures ∙ ap recognised_answer c.in-For.is
 within : (c : In-For) → c.in-For.at < 8
 within c =
     let a = c.args in
-    let size : length a.t1.roster ≡ 8 = search rules in
-    omega (arith, simp length-take at (placed_below (roster_of a.t1) (record { kind = a.kind; sender = a.sender; payload = a.payload.now }) (for c)))
+    let size : length a.self.roster ≡ 8 = search rules in
+    omega (arith, simp length-take at (placed_below (roster_of a.self) (record { kind = a.kind; sender = a.sender; payload = a.payload.now }) (for c)))
 
 pub offset_bounds-self-at : goal.offset_bounds-self-at
 offset_bounds-self-at c = omega (arith, within (goal.at.offset_bounds-self-at c).In-For)
@@ -39,17 +39,17 @@ bounds-self-at-in-To c = within (goal.at.bounds-self-at-in-To c).In-For
 pub returns-in-Refused : goal.returns-in-Refused
 returns-in-Refused c =
     let a = c.args in
-    sym (fed_refused a.t1 (record { kind = a.kind; sender = a.sender; payload = a.payload.now }) (sym c.recognise-found.ensures ∙ ap recognised_answer c.in-Refused.is))
+    sym (fed_refused a.self (record { kind = a.kind; sender = a.sender; payload = a.payload.now }) (sym c.recognise-found.ensures ∙ ap recognised_answer c.in-Refused.is))
 
 pub returns-in-Refused-step : goal.returns-in-Refused-step
 returns-in-Refused-step c =
     let a = c.args in
-    ap (moved_by a.t1 a.sender c.in-For.at c.in-For.packet)
+    ap (moved_by a.self a.sender c.in-For.at c.in-For.packet)
     (ap step_answer (sym c.in-Refused-step.is) ∙ c.step-step.ensures)
-    ∙ sym (fed_for a.t1 (record { kind = a.kind; sender = a.sender; payload = a.payload.now }) (for (goal.at.returns-in-Refused-step c).In-For))
+    ∙ sym (fed_for a.self (record { kind = a.kind; sender = a.sender; payload = a.payload.now }) (for (goal.at.returns-in-Refused-step c).In-For))
 
 pub returns-in-To : goal.returns-in-To
 returns-in-To c =
     let a = c.args in
-    fed_taken a.t1 (record { kind = a.kind; sender = a.sender; payload = a.payload.now }) (for (goal.at.returns-in-To c).In-For)
+    fed_taken a.self (record { kind = a.kind; sender = a.sender; payload = a.payload.now }) (for (goal.at.returns-in-To c).In-For)
     (ap step_answer (sym c.in-To.is) ∙ c.step-step.ensures) c.outcome.ensures
