@@ -1,6 +1,6 @@
 -- A word divided by the polynomial: moved up by its own width, and brought to the register.
 use mathlib.Core.Path.{◌≡◌, sym, ap, ap₂, ◌∙◌}
-use Prim.Native.Nat.{ℕ, ◌*◌, ◌/◌, ◌%◌, ◌^◌, ◌≤◌, ◌<◌}
+use Prim.Native.Nat.{ℕ, ◌*◌, ◌/◌, ◌%◌, ◌^◌, ◌<◌}
 use native.Mathlib.Nat.{mod-eq_of_lt, mod-lt, zero-lt-suc}
 use lib.Bits.{bit_xor, xor_lt, xor_mod, xor_zero_r}
 use lib.Dec.{lit≤}

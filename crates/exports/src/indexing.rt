@@ -1,4 +1,4 @@
-// An index beside a capture, in the caller's bytes and list. `sbp_extend` and `sbp_first` are walked by hand, as their list is a slice of structs.
+// An index beside a capture, in the caller's bytes and list.
 ghost use Rattle.std.specs.Prelude.{◌≡◌, length};
 ghost use Rattle.refusals.specs.Refusals.{as_number, leaves, zero_or};
 ghost use Rattle.lent_index.specs.Bytes.{make_in, kept_in, extend_in_bytes, list_after, first_in_bytes, hit_number, place_or, count_in_bytes, count_or};

@@ -1,5 +1,5 @@
 -- The counts: a type has a place among them exactly when it has a reading; past the last nothing is counted.
-use Rattle.std.proofs.Common.{◌≡◌, ℕ, suc, ◌+◌, ◌%◌, ◌^◌, ◌<◌, ◌≤◌, Bool, true, false, cond, eqb, ltb, List, [], ◌∷◌, map, length, get_or, set, sym, refl, ap, ◌∙◌, ap₂, arith, ltb-false, ltb-true, le-ltb, lt-ltb}
+use Rattle.std.proofs.Common.{◌≡◌, ℕ, suc, ◌<◌, ◌≤◌, Bool, true, false, cond, eqb, ltb, List, [], ◌∷◌, map, length, get_or, set, sym, refl, ◌∙◌, arith, ltb-false, ltb-true, le-ltb, lt-ltb}
 use lib.Seq.{set_out}
 use Rattle.refusals.specs.Refusals.{given, refused}
 use Rattle.frames.specs.Cursors.{plus}

@@ -1,6 +1,5 @@
 -- Filling comes to what extending promises: turn by turn the frames that are left, and where reading stops.
-use Rattle.std.proofs.Common.{◌≡◌, ℕ, zero, suc, ◌+◌, ◌^◌, ◌<◌, ◌≤◌, Bool, true, false, cond, leb, List, [], ◌∷◌, ◌++◌, map, length, take, drop, set, sym, refl, ap, ◌∙◌, subst, ap₂, append_assoc, append-nil, add-zero, add-suc, mod-eq_of_lt, suc-add, add-one, arith, length-set, take-append-drop, take-suc-set, drop-set-lt, leb-true}
-use mathlib.Core.Path.{subst⁻¹}
+use Rattle.std.proofs.Common.{◌≡◌, ℕ, zero, suc, ◌+◌, ◌^◌, ◌<◌, ◌≤◌, Bool, true, false, cond, leb, List, [], ◌∷◌, ◌++◌, map, length, take, drop, set, sym, refl, ap, ◌∙◌, ap₂, append_assoc, append-nil, add-zero, add-suc, mod-eq_of_lt, suc-add, add-one, arith, length-set, take-append-drop, take-suc-set, drop-set-lt, leb-true}
 use Rattle.refusals.specs.Refusals.{Answer, given, refused, leaves, zero_or}
 use Rattle.frames.specs.Cursors.{plus, next_of}
 use Rattle.frames.specs.declared.step.Frame.{Frame}

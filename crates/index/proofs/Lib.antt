@@ -4,6 +4,4 @@ pub mod Plans
 pub mod TurnCases
 pub mod Filled
 pub mod Turns
-pub mod Fills
 pub mod Seeking
-pub mod Walking

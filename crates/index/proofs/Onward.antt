@@ -1,5 +1,5 @@
 -- Open reading from a position on, answer by answer: which frames are left and where the reading stops; and that a frame takes 8 bytes or more.
-use Rattle.std.proofs.Common.{◌≡◌, ℕ, zero, suc, ◌+◌, ◌*◌, ◌^◌, ◌<◌, ◌≤◌, Bool, true, false, List, [], ◌∷◌, length, sym, refl, ap, ◌∙◌, subst, ap₂, true≢false, add-zero, add_assoc, arith}
+use Rattle.std.proofs.Common.{◌≡◌, ℕ, ◌+◌, ◌*◌, ◌^◌, ◌<◌, ◌≤◌, true, false, List, [], ◌∷◌, length, sym, refl, ap, ◌∙◌, subst, true≢false, add-zero, add_assoc, arith}
 use mathlib.Core.Path.{subst⁻¹}
 use Rattle.frames.specs.Step.{step_at, passed, ends}
 use Rattle.frames.specs.Reading.{stops, steps, frames_in, frames_of, counted, counts_of, sum_of}
@@ -11,7 +11,7 @@ use Rattle.frames.specs.declared.cursor.Cursor.{Cursor}
 use Rattle.frames.specs.declared.cursor.Next as Next
 use Rattle.frames.proofs.Readings.{steps_stop, steps_go, goes_on, by_steps}
 use Rattle.frames.proofs.Tiling.{counted_sum, added_sum}
-use Rattle.frames.proofs.GoingOn.{here, Answered, pass, end, passed_on, over_ends, over_further, answered}
+use Rattle.frames.proofs.GoingOn.{here, Answered, pass, end, passed_on, over_ends, answered}
 use Rattle.frames.proofs.NextAnswers.{says}
 use Rattle.index.specs.Index.{frames_from, stop_from}
 use Rattle.index.specs.Inner.{cursor_at}

@@ -1,12 +1,11 @@
 -- Whether a list has room: frames counted one by one, or no more than one for each 8 bytes.
-use Rattle.std.proofs.Common.{◌≡◌, ℕ, suc, ◌+◌, ◌-◌, ◌/◌, ◌^◌, ◌<◌, ◌≤◌, Bool, true, false, leb, List, [], ◌∷◌, length, sym, refl, ap, ◌∙◌, arith, le-leb, leb-false, leb-true}
+use Rattle.std.proofs.Common.{◌≡◌, ℕ, suc, ◌+◌, ◌-◌, ◌/◌, ◌^◌, ◌<◌, ◌≤◌, Bool, true, false, leb, List, length, sym, refl, ap, arith, le-leb, leb-false, leb-true}
 use borrow.Author.Tests.{lt-leb}
-use Rattle.refusals.specs.Refusals.{given, refused}
 use Rattle.frames.specs.Cursors.{next_of}
 use Rattle.frames.specs.declared.step.Frame.{Frame}
 use Rattle.frames.specs.declared.cursor.Cursor.{Cursor}
 use Rattle.frames.specs.declared.cursor.Next as Next
-use Rattle.index.specs.Index.{frames_from, extended, extend_in}
+use Rattle.index.specs.Index.{frames_from, extend_in}
 use Rattle.index.specs.Inner.{cursor_at, plan_of}
 use Rattle.index.specs.declared.planning.Index.{Index}
 use Rattle.index.proofs.Onward.{few_frames, told_frame, told_end, told_needs}

@@ -1,15 +1,12 @@
 -- A turn of filling, case by case.
-use Rattle.std.proofs.Common.{◌≡◌, ℕ, ◌<◌, ◌≤◌, true, false, List, sym, refl, ap, ◌∙◌, le-ltb, lt-ltb, eq-eqb, ne_eqb}
+use Rattle.std.proofs.Common.{◌≡◌, ℕ, ◌<◌, ◌≤◌, true, List, ap, ◌∙◌, le-ltb, lt-ltb, eq-eqb, ne_eqb}
 use Rattle.frames.specs.Cursors.{next_of}
 use Rattle.frames.specs.declared.step.Frame.{Frame}
 use Rattle.frames.specs.declared.cursor.Cursor.{Cursor}
 use Rattle.frames.specs.declared.cursor.Next as Next
 use Rattle.index.specs.Index.{entry_of}
 use Rattle.index.specs.Inner.{cursor_at, advanced, still, stopped, turn_by, turn_of}
-use Rattle.index.specs.declared.entry.Entry.{Entry}
-use Rattle.index.specs.declared.planning.Index.{Index}
 use Rattle.index.specs.declared.planning.Indexed.{Indexed}
-use Rattle.index.specs.declared.turning.Turn.{Turn}
 
 module _ (s : List ℕ) (most : ℕ) (p : Indexed) where
   pub turn_refused : (p.answer ≡ 0 → ⊥) → turn_of s most p ≡ still p

@@ -1,5 +1,5 @@
 -- Filling a list turn by turn: a turn that has an entry has a place for it, and the turns that are left are enough to come to the list's end.
-use Rattle.std.proofs.Common.{◌≡◌, ℕ, zero, suc, ◌+◌, ◌^◌, ◌<◌, ◌≤◌, Bool, true, false, cond, eqb, ltb, List, length, set, sym, refl, ap, ◌∙◌, mod-eq_of_lt, arith, length-set, ltb-true}
+use Rattle.std.proofs.Common.{◌≡◌, ℕ, zero, suc, ◌+◌, ◌-◌, ◌^◌, ◌<◌, ◌≤◌, Bool, true, false, cond, eqb, ltb, List, length, set, sym, refl, ap, ◌∙◌, mod-eq_of_lt, arith, length-set, ltb-true}
 use mathlib.Core.Bool.{false≢true}
 use Rattle.frames.specs.Cursors.{next_of}
 use Rattle.frames.specs.declared.step.Frame.{Frame}
@@ -40,6 +40,14 @@ pub record Filling (s : List ℕ) (plan : Indexed) (list : List Entry) (k : ℕ)
   pub long : length now ≡ length list
   pub going : Going (length list) k t
 
+-- some turns do
+abbrev pub Fills : List ℕ → Indexed → List Entry → Turn → List Entry → Type 0
+Fills s plan list t now = (k : ℕ) × Filling s plan list k t now
+
+-- no more turns than this may come
+abbrev pub left : ℕ → Turn → ℕ
+left most t = cond t.more (most - t.at) 0
+
 module _ (s : List ℕ) (plan : Indexed) (list : List Entry) (fits : length list < 2 ^ 64) where
   abbrev n : ℕ
   n = length list
@@ -71,3 +79,32 @@ module _ (s : List ℕ) (plan : Indexed) (list : List Entry) (fits : length list
   at_last k t zs f m =
       let e : (zs, t.next) ≡ filled s plan list = sym (ends k s n t zs m) ∙ f.comes in
       (ap (λ (r : List Entry × Indexed). r.1) e, ap (λ (r : List Entry × Indexed). r.0) e)
+
+  -- ---- of some turns
+
+  pub some_first : Fills s plan list (turn_of s n plan) list
+  some_first = (n, at_first)
+
+  pub some_within : (t : Turn) (zs : List Entry) → Fills s plan list t zs → t.more ≡ true → t.at < length zs
+  some_within t zs f m = within f.0 t zs f.1 m
+
+  pub some_turn : (t : Turn) (zs : List Entry) → Fills s plan list t zs → t.more ≡ true → Fills s plan list (turn_of s n t.next) (set zs t.at t.entry)
+  some_turn t zs (zero, f) m = absurd (none_left t zs f m)
+  some_turn t zs (suc j, f) m = (j, turns j t zs f m)
+
+  pub some_last : (t : Turn) (zs : List Entry) → Fills s plan list t zs → t.more ≡ false → (t.next ≡ (filled s plan list).1) × (zs ≡ (filled s plan list).0)
+  some_last t zs f m = at_last f.0 t zs f.1 m
+
+  -- a turn leaves fewer
+  pub fewer : (t : Turn) (zs : List Entry) → Fills s plan list t zs → t.more ≡ true → left n (turn_of s n t.next) < left n t
+  fewer t zs f m = by (turn_of s n t.next).more refl
+    where
+      here : left n t ≡ n - t.at
+      here = ap (λ (b : Bool). cond b (n - t.at) 0) m
+
+      by : (b : Bool) → (turn_of s n t.next).more ≡ b → left n (turn_of s n t.next) < left n t
+      by true e =
+          let g = f.1.going m in
+          let h = begins s n (n - t.next.index.held) t.next fits (omega arith) e in
+          omega (arith, here, ap (λ (b : Bool). cond b (n - (turn_of s n t.next).at) 0) e, g.0, g.2, h.0, h.1)
+      by false e = let g = f.1.going m in omega (arith, here, ap (λ (b : Bool). cond b (n - (turn_of s n t.next).at) 0) e, g.0)

@@ -1,5 +1,5 @@
 -- What only contracts of the crate's own functions cite: filling turn by turn, and a look through the list.
-use Rattle.std.specs.Prelude.{ℕ, zero, suc, Bool, true, false, cond, List, length, ◌==◌, nat_lt, slice_set}
+use Rattle.std.specs.Prelude.{ℕ, zero, suc, true, false, cond, List, length, ◌==◌, nat_lt, slice_set}
 use Rattle.refusals.specs.Refusals.{zero_or}
 use Rattle.frames.specs.Cursors.{plus, next_of}
 use Rattle.index.specs.Index.{entry_of, counted, extend_in}

@@ -49,7 +49,7 @@ fn told(held: usize, most: usize, at: usize, entry: Entry) -> Sought
     Sought::Nowhere
 }
 
-// Forward to the first hit. 51 where the list is shorter than the frames held. It is walked by hand.
+// Forward to the first hit. 51 where the list is shorter than the frames held.
 pub fn first(index: Index, entries: &[Entry], kind: u16, sender: u16, offset: u64) -> Sought
     ensures { sought_answer result ≡ first_in index entries.now kind sender offset }
 {

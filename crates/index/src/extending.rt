@@ -1,4 +1,4 @@
-// The list is filled. Both are walked by hand.
+// The list is filled.
 ghost use Rattle.std.specs.Prelude.{◌≡◌, length};
 ghost use Rattle.index.specs.Index.{extended_by, entries_after};
 ghost use Rattle.index.specs.Inner.{filled};

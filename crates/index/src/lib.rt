@@ -1,7 +1,6 @@
 // An index beside a capture: an entry for each frame in a lent list, how far open reading came, and a count for each type that has a reading.
 // Read specs/Index.antt: what an index is, and what extending and asking give. What it tells while a capture grows is `indexed`'s.
-// The borrow checker covers no function over a slice of structs. Those are walked by hand, so they decide nothing: `fill`, `extend` and `first`
-// store and load entries; `planned`, `turned`, `hits` and `told` decide.
+// `fill`, `extend` and `first` store and load entries, and decide nothing: `planned`, `turned`, `hits` and `told` decide.
 #![tactic(auto)]
 
 mod asking;

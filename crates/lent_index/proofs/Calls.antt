@@ -1,17 +1,13 @@
 -- Calls on an index in lent bytes, case by case: 32 first, then what `index` answers.
-use mathlib.Core.Path.{◌≡◌, refl, sym, ap, ◌∙◌}
-use mathlib.Core.Bool.{true, false, cond}
+use mathlib.Core.Path.{◌≡◌, sym, ap, ◌∙◌}
 use mathlib.Core.List.{List, []}
 use Prim.Native.Nat.{ℕ, ◌≤◌, ◌<◌}
-use lib.Dec.{leb}
 use lib.ListN.{length}
-use borrow.Author.Tests.{eq-eqb, ne_eqb, le-leb, lt-leb}
+use borrow.Author.Tests.{le-leb, lt-leb}
 use Rattle.refusals.specs.Refusals.{Answer, refused, zero_or, Call, reply}
 use Rattle.index.specs.Index.{empty, counting, count_in}
 use Rattle.index.specs.declared.planning.Index.{Index}
-use Rattle.index.specs.declared.planning.Indexed.{Indexed}
 use Rattle.lent_index.specs.Bytes.{index_size, in_bytes, index_from_bytes, index_stored, make_in, kept_in, count_in_bytes, count_or}
-use Rattle.lent_index.specs.Inner.{settled_number, settled_in}
 
 module _ (bytes : List ℕ) where
   pub short : {A : Type 0} (c : Call A) → length bytes < index_size → reply (in_bytes bytes c) ≡ refused 32
@@ -34,21 +30,6 @@ module _ (bytes : List ℕ) where
   make_long h q r =
       let e = long (record { tests = []; value = empty }) h in
       (ap zero_or (sym e), r ∙ ap (λ (x : Index). index_stored x bytes) q ∙ ap (λ (a : Answer Index). kept_in a bytes) (sym e))
-
-  -- ---- extending
-
-  module _ (done : Indexed) where
-    abbrev Settles : ℕ → List ℕ → Type 0
-    Settles n after = (n ≡ settled_number (length bytes) done) × (after ≡ settled_in done bytes)
-
-    pub settle_short : length bytes < index_size → Settles 32 bytes
-    settle_short h = let e = lt-leb index_size (length bytes) h in (rw e, rw e)
-
-    pub settle_not : index_size ≤ length bytes → (done.answer ≡ 0 → ⊥) → Settles done.answer bytes
-    settle_not h some = let e = le-leb index_size (length bytes) h in (rw e, rw (e, ne_eqb done.answer 0 some))
-
-    pub settle_done : index_size ≤ length bytes → done.answer ≡ 0 → {after : List ℕ} → after ≡ index_stored done.index bytes → Settles 0 after
-    settle_done h zero p = let e = le-leb index_size (length bytes) h in (rw (e, zero), p ∙ rw (e, eq-eqb done.answer 0 zero))
 
   -- ---- counting
 

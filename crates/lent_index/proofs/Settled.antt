@@ -15,7 +15,7 @@ use Rattle.index.specs.declared.entry.Entry.{Entry}
 use Rattle.index.specs.declared.planning.Index.{Index}
 use Rattle.index.specs.declared.planning.Indexed.{Indexed}
 use Rattle.index.proofs.Filled.{written_none}
-use Rattle.lent_index.specs.Bytes.{index_size, index_from_bytes, kept_in, extend_in_bytes, list_after}
+use Rattle.lent_index.specs.Bytes.{index_size, index_from_bytes, kept_in, extend_in_bytes}
 use Rattle.lent_index.specs.Inner.{past_all, extendable, settled_number, settled_in}
 use Rattle.lent_index.proofs.Calls.{short, long}
 

@@ -1,7 +1,7 @@
 -- An index in 208 bytes: the position reached, how many entries are held, and the 24 counts. Any bytes stand for some index.
 -- A call that is lent them answers 32 where they are too few, and then as `index` does.
-use Rattle.std.specs.Prelude.{ℕ, ◌+◌, ◌*◌, cond, List, [], ◌∷◌, ◌++◌, eqb, length, get_or}
-use Rattle.refusals.specs.Refusals.{Answer, leaves, as_number, zero_or, room_for, Call, reply}
+use Rattle.std.specs.Prelude.{ℕ, ◌+◌, ◌*◌, List, [], ◌∷◌, ◌++◌, length, get_or}
+use Rattle.refusals.specs.Refusals.{Answer, leaves, room_for, Call, reply}
 use Rattle.wire.specs.Number.{number_at}
 use Rattle.wire.specs.Value.{u64}
 use Rattle.wire.specs.Tabulated.{tabulated}
@@ -11,7 +11,6 @@ use Rattle.payloads.specs.Places.{message_count}
 use Rattle.index.specs.Index.{empty, extended, written, entries_from, extending, Hit, at, nowhere, asking, counting}
 use Rattle.index.specs.declared.entry.Entry.{Entry}
 use Rattle.index.specs.declared.planning.Index.{Index}
-use Rattle.index.specs.declared.planning.Indexed.{Indexed}
 
 -- ---- where the parts stand
 

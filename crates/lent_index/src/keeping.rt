@@ -71,8 +71,7 @@ pub fn make(bytes: &mut [u8]) -> u8
     0
 }
 
-// What is to be extended. Bytes that are too few stand for an index past every capture, which nothing is found for: so `sbp_extend`, which is
-// walked by hand, has no branch.
+// What is to be extended. Bytes that are too few stand for an index past every capture, which nothing is found for: so `sbp_extend` has no branch.
 pub fn extendable(bytes: &[u8]) -> Index
     ensures { result ≡ extendable bytes.now }
 {

@@ -2,4 +2,3 @@ pub mod OneQuestion
 pub mod HandedOut
 pub mod WrittenWalks
 pub mod Readers
-pub mod Loans

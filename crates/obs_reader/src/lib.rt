@@ -1,7 +1,7 @@
 // The observations of a frame's payload, one after the other: a reader keeps the frame's type, the lent payload and where it stands in it.
 // Read specs/Reader.antt (where the reader stands after a question; what it answers is observation's `read_entry_of`), then specs/Walk.antt.
-// The borrow checker covers no function over a struct that holds a reference. Those are walked by hand, so they decide nothing, the edition
-// neither: `read_observation_of` and `at_after` decide, and `step_from`, with plain parameters, is for callers that would not walk.
+// The reader's functions decide nothing, the edition neither: `read_observation_of` and `at_after` decide. `step_from`, with plain parameters, is
+// for callers that keep no reader.
 #![tactic(auto)]
 
 ghost use Rattle.std.specs.Prelude.{◌≡◌};

@@ -1,36 +1,37 @@
-// On standard output: words as they are, numbers and bytes after a space, a type with nothing before it.
-pub fn word(text: &[u8]) {
-    io::write_all(1, text);
+// On standard output: words as they are, numbers and bytes after a space, a type with nothing before it. A write that fails is passed over.
+use std::io::Stdout;
+
+pub fn word(out: Stdout, text: &[u8]) {
+    let _ = out.write_all(text);
 }
 
-pub fn refused(n: u8) {
-    word(b" refused");
-    number(n as u64);
+pub fn refused(out: Stdout, n: u8) {
+    word(out, b" refused");
+    number(out, n as u64);
 }
 
-pub fn end() {
-    io::write_all(1, b"\n");
+pub fn end(out: Stdout) {
+    word(out, b"\n");
 }
 
-pub fn number(n: u64) {
-    io::write_all(1, b" ");
-    io::print_decimal(1, n);
+pub fn number(out: Stdout, n: u64) {
+    let _ = print!(out; " {n}");
 }
 
-pub fn hex(n: u64, width: usize) {
-    io::print_hex(1, n, width);
+pub fn hex(out: Stdout, n: u64, width: usize) {
+    let _ = print!(out; "{n:0width$x}");
 }
 
 // All bytes in hex, with nothing between them.
-pub fn bytes(s: &[u8]) {
-    io::write_all(1, b" ");
+pub fn bytes(out: Stdout, s: &[u8]) {
+    word(out, b" ");
     let mut i = 0;
     while i < s.len() {
-        byte(s[i]);
+        byte(out, s[i]);
         i += 1;
     }
 }
 
-fn byte(b: u8) {
-    io::print_hex(1, b as u64, 2);
+fn byte(out: Stdout, b: u8) {
+    let _ = print!(out; "{b:02x}");
 }

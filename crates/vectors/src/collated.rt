@@ -1,17 +1,18 @@
 // Whole captures collated: two with the same frames for each sender, in order, and shuffled between senders, with noise and an unlisted sender.
 use crate::print;
 use senders::Writer;
+use std::io::Stdout;
 
 // A frame without observations takes 15 bytes.
-pub fn run() {
+pub fn run(out: Stdout) {
     let mut ordered = [0u8; 90];
     put_all(&mut ordered, [0, 15, 30], [45, 60, 75]);
-    counted(b"ordered", &ordered);
+    counted(out, b"ordered", &ordered);
     // three bytes of noise before, five between
     let mut shuffled = [0u8; 113];
     put_all(&mut shuffled, [18, 48, 98], [3, 68, 83]);
     put(&mut shuffled, 33, 77, 10, 0x21);
-    counted(b"shuffled", &shuffled);
+    counted(out, b"shuffled", &shuffled);
 }
 
 // The base's and the rover's frames at their places: an epoch of two, and of the base one of one, of the rover half of one.
@@ -41,12 +42,12 @@ fn put(buf: &mut [u8], at: usize, sender: u16, tow: u32, n_obs: u8) {
 }
 
 // The roster's answer, and how many epochs each of its senders has.
-fn counted(name: &[u8], s: &[u8]) {
-    print::word(name);
+fn counted(out: Stdout, name: &[u8], s: &[u8]) {
+    print::word(out, name);
     let c = captures::collate(s, &[1228, 0]);
-    print::number(c.number as u64);
+    print::number(out, c.number as u64);
     let reports = c.reports;
-    print::number(reports[0] as u64);
-    print::number(reports[1] as u64);
-    print::end();
+    print::number(out, reports[0] as u64);
+    print::number(out, reports[1] as u64);
+    print::end(out);
 }

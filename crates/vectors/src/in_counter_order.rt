@@ -2,24 +2,25 @@
 use crate::print;
 use packets::{Key, Packet};
 use runs::{Ended, Run};
+use std::io::Stdout;
 
-pub fn run() {
-    three(0, 1, 2);
-    three(0, 2, 1);
+pub fn run(out: Stdout) {
+    three(out, 0, 1, 2);
+    three(out, 0, 2, 1);
 }
 
 // The counters of three packets as they come, and the epoch where one ends.
-fn three(first: u8, second: u8, third: u8) {
-    print::word(b"run");
-    let mut open = told(Run::Idle, first);
-    open = told(open, second);
-    told(open, third);
-    print::end();
+fn three(out: Stdout, first: u8, second: u8, third: u8) {
+    print::word(out, b"run");
+    let mut open = told(out, Run::Idle, first);
+    open = told(out, open, second);
+    told(out, open, third);
+    print::end(out);
 }
 
 // Packet i has 8 + i observations.
-fn told(open: Run, counter: u8) -> Run {
-    print::number(counter as u64);
+fn told(out: Stdout, open: Run, counter: u8) -> Run {
+    print::number(out, counter as u64);
     let packet = Packet {
         key: Key {
             tow: 5,
@@ -32,8 +33,8 @@ fn told(open: Run, counter: u8) -> Run {
     let step = runs::step(open, packet);
     let ended = step.ended;
     if let Ended::Whole(total) = ended {
-        print::word(b" epoch");
-        print::number(total as u64);
+        print::word(out, b" epoch");
+        print::number(out, total as u64);
     }
     step.run
 }

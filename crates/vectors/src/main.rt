@@ -16,14 +16,15 @@ mod readings;
 mod texts;
 mod walks;
 
-fn main() {
-    published::run();
-    readings::run();
-    apart::run();
-    numbers::run();
-    doubles::run();
-    texts::run();
-    walks::run();
-    collated::run();
-    in_counter_order::run();
+fn main(rt: HostRuntime) {
+    let out = rt.stdout();
+    published::run(out);
+    readings::run(out);
+    apart::run(out);
+    numbers::run(out);
+    doubles::run(out);
+    texts::run(out);
+    walks::run(out);
+    collated::run(out);
+    in_counter_order::run(out);
 }

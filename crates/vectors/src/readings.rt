@@ -1,10 +1,12 @@
 // A capture read frame by frame, open and closed, with counts that a cursor carries from frame to frame: what is linked begins them anew at each.
 use crate::print;
 use frames::{Counts, Cursor, Frame, Next};
+use std::io::Stdout;
 
 // Noise, a frame, noise, and a byte that begins a frame.
-pub fn run() {
+pub fn run(out: Stdout) {
     show(
+        out,
         b"noise-around",
         &[
             0x01, 0x55, 0x00, 0x00, 0x00, 0x00, 0x00, 0x00, 0x00, 0x02, 0x03, 0x55,
@@ -13,59 +15,59 @@ pub fn run() {
 }
 
 // Each frame with its payload, then the counts; open, then closed.
-pub fn show(name: &[u8], s: &[u8]) {
-    print::word(b"open ");
-    print::word(name);
-    walk(Cursor::opened(), s);
-    print::word(b"closed ");
-    print::word(name);
-    walk(Cursor::closed(), s);
-    print::word(b"totals ");
-    print::word(name);
-    counts(frames::totals(s));
-    print::end();
+pub fn show(out: Stdout, name: &[u8], s: &[u8]) {
+    print::word(out, b"open ");
+    print::word(out, name);
+    walk(out, Cursor::opened(), s);
+    print::word(out, b"closed ");
+    print::word(out, name);
+    walk(out, Cursor::closed(), s);
+    print::word(out, b"totals ");
+    print::word(out, name);
+    counts(out, frames::totals(s));
+    print::end(out);
 }
 
 // A reading of one frame at most, and how it ends.
-fn walk(start: Cursor, s: &[u8]) {
+fn walk(out: Stdout, start: Cursor, s: &[u8]) {
     let next = start.next(s);
     if let Next::Frame(f, after) = next {
-        frame(f, s);
-        stop(after.next(s));
+        frame(out, f, s);
+        stop(out, after.next(s));
     } else {
-        stop(next);
+        stop(out, next);
     }
 }
 
-fn stop(next: Next) {
+fn stop(out: Stdout, next: Next) {
     match next {
-        Next::Frame(_, _) => print::word(b" more"),
+        Next::Frame(_, _) => print::word(out, b" more"),
         Next::End(after) => {
-            print::word(b" end");
-            counts(after.counts());
+            print::word(out, b" end");
+            counts(out, after.counts());
         }
         Next::Needs(n, after) => {
-            print::word(b" needs");
-            print::number(n as u64);
-            counts(after.counts());
+            print::word(out, b" needs");
+            print::number(out, n as u64);
+            counts(out, after.counts());
         }
     }
-    print::end();
+    print::end(out);
 }
 
-fn frame(f: Frame, s: &[u8]) {
-    print::word(b" frame");
-    print::number(f.at as u64);
-    print::number(f.kind as u64);
-    print::number(f.sender as u64);
-    print::number(f.length as u64);
-    print::bytes(frames::payload(s, f));
+fn frame(out: Stdout, f: Frame, s: &[u8]) {
+    print::word(out, b" frame");
+    print::number(out, f.at as u64);
+    print::number(out, f.kind as u64);
+    print::number(out, f.sender as u64);
+    print::number(out, f.length as u64);
+    print::bytes(out, frames::payload(s, f));
 }
 
 // Frame bytes, junk, bad, short.
-fn counts(c: Counts) {
-    print::number(c.framed as u64);
-    print::number(c.junk as u64);
-    print::number(c.bad as u64);
-    print::number(c.short as u64);
+fn counts(out: Stdout, c: Counts) {
+    print::number(out, c.framed as u64);
+    print::number(out, c.junk as u64);
+    print::number(out, c.bad as u64);
+    print::number(out, c.short as u64);
 }

@@ -2,53 +2,54 @@
 use crate::payload::{front, mixed};
 use crate::print;
 use observation::{Observation, ObservationRead};
+use std::io::Stdout;
 
-pub fn run() {
+pub fn run(out: Stdout) {
     let s = mixed(3, 37);
     let t = mixed(9, 41);
-    walk(0x0049, front(&s, 39));
-    walk(0x0049, front(&s, 8));
-    walk(0x0049, front(&s, 7));
-    walk(0x0049, front(&t, 55));
+    walk(out, 0x0049, front(&s, 39));
+    walk(out, 0x0049, front(&s, 8));
+    walk(out, 0x0049, front(&s, 7));
+    walk(out, 0x0049, front(&t, 55));
     // of another type: 21, and it stays
-    walk(0x004a, front(&s, 39));
+    walk(out, 0x004a, front(&s, 39));
 }
 
-fn walk(kind: u16, payload: &[u8]) {
-    print::word(b"walk");
-    print::number(payload.len() as u64);
-    let mut at = ask(kind, payload, 0);
-    at = ask(kind, payload, at);
-    at = ask(kind, payload, at);
-    at = ask(kind, payload, at);
-    ask(kind, payload, at);
-    print::end();
+fn walk(out: Stdout, kind: u16, payload: &[u8]) {
+    print::word(out, b"walk");
+    print::number(out, payload.len() as u64);
+    let mut at = ask(out, kind, payload, 0);
+    at = ask(out, kind, payload, at);
+    at = ask(out, kind, payload, at);
+    at = ask(out, kind, payload, at);
+    ask(out, kind, payload, at);
+    print::end(out);
 }
 
-fn ask(kind: u16, payload: &[u8], at: usize) -> usize {
+fn ask(out: Stdout, kind: u16, payload: &[u8], at: usize) -> usize {
     let step = obs_reader::step_from(kind, payload, at);
     let answer = step.answer;
-    say(answer);
-    print::word(b" at");
-    print::number(step.at as u64);
+    say(out, answer);
+    print::word(out, b" at");
+    print::number(out, step.at as u64);
     step.at
 }
 
 // An observation's fields, or the refusal.
-fn say(answer: ObservationRead) {
+fn say(out: Stdout, answer: ObservationRead) {
     match answer {
-        ObservationRead::Record(o) => fields(o),
-        ObservationRead::Refused(n) => print::refused(n),
+        ObservationRead::Record(o) => fields(out, o),
+        ObservationRead::Refused(n) => print::refused(out, n),
     }
 }
 
-fn fields(o: Observation) {
-    print::number(o.p as u64);
-    print::signed_32(o.l_i);
-    print::number(o.l_f as u64);
-    print::number(o.cn0 as u64);
-    print::number(o.lock as u64);
-    print::number(o.sat as u64);
-    print::number(o.code as u64);
-    print::number(o.reserved as u64);
+fn fields(out: Stdout, o: Observation) {
+    print::number(out, o.p as u64);
+    print::signed_32(out, o.l_i);
+    print::number(out, o.l_f as u64);
+    print::number(out, o.cn0 as u64);
+    print::number(out, o.lock as u64);
+    print::number(out, o.sat as u64);
+    print::number(out, o.code as u64);
+    print::number(out, o.reserved as u64);
 }

@@ -1,5 +1,5 @@
 -- `text::line_length` meets its contract.
-use Rattle.std.proofs.Common.{◌-◌, arith}
+use Rattle.std.proofs.Common.{arith}
 use Rattle.text.proofs.LinesPut.{summing_begun, summing_more, summing_end}
 use Rattle.text.proofs.line_length.Goals as goal
 

@@ -1,5 +1,4 @@
 -- `text::put_fields` meets its contract.
-use Rattle.std.proofs.Common.{◌-◌}
 use Rattle.text.proofs.LinesPut.{Left}
 use Rattle.text.proofs.put_fields.Given as goal
 

@@ -1,5 +1,4 @@
 -- `crc::bytes::few` meets its contract: what the loop has, with what is left behind it, is the whole number.
-use Prim.Native.Nat.{◌-◌}
 use native.Mathlib.Omega.{arith}
 use Rattle.crc.proofs.Words.{taken_none, taken_more, taken_all}
 use Rattle.crc.proofs.bytes.few.Goals as goal

@@ -1,6 +1,6 @@
 -- `crc::folding::turned_all` meets its contract: each turn of the loop takes the next word.
 use mathlib.Core.Path.{ap, ◌∙◌}
-use Prim.Native.Nat.{ℕ, ◌-◌}
+use Prim.Native.Nat.{ℕ}
 use native.Mathlib.Omega.{arith}
 use Rattle.crc.specs.Inner.{rest, then, joined}
 use Rattle.crc.proofs.Loops.{going_none, room, going_more, going_all}

@@ -8,4 +8,4 @@ use Rattle.exports.proofs.phasing.sbp_phase_parts.Goals as goal
 
 pub returns : goal.returns
 returns c =
-    let e = came_back w64 c.ranges.phase.sfits refl in record { value = c.hand_parts.ensures.value ∙ ap parts_number e; l_i_after = c.hand_parts.ensures.l_i_after.0 ∙ ap (λ (z : ℤ). cycles_after z c.args.l_i.now) e; l_f_after = c.hand_parts.ensures.l_i_after.1 ∙ ap (λ (z : ℤ). parts_after z c.args.l_f.now) e }
+    let e = came_back w64 c.ranges.phase.sfits refl in record { value = c.hand_parts.ensures.value ∙ ap parts_number e; l_i_after = c.hand_parts.ensures.l_i_after ∙ ap (λ (z : ℤ). cycles_after z c.args.l_i.now) e; l_f_after = c.hand_parts.ensures.l_f_after ∙ ap (λ (z : ℤ). parts_after z c.args.l_f.now) e }

@@ -7,4 +7,4 @@ use Rattle.exports.proofs.writing.sbp_write.Goals as goal
 pub returns : goal.returns
 returns c =
     let a = c.args in
-    record { value = c.write_row.ensures.value; out_after = c.write_row.ensures.out_after.0 ∙ ap (λ (w : Writer). row_written a.kind w a.row.now a.out.now) c.writer_from.ensures; size_after = c.write_row.ensures.out_after.1 }
+    record { value = c.write_row.ensures.value; out_after = c.write_row.ensures.out_after ∙ ap (λ (w : Writer). row_written a.kind w a.row.now a.out.now) c.writer_from.ensures; size_after = c.write_row.ensures.size_after }

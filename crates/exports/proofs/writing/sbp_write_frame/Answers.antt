@@ -7,4 +7,4 @@ use Rattle.exports.proofs.writing.sbp_write_frame.Goals as goal
 pub returns : goal.returns
 returns c =
     let a = c.args in
-    record { value = c.send_frame.ensures.value; out_after = c.send_frame.ensures.out_after.0 ∙ ap (λ (w : Writer). with_frame a.kind w a.payload.now a.out.now) c.writer_from.ensures; size_after = c.send_frame.ensures.out_after.1 }
+    record { value = c.send_frame.ensures.value; out_after = c.send_frame.ensures.out_after ∙ ap (λ (w : Writer). with_frame a.kind w a.payload.now a.out.now) c.writer_from.ensures; size_after = c.send_frame.ensures.size_after }

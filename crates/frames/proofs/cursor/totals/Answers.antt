@@ -1,6 +1,6 @@
 -- `frames::cursor::totals` meets its contract. The loop's invariant: the cursor is honest, so where the reading stops its counts are the
 -- whole reading's.
-use Rattle.std.proofs.Common.{◌-◌, false, sym, ap, ◌∙◌, arith}
+use Rattle.std.proofs.Common.{false, sym, ap, ◌∙◌, arith}
 use mathlib.Core.Path.{subst⁻¹}
 use Rattle.wire.proofs.Lent.{lent_all}
 use Rattle.frames.specs.Reading.{stops}

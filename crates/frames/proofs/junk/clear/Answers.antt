@@ -1,5 +1,5 @@
 -- `frames::junk::clear` meets its contract. The loop's invariant: a hit says that the run is shorter than the bytes looked at.
-use Rattle.std.proofs.Common.{◌≡◌, ℕ, ◌-◌, ◌<◌, Bool, true, cond, not, eqb, leb, length, drop, sym, ap, ◌∙◌, ap₂, arith, length-drop, get_or-drop}
+use Rattle.std.proofs.Common.{◌≡◌, ℕ, ◌<◌, Bool, true, cond, not, eqb, leb, length, drop, sym, ap, ◌∙◌, ap₂, arith, length-drop, get_or-drop}
 use mathlib.Core.Bool.{not-not}
 use Rattle.frames.specs.Inner.{junk_run}
 use Rattle.frames.proofs.JunkRuns.{Hit, hit_none, hit_more}

@@ -1,5 +1,5 @@
 -- `frames::junk::junk_run` meets its contract. The loop's invariant: the run reaches to where it stands.
-use Rattle.std.proofs.Common.{◌-◌, sym, arith}
+use Rattle.std.proofs.Common.{sym, arith}
 use Rattle.frames.proofs.JunkRuns.{run_more, run_stop, run_end}
 use Rattle.frames.proofs.junk.junk_run.Goals as goal
 

@@ -1,5 +1,5 @@
 -- `frames::junk::past_blocks` meets its contract. The loop's invariant: the run reaches to where it stands.
-use Rattle.std.proofs.Common.{◌-◌, drop, sym, ◌∙◌, arith, leb-true}
+use Rattle.std.proofs.Common.{drop, sym, ◌∙◌, arith, leb-true}
 use Rattle.frames.specs.Inner.{junk_run}
 use Rattle.frames.proofs.JunkRuns.{run_length, run_on}
 use Rattle.frames.proofs.junk.past_blocks.Goals as goal

@@ -15,14 +15,14 @@ pub loop-c-preserved : goal.loop-c-preserved
 loop-c-preserved c =
     let a = c.args in
     let next = one_taken a.s.now c.well_formed.1.0.0 c.loop-c.at c.loop-c.invariant.0 (sym c.after.ensures ∙ c.in-Frame.is) in
-    (next.0, c.loop-c.invariant.1 ∙ next.1 c.loop-c.false c.if-left-eq0.false)
+    (next.0, c.loop-c.invariant.1 ∙ next.1 c.loop-c.left c.if-left-eq0.false)
 
 pub returns-in-End : goal.returns-in-End
 returns-in-End c =
     let a = c.args in
-    sym (c.loop-c.invariant.1 ∙ none_left a.s.now c.well_formed.1.0.0 c.loop-c.at c.loop-c.invariant.0 c.loop-c.false (sym c.after.ensures ∙ c.in-End.is))
+    sym (c.loop-c.invariant.1 ∙ none_left a.s.now c.well_formed.1.0.0 c.loop-c.at c.loop-c.invariant.0 c.loop-c.left (sym c.after.ensures ∙ c.in-End.is))
 
 pub returns-in-Needs : goal.returns-in-Needs
 returns-in-Needs c =
     let a = c.args in
-    sym (c.loop-c.invariant.1 ∙ none_left_short a.s.now c.well_formed.1.0.0 c.loop-c.at c.loop-c.invariant.0 c.loop-c.false (sym c.after.ensures ∙ c.in-Needs.is))
+    sym (c.loop-c.invariant.1 ∙ none_left_short a.s.now c.well_formed.1.0.0 c.loop-c.at c.loop-c.invariant.0 c.loop-c.left (sym c.after.ensures ∙ c.in-Needs.is))

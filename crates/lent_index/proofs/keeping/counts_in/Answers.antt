@@ -1,6 +1,5 @@
 -- `lent_index::keeping::counts_in` meets its contract. The loop's invariant: the first i counts are there.
 use mathlib.Core.Path.{refl}
-use Prim.Native.Nat.{◌-◌}
 use native.Mathlib.Omega.{arith}
 use Rattle.lent_index.specs.Bytes.{count_at}
 use Rattle.lent_index.proofs.Numbers.{one_filled, all_filled}

@@ -1,6 +1,6 @@
 -- `lent_index::keeping::put_counts` meets its contract. The loop's invariant: the first i counts are stored.
 use mathlib.Core.Path.{◌≡◌, ap, ◌∙◌}
-use Prim.Native.Nat.{ℕ, ◌-◌}
+use Prim.Native.Nat.{ℕ}
 use native.Mathlib.Omega.{arith}
 use lib.ListN.{length}
 use Rattle.payloads.specs.Places.{message_count}

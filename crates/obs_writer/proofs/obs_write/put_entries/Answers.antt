@@ -1,6 +1,5 @@
 -- `obs_writer::obs_write::put_entries` meets its contract. The loop's invariant: the observations left, stored from here on, make what all make
 -- of the start.
-use Prim.Native.Nat.{◌-◌}
 use native.Mathlib.Omega.{arith}
 use Rattle.obs_writer.proofs.EntriesStored.{stored_none, stored_length, stored_all, has_room, stored_more}
 use Rattle.obs_writer.proofs.obs_write.put_entries.Goals as goal

@@ -1,5 +1,4 @@
 -- `padded::padded::all_zero` meets its contract: each of the bytes passed is zero.
-use Prim.Native.Nat.{◌-◌}
 use Rattle.padded.proofs.Texts.{none_zeroed, another, zeroed, zeroed_all}
 use Rattle.padded.proofs.padded.all_zero.Goals as goal
 

@@ -1,5 +1,4 @@
 -- `padded::padded::first_zero` meets its contract: none of the bytes passed is zero.
-use Prim.Native.Nat.{◌-◌}
 use Rattle.padded.proofs.Texts.{none_passed, stops_at, passes, passed_all}
 use Rattle.padded.proofs.padded.first_zero.Goals as goal
 

@@ -1,7 +1,7 @@
 -- `padded::padded::no_zero` meets its contract: none of the bytes looked at is zero, or one is.
 use mathlib.Core.Path.{subst⁻¹}
 use mathlib.Core.Bool.{Bool}
-use Prim.Native.Nat.{◌+◌, ◌-◌}
+use Prim.Native.Nat.{◌+◌}
 use Rattle.padded.proofs.Texts.{Clean, none_looked_at, looked_at, looked_at_all}
 use Rattle.padded.proofs.padded.no_zero.Goals as goal
 

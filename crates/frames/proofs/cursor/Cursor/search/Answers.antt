@@ -1,5 +1,5 @@
 -- `frames::cursor::Cursor::search` meets its contract. The loop's invariant: the answer is still that of the cursor handed in.
-use Rattle.std.proofs.Common.{◌-◌, sym, refl, ap, ◌∙◌, arith}
+use Rattle.std.proofs.Common.{sym, refl, ap, ◌∙◌, arith}
 use Rattle.wire.proofs.Lent.{lent_all}
 use Rattle.frames.specs.Inner.{step_in, junk_run}
 use Rattle.frames.specs.Cursors.{reached_in}
