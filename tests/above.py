@@ -3,11 +3,12 @@
 
 An edit is a file tests/must-fail/NAME.edit as in crates/*/must-fail, with a line 'crate: NAME', the crate whose code, contract, definitions and
 proofs it changes, and a line 'refused: NAME', the crate above it. Several crates stand in one line, 'crate: NAME NAME', and then the paths of files
-begin at the root, 'file: crates/NAME/src/..'. With the edit the crates named first, and all between them and the second, are proved; the second is
-not, and its first complaint is about a file of its own: an error, or, of a function without a proof file, a note that something is not proved.
-What does not rest on an edited crate is taken from target/ as it was proved.
-The last line is 'N passed, M failed'.
-usage: above.py [NAME..] (after rt ci or rt check)
+begin at the root, 'file: crates/NAME/src/..'. Without the edit all are proved. With it the crates named first, and all between them and the second,
+are proved and built (rt lib); the second is not (rt check), and its first complaint is about a file of its own: an error that is not of a name that
+is gone, or, of a function without a proof file, a note that something is not proved.
+All happens in copies of the crates: one without an edit, which rt fills with what it has kept of the same files on this machine, and one for each
+edit, in which it begins with what the first one has. The last line is 'N passed, M failed'.
+usage: above.py [NAME..]
 """
 import concurrent.futures
 import os
@@ -16,39 +17,44 @@ import shutil
 import subprocess
 import sys
 import tempfile
+import threading
 import time
 
 from edits import Wrong, edited, read
 
 ROOT = os.path.dirname(os.path.dirname(os.path.abspath(__file__)))
 EDITS = os.path.join(ROOT, "tests", "must-fail")
-TARGET = os.path.join(ROOT, "target")
-COMPLAINT = re.compile(r"^(?:\S*?/crates/(?=\S+?: error)|note: \S*?/crates/(?=\S+?/src/\S+?: it is not proved))(\S+?): ", re.M)
+# an error, or a note, of a line of a crate's file: its path, and the rest
+COMPLAINT = re.compile(r"^(?:note: (?=\S+:\d+:\d+: )|(?=\S+:\d+:\d+: error))(?:\./)?(\S+?):\d+:\d+: (.*)", re.M)
+GONE = re.compile(r"is not in scope|has no field|has no `|was not admitted|is no name")
+# one at a time proves what the edits begin with
+PROVING = threading.Lock()
 
 
 def rests_on():
-    """Of each crate: those that it rests on, all the way down."""
+    """Of each crate, lowest first: those that it rests on, all the way down."""
     direct = {}
     with open(os.path.join(ROOT, "crates.txt"), encoding="utf-8") as lines:
         for line in lines:
             name, colon, below = line.partition("#")[0].partition(":")
             if colon:
-                direct[name.strip()] = below.split()
+                direct[name.split()[0]] = below.split()
     reach = lambda name: set().union(*({below} | reach(below) for below in direct.get(name, ())))
-    return {name: reach(name) for name in direct}
+    return dict(sorted(((name, reach(name)) for name in direct), key=lambda row: len(row[1] & set(direct))))
 
 
-def copied(folder, crates, below):
-    """The crates as they are now, and what was proved of those that do not rest on one of these."""
-    shutil.copytree(os.path.join(ROOT, "crates"), os.path.join(folder, "crates"))
+def rt(root, crate, word):
+    """Runs rt in the folder of a crate: its exit status, and what it says."""
+    ran = subprocess.run(["rt", word], cwd=os.path.join(root, "crates", crate), stdin=subprocess.DEVNULL, stdout=subprocess.PIPE,
+                         stderr=subprocess.STDOUT, check=False)
+    return ran.returncode, ran.stdout.decode(errors="replace")
+
+
+def copied(folder):
+    """The crates as they are now, without what rt keeps beside them."""
+    crates = os.path.join(ROOT, "crates")
+    shutil.copytree(crates, os.path.join(folder, "crates"), ignore=lambda at, _: ["out"] if os.path.dirname(at) == crates else [])
     shutil.copy2(os.path.join(ROOT, "crates.txt"), folder)
-    for part in "rlib", "stamp":
-        os.makedirs(os.path.join(folder, "target", part))
-    for name in below:
-        stamp = os.path.join(TARGET, "stamp", name)
-        if not ({name} | below[name]) & set(crates) and os.path.exists(stamp):
-            shutil.copy2(stamp, os.path.join(folder, "target", "stamp"))
-            os.symlink(os.path.join(TARGET, "rlib", name + ".rlib"), os.path.join(folder, "target", "rlib", name + ".rlib"))
 
 
 def stepped(crates, steps):
@@ -61,31 +67,43 @@ def stepped(crates, steps):
     return steps
 
 
-def refused(name):
-    """Tries an edit, and says where it is refused; raises Wrong where it is not."""
+def refused(name, base, proved):
+    """Tries an edit, and says where it is refused; raises Wrong where it is not. In the folder base nothing is edited, and the crates in proved are."""
     (named, above), steps = read(os.path.join(EDITS, name + ".edit"), "crate", "refused")
     crates, below, began = named.split(), rests_on(), time.monotonic()
     if not crates or not set(crates) <= below.get(above, set()):
         raise Wrong("%s does not rest on %s" % (above, named))
+    with PROVING:
+        for crate in [crate for crate in below if crate in below[above] or crate == above]:
+            status, said = (0, "") if crate in proved else rt(base, crate, "lib")
+            if status:
+                raise Wrong("%s is not proved without the edit:\n%s" % (crate, said[-2000:]))
+            proved.add(crate)
     with tempfile.TemporaryDirectory() as folder:
-        copied(folder, crates, below)
+        copied(folder)
         edited(folder, stepped(crates, steps))
-        tried = subprocess.run(["rt", "check", above], cwd=folder, stdin=subprocess.DEVNULL, stdout=subprocess.PIPE, stderr=subprocess.STDOUT)
-    said = tried.stdout.decode(errors="replace")
-    unproved = re.findall(r"^rt: (\w+) NOT PROVED", said, re.M)
-    if tried.returncode != 1 or unproved != [above] or "\nlogic=not-proved" not in said:
-        raise Wrong("not proved: %s, where %s alone should not be:\n%s" % (" ".join(unproved) or "none", above, said[-2000:]))
+        for crate in [crate for crate in below if crate in below[above] and ({crate} | below[crate]) & set(crates)]:
+            status, said = rt(folder, crate, "lib")
+            if status:
+                raise Wrong("%s is not proved with it:\n%s" % (crate, said[-2000:]))
+        status, said = rt(folder, above, "check")
+    if status != 1 or not re.search(r"^logic=not-proved", said, re.M):
+        raise Wrong("%s is not refused:\n%s" % (above, said[-2000:]))
     first = COMPLAINT.search(said)
-    if not first or not first[1].startswith(above + "/"):
-        raise Wrong("the first complaint is not about %s: %s" % (above, first and first[1]))
-    return "%s proved, refused by %s (first at %s; %d s)" % (" ".join(crates), above, first[1], time.monotonic() - began)
+    if not first or not first[1].startswith(("src/", "specs/", "proofs/")):
+        raise Wrong("the first complaint is not about %s: %s" % (above, first and first[0]))
+    if GONE.search(first[2]):
+        raise Wrong("%s is refused for a name that is gone: %s" % (above, first[0]))
+    return "%s proved, refused by %s (%d s): %s" % (" ".join(crates), above, time.monotonic() - began, first[0][:160])
 
 
 def main():
     names = sys.argv[1:] or sorted(name[:-5] for name in os.listdir(EDITS) if name.endswith(".edit"))
     passed, failed = 0, 0
-    with concurrent.futures.ThreadPoolExecutor(2) as pool:
-        for name, tried in [(name, pool.submit(refused, name)) for name in names]:
+    with tempfile.TemporaryDirectory() as base, concurrent.futures.ThreadPoolExecutor(2) as pool:
+        copied(base)
+        proved = set()
+        for name, tried in [(name, pool.submit(refused, name, base, proved)) for name in names]:
             try:
                 print("%s: %s" % (name, tried.result()))
                 passed += 1

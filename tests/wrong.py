@@ -6,7 +6,7 @@ An edit is a file tests/wrong/NAME.edit as in crates/*/must-fail (lines 'file: P
 TEXT'), with a line 'test: COMMAND'. Without the edit the command passes. With it the command fails, and at a comparison: it prints a line that
 begins with 'differs: ', which nothing prints that is not compiled. All happens in two copies of the repository, side by side. The last line is
 'N passed, M failed'.
-usage: wrong.py [NAME..] (after link/library and rt check sbplist)
+usage: wrong.py [NAME..] (after link/library and tools/prove sbplist)
 """
 import concurrent.futures
 import os

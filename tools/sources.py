@@ -10,16 +10,17 @@ import re
 
 ROOT = os.path.dirname(os.path.dirname(os.path.abspath(__file__)))
 CRATES = os.path.join(ROOT, "crates")
-COMMENT_OR_TEXT = re.compile(r'//[^\n]*|b"(?:\\.|[^"\\])*"|b\'(?:\\.|[^\'\\])\'')
-SKIPPED = re.compile(r"#\[[^\]]*\]|ghost\s+use\b[^;]*;|(?:pub(?:\([^)]*\))?\s+)?(?:type\b[^;]*|const\b[^=]*=[^;]*);")
+COMMENT_OR_TEXT = re.compile(r'(extern\s+"C")|//[^\n]*|b?"(?:\\.|[^"\\])*"|b?\'(?:\\.|[^\'\\])\'')
+SKIPPED = re.compile(r"#!?\[[^\]]*\]|ghost\s+use\b[^;]*;|(?:pub(?:\([^)]*\))?\s+)?(?:type\b[^;]*|const\b[^=]*=[^;]*);")
 CONST = re.compile(r"(?:pub(?:\([^)]*\))?\s+)?const\s+(\w+)")
 USE = re.compile(r"(pub(?:\([^)]*\))?\s+)?use\s+([^;]*);")
 MOD = re.compile(r"(pub\s+)?mod\s+(\w+)\s*;")
 TYPE = re.compile(r"(?:pub(?:\([^)]*\))?\s+)?(?:struct|enum)\s+(\w+)")
-IMPL = re.compile(r"impl(?:\s*<[^>]*>)?\s+([\w:]+)[^{]*\{")
+IMPL = re.compile(r"impl(?:\s*<[^>]*>)?\s+(?:[\w:]+(?:<[^>]*>)?\s+for\s+)?([\w:]+)[^{]*\{")
 FN = re.compile(r'(pub(?:\([^)]*\))?\s+)?(extern\s+"C"\s+)?fn\s+(\w+)')
 SPACE = re.compile(r"\s*")
-CLAUSE = re.compile(r"\s*(requires|ensures|ghost)\s*(?=\{)")
+# a clause has a name of its own, where there are several
+CLAUSE = re.compile(r"\s*\b(requires|ensures|ghost)\b\*?(?:\s+\w+)?\s*(?=\{)")
 
 
 class Unclear(Exception):
@@ -54,7 +55,7 @@ class Function:
         self.foreign = head.group(2) is not None
         opens = text.index("(", head.end())
         closes = past(text, opens, "()")
-        body = re.compile(r"\b(?:requires|ensures|ghost)\s*\{|\{").search(text, closes)
+        body = re.compile(r"\b(?:requires|ensures|ghost)\b|\{").search(text, closes)
         self.parameters = text[opens + 1:closes - 1]
         self.result = text[closes:body.start()].strip()
         self.clauses, at = [], body.start()
@@ -65,6 +66,13 @@ class Function:
         self.end = past(text, opens, "{}")
         self.body = text[opens:self.end]
 
+    def namesake(self, crates):
+        """The function of the same name that it does nothing but call, with its own parameters in their order; else None."""
+        names = re.findall(r"(?:^|,)\s*(\w+)\s*:", self.parameters)
+        call = re.fullmatch(r"\{\s*(\w+::\w+)\(\s*([\w\s,]*)\)\s*\}", self.body)
+        found = self.module.leads_to(call.group(1), crates) if call and re.findall(r"\w+", call.group(2)) == names else None
+        return found if isinstance(found, Function) and found.name == self.name else None
+
 
 class Module:
     """The items of a file. `uses` are the paths that it passes on, `brought` all that it names by `use`."""
@@ -74,7 +82,7 @@ class Module:
         self.root = above.root if above else self
         self.functions, self.methods, self.types, self.constants, self.uses, self.brought, self.modules = {}, [], set(), set(), [], {}, {}
         with open(path, encoding="utf-8") as file:
-            self.text = COMMENT_OR_TEXT.sub("", file.read()).strip()
+            self.text = COMMENT_OR_TEXT.sub(r"\1", file.read()).strip()
         folder = path[:-len(".rt")] if above and os.path.basename(path) != "mod.rt" else os.path.dirname(path)
         at = 0
         while at < len(self.text):
