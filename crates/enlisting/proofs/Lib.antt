@@ -1,4 +1,5 @@
 pub mod Joining
 pub mod EightSenders
+pub mod Seats
 pub mod Seating
 pub mod Growing

@@ -1,23 +1,22 @@
 -- The eight seats of a collator: what they hold of a roster, and that a sender joins them as it joins the roster.
 use mathlib.Core.Path.{◌≡◌, refl, sym, ap, ap₂, ◌∙◌}
-use mathlib.Core.Bool.{Bool, true, false, cond, not, ◌&&◌}
+use mathlib.Core.Bool.{Bool, true, false, cond}
 use mathlib.Core.List.{List, [], ◌∷◌, ◌++◌}
 use Prim.Native.Nat.{ℕ, zero, suc, ◌+◌, ◌≤◌, ◌<◌}
 use native.Mathlib.Omega.{arith}
-use lib.Dec.{ltb}
 use lib.ListN.{length, set, take, replicate, length-append}
-use borrow.Author.Tests.{ltb-true, lt-ltb, le-ltb}
 use Rattle.frames.specs.Frame.{Content}
 use Rattle.observation.specs.Edition.{is_obs}
 use Rattle.epochs.specs.Search.{names}
 use Rattle.epochs.specs.Collator.{roster_of}
 use Rattle.epochs.specs.declared.seating.Seat.{Seat}
-use Rattle.epochs.specs.declared.seating.Seat.TheVariants.{At, Nowhere}
+use Rattle.epochs.specs.declared.seating.Seat.TheVariants.{At}
 use Rattle.epochs.specs.declared.collating.Place.{Place}
 use Rattle.epochs.specs.declared.collating.Collator.{Collator}
 use Rattle.epochs.proofs.Senders.{roster_kept}
 use Rattle.enlisting.specs.Enlisting.{new_seat, seated_in, joined_to, enlisted_to}
 use Rattle.enlisting.proofs.Joining.{joined, enlisted, by_joining}
+pub use Rattle.enlisting.proofs.Seats.{seat_had, seat_full, seat_free, seat_eight}
 
 -- a collator of a roster, with its places in any state
 abbrev pub held_in : List Place → List ℕ → Collator
@@ -40,29 +39,7 @@ one_more [] (suc n) zero x h g = absurd (omega arith)
 one_more [] (suc n) (suc k) x h g = ap (λ (r : List ℕ). x ∷ r) (take-zeros n k (suc k) (omega arith) (omega arith))
 one_more (y ∷ xs) (suc n) k x h g = ap (λ (r : List ℕ). y ∷ r) (one_more xs n k x (omega arith) (omega arith))
 
--- ---- the three ways to a new seat
-
-module _ (roster : List ℕ) (count sender : ℕ) where
-  pub seat_had : names (take count roster) sender ≡ true → new_seat roster count sender ≡ Nowhere
-  seat_had n = rw n
-
-  module _ (n : names (take count roster) sender ≡ false) where
-    pub seat_full : 8 ≤ count → new_seat roster count sender ≡ Nowhere
-    seat_full h = rw (n, le-ltb count 8 h)
-
-    pub seat_free : count < 8 → new_seat roster count sender ≡ At count
-    seat_free h = rw (n, lt-ltb count 8 h)
-
-  -- it is one of eight
-  pub seat_eight : {i : ℕ} → new_seat roster count sender ≡ At i → i < 8
-  seat_eight {i} e = by (not (names (take count roster) sender)) (ltb count 8) refl e
-    where
-      by : (new room : Bool) → ltb count 8 ≡ room → cond (new && room) (At count) Nowhere ≡ At i → i < 8
-      by true true q e = let same : count ≡ i = cc in omega (arith, ltb-true count 8 q)
-      by true false q e = let z : ◌≡◌ {A = ℕ} 0 1 = cc in absurd (omega arith)
-      by false room q e = let z : ◌≡◌ {A = ℕ} 0 1 = cc in absurd (omega arith)
-
--- ---- and the two through `enlist`
+-- ---- the two ways through `enlist`
 
 module _ (c : Collator) (kind sender : ℕ) where
   pub enlists : {d : Collator} → is_obs kind ≡ true → d ≡ joined_to c sender → d ≡ enlisted_to c kind sender
@@ -79,7 +56,7 @@ module _ (places : List Place) (roster : List ℕ) (few : length roster ≤ 8) w
   held_joined : (sender : ℕ) → joined_to (held_in places roster) sender ≡ held_in places (joined roster sender)
   held_joined sender =
       by_joining roster sender (λ (r : List ℕ). joined_to c sender ≡ held_in places r) (λ n. seated (seat_had c.roster c.count sender (listed ∙ n)))
-      (λ n h. seated (seat_full c.roster c.count sender (listed ∙ n) h)) (λ n h. seated (seat_free c.roster c.count sender (listed ∙ n) h) ∙ last h)
+      (λ n h. seated (seat_full c.roster c.count sender (listed ∙ n) (omega arith))) (λ n h. seated (seat_free c.roster c.count sender (listed ∙ n) h) ∙ last h)
     where
       c : Collator
       c = held_in places roster

@@ -1,28 +1,17 @@
--- The number that a frame carries has 16 bits, and is document 02's.
+-- The number that a frame carries is document 02's.
 use mathlib.Core.Path.{◌≡◌, refl, sym, ap, ◌∙◌}
 use mathlib.Core.Bool.{Bool, true, false, cond}
 use Prim.Native.Nat.{ℕ, ◌≤◌, ◌<◌}
 use native.Mathlib.Omega.{arith}
-use lib.Dec.{ltb, lit<, lit≤}
-use borrow.Author.Tests.{ne_eqb, lt-ltb, le-ltb, ltb-true}
-use Rattle.senders.specs.Senders.{obeyed_from42, carried_by, carried, writer_from, HeldSender, HeldWriter}
+use lib.Dec.{ltb, lit≤}
+use borrow.Author.Tests.{ltb-true}
+use Rattle.senders.specs.Senders.{obeyed_from42, carried_by, carried, HeldSender}
 use Rattle.senders.specs.Carries.{NotAs42, Carries, CarriesLinked}
 use Rattle.senders.specs.declared.Sender.{Sender}
 use Rattle.senders.specs.declared.Sender.TheVariants.{Named, Unnamed}
 use Rattle.senders.specs.declared.Writer.{Writer}
-
-either_small : (t : Bool) {m n : ℕ} → m < 65536 → n < 65536 → cond t m n < 65536
-either_small true h k = h
-either_small false h k = k
-
-module _ (kind own : ℕ) (small : own < 65536) where
-  small_by : (s : Sender) → HeldSender s → carried_by kind own s < 65536
-  small_by (Named n) h = h
-  small_by Unnamed h = either_small (obeyed_from42 kind) (lit< tt) small
-
-pub carried_small : (kind : ℕ) (w : Writer) → HeldWriter w → carried kind w < 65536
-unfolding carried
-carried_small kind w h = small_by kind w.own h.own w.sender h.sender
+use Rattle.senders.proofs.Numbers.{not_obeyed, linked_given, linked_none}
+pub use Rattle.senders.proofs.Numbers.{carried_small}
 
 -- by the sender that is given
 pub as_given : (kind : ℕ) (w : Writer) {s : Sender} → w.sender ≡ s → carried_by kind w.own s ≡ carried kind w
@@ -32,9 +21,6 @@ as_given kind w e = ap (carried_by kind w.own) (sym e)
 -- where none is, by the type
 pub unnamed : (kind : ℕ) (w : Writer) (t : Bool) → w.sender ≡ Unnamed → obeyed_from42 kind ≡ t → cond t 0x42 w.own ≡ carried kind w
 unnamed kind w t none e = ap (λ (t : Bool). cond t 0x42 w.own) (sym e) ∙ as_given kind w none
-
-not_obeyed : (kind : ℕ) → NotAs42 kind → obeyed_from42 kind ≡ false
-not_obeyed kind h = rw (ne_eqb kind 0x00a1 h.0, ne_eqb kind 0x00a2 h.1)
 
 own_number : (kind own : ℕ) → NotAs42 kind → carried kind (record { own = own; sender = Unnamed }) ≡ own
 unfolding carried
@@ -53,13 +39,6 @@ carries = record {
 }
 
 -- ---- as C has it
-
-module _ (kind own n : ℕ) where
-  linked_given : n < 65536 → carried kind (writer_from own n) ≡ n
-  linked_given h = rw (lt-ltb n 65536 (omega arith)) (carries.given kind own n)
-
-  linked_none : 65536 ≤ n → carried kind (writer_from own n) ≡ carried kind (record { own = own; sender = Unnamed })
-  linked_none h = rw (le-ltb n 65536 (omega arith))
 
 -- a number that is below another of 16 bits
 held_from : (n most : ℕ) → most ≤ 65536 → HeldSender (cond (ltb n most) (Named n) Unnamed)
