@@ -28,13 +28,7 @@ pub fn sbp_enlist(state: &mut [u8], kind: u16, sender: u16) -> u8
 }
 
 // 32 where state or report is too short, then 46, 22, 43, 44, 45, 47; 0 taken; 1 an epoch, whose row is at the start of report.
-pub fn sbp_feed(
-    state: &mut [u8],
-    kind: u16,
-    sender: u16,
-    payload: &[u8],
-    report: &mut [u8],
-) -> u8
+pub fn sbp_feed(state: &mut [u8], kind: u16, sender: u16, payload: &[u8], report: &mut [u8]) -> u8
     ensures value { result ≡ (fed_in state.old (record { kind = kind; sender = sender; payload = payload.now }) report.old).answer }
     ensures state_after { state.new ≡ (fed_in state.old (record { kind = kind; sender = sender; payload = payload.now }) report.old).state }
     ensures report_after { report.new ≡ (fed_in state.old (record { kind = kind; sender = sender; payload = payload.now }) report.old).report }
