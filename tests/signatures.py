@@ -100,7 +100,7 @@ def stated(crate, head):
             source = file.read()
         brought = named(source)
         for name, said, body in re.findall(r"^%s(sbp_\w+)(\(.*?)^\{\n(.*?)^\}$" % re.escape(head), source, re.M | re.S):
-            said = " ".join(said.split())
+            said = re.sub(r"\( | \)|,(?= ?\))", lambda mark: mark[0].strip(" ,"), " ".join(said.split()))
             yield name, (said, {word: brought[word] for word in sorted(brought) if word in re.split(r"[\s(){}&\[\].,;:]+", said)}, body)
 
 
