@@ -146,13 +146,15 @@ def read(path):
 
 
 def rests_on():
-    """What each crate and each library of the kit rests on, by the lists of both."""
-    kit = os.environ.get("RATTLE_HOME") or os.path.dirname(os.path.dirname(os.path.realpath(shutil.which("rt") or "")))
+    """Where each library of the kit and each crate is, and what it rests on, by what the first was built over and by crates.txt."""
+    kit = os.path.dirname(os.path.dirname(os.path.realpath(shutil.which("rt") or "")))
     known = {}
-    for folder, listed in ((os.path.join(kit, "libs"), "libs.txt"), (os.path.join(ROOT, "crates"), "../crates.txt")):
-        for line in read(os.path.join(folder, listed)).splitlines():
-            if named := re.match(r"(\w+):(.*)", line):
-                known[named[1]] = os.path.join(folder, named[1]), named[2].split()
+    for path in glob.glob(os.path.join(kit, "rlibs", "*.rlib", "format")):
+        name = os.path.basename(os.path.dirname(path)).removesuffix(".rlib")
+        known[name] = os.path.join(kit, "rattle", name), re.findall(r"^dep (\w+)$", read(path), re.M)
+    for line in read(os.path.join(ROOT, "crates.txt")).splitlines():
+        if named := re.match(r"(\w+)(?: +staticlib)?:(.*)", line):
+            known[named[1]] = os.path.join(ROOT, "crates", named[1]), named[2].split()
     return known
 
 

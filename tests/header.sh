@@ -3,7 +3,7 @@
 # captures and on what goes wrong. A comparison that fails is a line 'differs: ..'; the last line is 'N passed, M failed'.
 # gcc and g++ are needed; clang and clang++ are asked too where they are. LIB names another library than link/library's, OPT another optimisation
 # than -O2.
-# usage: tests/header.sh [compile] [inline] [epochs] [grows] [writes] [finds] [errors] (all where none is named; after link/library and rt check sbplist)
+# usage: tests/header.sh [compile] [inline] [epochs] [grows] [writes] [finds] [errors] (all where none is named; after link/library and tools/prove sbplist)
 set -eu
 cd "$(dirname "$0")/.."
 lib=${LIB:-target/lib/libyaqtumeer.a}
@@ -307,7 +307,7 @@ errors() {
 }
 
 prepared() { # the examples and the captures are there
-    [ -x target/bin/sbplist ] || missing "target/bin/sbplist (rt check sbplist makes it)"
+    [ -x target/bin/sbplist ] || missing "target/bin/sbplist (tools/prove sbplist makes it)"
     local program
     for program in epochs grows writes finds; do
         [ -x "$work/$program" ] || held "not built: $program" gcc -std=c99 $flags -o "$work/$program" "link/examples/$program.c" "$lib"

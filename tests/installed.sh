@@ -22,6 +22,10 @@ ends() { # STATUS WORDS COMMAND..: ends with that status and says these words
     [ $? -eq "$1" ] && grep -q -- "$2" "$work/told"
 }
 without_kit() { PATH=/usr/bin:/bin "$@"; }
+mkdir "$work/kit"
+printf '#!/bin/sh\necho "no verdict"\nexit 3\n' >"$work/kit/rt"
+chmod +x "$work/kit/rt"
+with_other_kit() { PATH=$work/kit:$PATH "$@"; }
 for tool in gcc pkg-config; do
     command -v "$tool" >/dev/null || (apt-get update && apt-get install -y --no-install-recommends "$tool") >/dev/null 2>&1
 done
@@ -46,6 +50,7 @@ holds "tools/run without a program" ends 2 "usage" tools/run
 holds "tools/run of no program" ends 127 "no program" tools/run nothing
 holds "tools/run without the kit" ends 127 "rt" without_kit tools/run sbplist
 holds "tools/prove without the kit" ends 127 "rt" without_kit tools/prove wire
-holds "tools/prove of no crate passes rt's status on" ends 2 "nothing" tools/prove nothing
+holds "tools/prove of no crate" ends 2 "nothing" tools/prove nothing
+holds "tools/prove passes rt's status on" ends 3 "no verdict" with_other_kit tools/prove wire
 echo "$passed passed, $failed failed"
 [ "$failed" -eq 0 ]

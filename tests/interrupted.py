@@ -3,7 +3,7 @@
 
 A read that a signal interrupts is tried again: the listing is that of the whole capture. A read that fails, at once or after some bytes, lists
 nothing, for half a capture would be listed as if it were whole, and says why on standard error.
-usage: interrupted.py (after rt check sbplist)
+usage: interrupted.py (after tools/prove sbplist)
 """
 import fcntl
 import os

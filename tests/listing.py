@@ -2,7 +2,7 @@
 """Holds sbplist against the Python twin's listing, on captures at the edges, and stored files against what makes them; its last line is
 'N passed, M failed'.
 
-usage: listing.py (after rt check sbplist)
+usage: listing.py (after tools/prove sbplist)
 """
 import os
 import subprocess

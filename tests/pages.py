@@ -2,7 +2,7 @@
 """Holds docs/CLOSED.md against what it shows: its captures are those of the theorem (demands/specs/Swallowed.antt), its listings are what sbplist
 and the Python twin print, its open readings the twin's. The last line is 'N passed, M failed'; what fails prints a line 'differs: ..'.
 
-usage: pages.py (after rt check sbplist)
+usage: pages.py (after tools/prove sbplist)
 """
 import os
 import re

@@ -1,8 +1,10 @@
 #!/usr/bin/env python3
 """Holds the functions that the C header declares, and the structs that they are lent, against the Rust wrapper's declarations and against the
-Rattle source: names, parameters and fields in their order, types.
+Rattle source: names, parameters and fields in their order, types. And the functions of `exports_c`, which are linked, against those of `exports`,
+which the theorems are about: the same names, parameters and clauses, word for word and with the same definitions, and each only calls its namesake.
 
-A compiler takes parameters of one type in any order, and a linker takes any. The last line is 'N passed, M failed'.
+A compiler takes parameters of one type in any order, and a linker takes any. No crate can rest on a static library, so no theorem says that the two
+crates promise the same. The last line is 'N passed, M failed'.
 usage: signatures.py
 """
 import glob
@@ -82,6 +84,36 @@ def in_rattle():
     yield from structs(source)
 
 
+def named(source):
+    """The names that a file brings in, and where from; `ghost use` and `use` alike."""
+    found = {}
+    for path, many, one in re.findall(r"^(?:ghost )?use ([\w.:]+?)(?:\.|::)(?:\{([^}]*)\}|(\w+));", source, re.M):
+        for name in words(many) or [one]:
+            found[name.strip()] = path
+    return found
+
+
+def stated(crate, head):
+    """Of each function that begins with these words: parameters, result and clauses, what the names in them mean, and the body."""
+    for path in sorted(glob.glob(os.path.join(ROOT, "crates", crate, "src", "*.rt"))):
+        with open(path, encoding="utf-8") as file:
+            source = file.read()
+        brought = named(source)
+        for name, said, body in re.findall(r"^%s(sbp_\w+)(\(.*?)^\{\n(.*?)^\}$" % re.escape(head), source, re.M | re.S):
+            said = re.sub(r"\( | \)|,(?= ?\))", lambda mark: mark[0].strip(" ,"), " ".join(said.split()))
+            yield name, (said, {word: brought[word] for word in sorted(brought) if word in re.split(r"[\s(){}&\[\].,;:]+", said)}, body)
+
+
+def passed_on():
+    """Of each function of exports and exports_c: what each states, and whether the second only calls the first."""
+    below, above = dict(stated("exports", "pub fn ")), dict(stated("exports_c", '#[unsafe(no_mangle)]\npub extern "C" fn '))
+    for name in sorted(below.keys() | above.keys()):
+        said, meant, body = above.get(name, (None, None, None))
+        parameters = [one.split(":")[0].strip() for one in words((said or "()")[1:].partition(")")[0])]
+        calls = body == "    exports::%s(%s)\n" % (name, ", ".join(parameters))
+        yield name, below.get(name, (None, None))[:2], (said, meant), calls
+
+
 def alike(one, other):
     """Whether two have the same parameters; a length without a name is like any."""
     def same(a, b):
@@ -98,6 +130,12 @@ def main():
             else:
                 failed += 1
                 print("differs: %s: C has %s, %s %s" % (name, header.get(name), language, declared.get(name)))
+    for name, below, above, calls in passed_on():
+        if below == above and calls:
+            passed += 1
+        else:
+            failed += 1
+            print("differs: %s: %s" % (name, "exports says %s, exports_c %s" % (below, above) if below != above else "exports_c does not only call it"))
     print("%d passed, %d failed" % (passed, failed))
     return 1 if failed or not passed else 0
 

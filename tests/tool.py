@@ -2,7 +2,7 @@
 """Tests the tool `sbp` (link/sbp); its last line is 'N passed, M failed', and a comparison that fails prints a line 'differs: ..'.
 
 Builds it with cargo over target/lib (or YAQTUMEER_LIB), and runs it: see tool_parts/ for what each part holds it against.
-usage: tool.py [PART..], after link/library, and for the part `list` after rt check sbplist; all parts without a word
+usage: tool.py [PART..], after link/library, and for the part `list` after tools/prove sbplist; all parts without a word
 """
 import os
 import subprocess

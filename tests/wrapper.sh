@@ -1,7 +1,7 @@
 #!/usr/bin/env bash
 # The Rust wrapper: its layout, its tests and the examples in its documentation, its two example programs, and that a changed library is linked
 # anew. The last line is 'N passed, M failed'.
-# usage: tests/wrapper.sh [layout] [tests] [library] [examples] (all of them by default; after link/library and rt check sbplist; YAQTUMEER_LIB
+# usage: tests/wrapper.sh [layout] [tests] [library] [examples] (all of them by default; after link/library and tools/prove sbplist; YAQTUMEER_LIB
 # names another folder of the library)
 set -u
 root=$(cd "$(dirname "$0")/.." && pwd)
@@ -145,7 +145,7 @@ END
 command -v cargo >/dev/null || missing cargo
 command -v python3 >/dev/null || missing python3
 [ -f "$archive" ] || missing "$archive (link/library makes it)"
-[ -x "$root/target/bin/sbplist" ] || missing "target/bin/sbplist (rt check sbplist makes it)"
+[ -x "$root/target/bin/sbplist" ] || missing "target/bin/sbplist (tools/prove sbplist makes it)"
 
 for part in ${@:-layout tests library examples}; do
     case $part in

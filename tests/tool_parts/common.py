@@ -44,7 +44,7 @@ def lacking(parts):
     if not os.path.exists(library()):
         return "%s, which link/library makes" % library()
     if "list" in parts and not os.path.exists(os.path.join(ROOT, "target", "bin", "sbplist")):
-        return "sbplist, which rt check sbplist builds"
+        return "sbplist, which tools/prove sbplist builds"
     if {"list", "epochs", "find"} & set(parts) and not twins.cargo("build"):
         return "the Rust twin, which generates captures and did not build"
     return None if cargo("build", "--quiet").returncode == 0 else "the tool, which did not build"

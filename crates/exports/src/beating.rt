@@ -2,29 +2,25 @@
 ghost use Rattle.std.specs.Prelude.{◌≡◌};
 ghost use Rattle.system.specs.HeartbeatFlags.{system_error, io_error, nap_error, external_antenna};
 
-#[unsafe(no_mangle)]
-pub extern "C" fn sbp_system_error(flags: u32) -> bool
+pub fn sbp_system_error(flags: u32) -> bool
     ensures { result ≡ system_error flags }
 {
     system::system_error(flags)
 }
 
-#[unsafe(no_mangle)]
-pub extern "C" fn sbp_io_error(flags: u32) -> bool
+pub fn sbp_io_error(flags: u32) -> bool
     ensures { result ≡ io_error flags }
 {
     system::io_error(flags)
 }
 
-#[unsafe(no_mangle)]
-pub extern "C" fn sbp_nap_error(flags: u32) -> bool
+pub fn sbp_nap_error(flags: u32) -> bool
     ensures { result ≡ nap_error flags }
 {
     system::nap_error(flags)
 }
 
-#[unsafe(no_mangle)]
-pub extern "C" fn sbp_external_antenna(flags: u32) -> bool
+pub fn sbp_external_antenna(flags: u32) -> bool
     ensures { result ≡ external_antenna flags }
 {
     system::external_antenna(flags)

@@ -3,31 +3,27 @@ ghost use Rattle.std.specs.Prelude.{◌≡◌};
 ghost use Rattle.flag_numbers.specs.Flagged.{fix_answer, available_answer, repaired_answer, above_sea_answer};
 
 // 0 single point, 1 float, 2 fixed, 3 a mode that the table leaves out; 21 for a type that has none.
-#[unsafe(no_mangle)]
-pub extern "C" fn sbp_fix(kind: u16, flags: u8) -> u8
+pub fn sbp_fix(kind: u16, flags: u8) -> u8
     ensures { result ≡ fix_answer kind flags }
 {
     flag_numbers::fix_of(kind, flags)
 }
 
 // 0 or 1; 21 for a type that has no such flag.
-#[unsafe(no_mangle)]
-pub extern "C" fn sbp_raim_available(kind: u16, flags: u8) -> u8
+pub fn sbp_raim_available(kind: u16, flags: u8) -> u8
     ensures { result ≡ available_answer kind flags }
 {
     flag_numbers::raim_available_of(kind, flags)
 }
 
-#[unsafe(no_mangle)]
-pub extern "C" fn sbp_raim_repaired(kind: u16, flags: u8) -> u8
+pub fn sbp_raim_repaired(kind: u16, flags: u8) -> u8
     ensures { result ≡ repaired_answer kind flags }
 {
     flag_numbers::raim_repaired_of(kind, flags)
 }
 
 // POS_LLH: 1 where the height is above mean sea level, 0 where it is above the ellipsoid; 21 for any other type.
-#[unsafe(no_mangle)]
-pub extern "C" fn sbp_above_sea(kind: u16, flags: u8) -> u8
+pub fn sbp_above_sea(kind: u16, flags: u8) -> u8
     ensures { result ≡ above_sea_answer kind flags }
 {
     flag_numbers::above_sea_of(kind, flags)

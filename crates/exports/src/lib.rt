@@ -1,4 +1,5 @@
-// What C and Rust link: `extern "C"` functions over numbers, lent slices and lent numbers. None has a `requires`.
+// What C and Rust call: functions over numbers, lent slices and lent numbers, which `exports_c` offers to C under the same names. None has a
+// `requires`.
 // A refusal is document 01's number and writes nothing. A collator lives in lent bytes.
 // Read specs/Text.antt; what each does is said in `linked_calls`. They only pass calls on: the row of a frame stands in `frame_rows`, flags by
 // type in `flag_numbers`, carrier phases in `phases`, who sends in `frame_writer`, what a collator's bytes are in `states`, what rows of fields

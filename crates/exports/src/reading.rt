@@ -5,8 +5,7 @@ ghost use Rattle.frame_rows.specs.Totals.{totals_answer, totals_stored};
 
 // The next frame from a position on, in closed reading or, where opened says so, in open: 0, 1 or 2, and its row at the start of found; 32
 // where that has no room.
-#[unsafe(no_mangle)]
-pub extern "C" fn sbp_next(capture: &[u8], at: usize, opened: bool, found: &mut [u8]) -> u8
+pub fn sbp_next(capture: &[u8], at: usize, opened: bool, found: &mut [u8]) -> u8
     ensures value { result ≡ next_answer capture.now at opened (length found.old) }
     ensures found_after { found.new ≡ next_stored capture.now at opened found.old }
 {
@@ -14,8 +13,7 @@ pub extern "C" fn sbp_next(capture: &[u8], at: usize, opened: bool, found: &mut 
 }
 
 // 0 and the row at the start of counts; 32 where that has no room.
-#[unsafe(no_mangle)]
-pub extern "C" fn sbp_totals(capture: &[u8], counts: &mut [u8]) -> u8
+pub fn sbp_totals(capture: &[u8], counts: &mut [u8]) -> u8
     ensures value { result ≡ totals_answer capture.now (length counts.old) }
     ensures counts_after { counts.new ≡ totals_stored capture.now counts.old }
 {

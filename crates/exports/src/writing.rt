@@ -10,8 +10,7 @@ ghost use Rattle.senders.specs.Senders.{writer_from};
 
 // Every message without a tail, from one number for each field: 21 for a type that it does not write, 22 for another number of fields, 23 for a
 // number that its field cannot hold or that is outside its range, 31, 32.
-#[unsafe(no_mangle)]
-pub extern "C" fn sbp_write(
+pub fn sbp_write(
     out: &mut [u8],
     kind: u16,
     own: u16,
@@ -27,8 +26,7 @@ pub extern "C" fn sbp_write(
 }
 
 // An OBS, from its header's three numbers and eight for each observation: 21, 22, 23, 31, 32.
-#[unsafe(no_mangle)]
-pub extern "C" fn sbp_write_obs(
+pub fn sbp_write_obs(
     out: &mut [u8],
     kind: u16,
     own: u16,
@@ -52,8 +50,7 @@ pub extern "C" fn sbp_write_obs(
 }
 
 // A LOG: 23 for a zero in the text, 31 for a text and zeros over 254 bytes, then 32.
-#[unsafe(no_mangle)]
-pub extern "C" fn sbp_write_log(
+pub fn sbp_write_log(
     out: &mut [u8],
     own: u16,
     sender: u32,
@@ -71,8 +68,7 @@ pub extern "C" fn sbp_write_log(
 }
 
 // A frame of any type with any payload: 31 over 255 bytes, then 32.
-#[unsafe(no_mangle)]
-pub extern "C" fn sbp_write_frame(
+pub fn sbp_write_frame(
     out: &mut [u8],
     kind: u16,
     own: u16,

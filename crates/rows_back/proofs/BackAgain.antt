@@ -14,7 +14,6 @@ use Rattle.layouts.specs.Layout.{Layout, run, then, bytes, text, rows, HeldBody,
 use Rattle.refusals.proofs.Ordered.{exactly_all}
 use Rattle.frame_writer.specs.Faithful.{write_answer, frame_written}
 use Rattle.frames.specs.Step.{step_at, payload_in}
-use Rattle.frames.specs.declared.step.Step.TheVariants as Step
 use Rattle.frame_writer.proofs.Promised.{faithful}
 use Rattle.formats.specs.Wide.{narrow_row, fits_row, wide_body, number_count}
 use Rattle.formats.specs.Digits.{front_of}

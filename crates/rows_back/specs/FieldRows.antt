@@ -1,7 +1,7 @@
 -- A field as a number of 64 bits, by its format, in numerals; and which types are written from a row.
-use Rattle.std.specs.Prelude.{ℕ, ◌+◌, ◌^◌, ◌<◌, ◌≡◌, Bool, true, cond, ◌&&◌, ◌||◌, List, [], ◌∷◌, ltb, leb}
+use Rattle.std.specs.Prelude.{ℕ, ◌+◌, ◌≡◌, true, cond, ◌&&◌, ◌||◌, List, [], ◌∷◌, ltb, leb}
 use Rattle.wire.specs.Number.{Bytes, number_at}
-use Rattle.wire.specs.Value.{Format, u8, u16, u32, s16, s32, double, value_at}
+use Rattle.wire.specs.Value.{u8, u16, u32, s16, s32, double, value_at}
 use Rattle.formats.specs.Wide.{wide_of, fits_in}
 use Rattle.payloads.specs.Payloads.{known_for, layout_for}
 use Rattle.row_writer.specs.WriteRow.{alone}

@@ -1,6 +1,6 @@
 -- `states::making::put_seats` meets its contract. The loop's invariant: the first i seats are stored.
 use mathlib.Core.Path.{◌≡◌, ap, ◌∙◌}
-use Prim.Native.Nat.{ℕ, ◌-◌}
+use Prim.Native.Nat.{ℕ}
 use native.Mathlib.Omega.{arith}
 use lib.ListN.{length}
 use Rattle.lent_rows.specs.Lent.{first_rows_stored}

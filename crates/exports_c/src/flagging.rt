@@ -1,0 +1,34 @@
+// One flag of a message, as a number: the fix mode and the RAIM flags of positions, baselines and the heading, and what a POS_LLH's height is above.
+ghost use Rattle.std.specs.Prelude.{◌≡◌};
+ghost use Rattle.flag_numbers.specs.Flagged.{fix_answer, available_answer, repaired_answer, above_sea_answer};
+
+// 0 single point, 1 float, 2 fixed, 3 a mode that the table leaves out; 21 for a type that has none.
+#[unsafe(no_mangle)]
+pub extern "C" fn sbp_fix(kind: u16, flags: u8) -> u8
+    ensures { result ≡ fix_answer kind flags }
+{
+    exports::sbp_fix(kind, flags)
+}
+
+// 0 or 1; 21 for a type that has no such flag.
+#[unsafe(no_mangle)]
+pub extern "C" fn sbp_raim_available(kind: u16, flags: u8) -> u8
+    ensures { result ≡ available_answer kind flags }
+{
+    exports::sbp_raim_available(kind, flags)
+}
+
+#[unsafe(no_mangle)]
+pub extern "C" fn sbp_raim_repaired(kind: u16, flags: u8) -> u8
+    ensures { result ≡ repaired_answer kind flags }
+{
+    exports::sbp_raim_repaired(kind, flags)
+}
+
+// POS_LLH: 1 where the height is above mean sea level, 0 where it is above the ellipsoid; 21 for any other type.
+#[unsafe(no_mangle)]
+pub extern "C" fn sbp_above_sea(kind: u16, flags: u8) -> u8
+    ensures { result ≡ above_sea_answer kind flags }
+{
+    exports::sbp_above_sea(kind, flags)
+}

@@ -1,0 +1,23 @@
+// The next frame of a capture, and the counts of a whole complete one, as rows of numbers in a lent buffer.
+ghost use Rattle.std.specs.Prelude.{◌≡◌, length};
+ghost use Rattle.frame_rows.specs.Found.{next_answer, next_stored};
+ghost use Rattle.frame_rows.specs.Totals.{totals_answer, totals_stored};
+
+// The next frame from a position on, in closed reading or, where opened says so, in open: 0, 1 or 2, and its row at the start of found; 32
+// where that has no room.
+#[unsafe(no_mangle)]
+pub extern "C" fn sbp_next(capture: &[u8], at: usize, opened: bool, found: &mut [u8]) -> u8
+    ensures value { result ≡ next_answer capture.now at opened (length found.old) }
+    ensures found_after { found.new ≡ next_stored capture.now at opened found.old }
+{
+    exports::sbp_next(capture, at, opened, found)
+}
+
+// 0 and the row at the start of counts; 32 where that has no room.
+#[unsafe(no_mangle)]
+pub extern "C" fn sbp_totals(capture: &[u8], counts: &mut [u8]) -> u8
+    ensures value { result ≡ totals_answer capture.now (length counts.old) }
+    ensures counts_after { counts.new ≡ totals_stored capture.now counts.old }
+{
+    exports::sbp_totals(capture, counts)
+}

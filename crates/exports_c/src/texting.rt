@@ -1,0 +1,14 @@
+// The listing of a capture.
+ghost use Rattle.std.specs.Prelude.{◌≡◌, length};
+ghost use Rattle.listing.specs.Listing.{with_listing};
+ghost use Rattle.exports.specs.Text.{text_answer, size_after};
+
+// 0 with the text's length through size, or 11, then 32.
+#[unsafe(no_mangle)]
+pub extern "C" fn sbp_list(capture: &[u8], text: &mut [u8], size: &mut u64) -> u8
+    ensures value { result ≡ text_answer capture.now (length text.old) }
+    ensures text_after { text.new ≡ with_listing capture.now text.old }
+    ensures size_after { size.new ≡ size_after capture.now (length text.old) size.old }
+{
+    exports::sbp_list(capture, text, size)
+}
