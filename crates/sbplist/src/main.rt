@@ -3,12 +3,12 @@
 // Read `output` in listing's specs/Listing.antt first: what is put into the buffer before that one write is proved to be it.
 #![tactic(auto)]
 
-ghost use Rattle.std.specs.Prelude.{◌≡◌, ◌≤◌, length, take};
+ghost use Rattle.std.specs.Prelude.{◌≡◌, ◌≤◌, length, take, IfOk};
 ghost use Rattle.listing.specs.Listing.{longest_text, output};
 
 use frame_writer::Written;
 use std::io;
-use std::io::Read;
+use std::io::{ErrorKind, Read, Stdin};
 
 // Puts document 01's whole output at the start of text, and says how long it is: the listing, or `R 11` alone. The text has room for every
 // listing, so that 11 is the only refusal.
@@ -29,16 +29,42 @@ fn put_output(capture: &[u8], text: &mut [u8]) -> usize
     5
 }
 
-// One byte more is read than is taken, to know that there are more.
+// Reads to the end of the input, or until buf is full, and says how many bytes came. A read that a signal interrupts is tried again. The turns are
+// counted so that the loop is seen to end.
+fn read_all(input: &mut Stdin, buf: &mut [u8]) -> io::Result<usize>
+    ensures { IfOk result (λ n. n ≤ length buf.new) }
+{
+    let mut n: usize = 0;
+    for _ in 0..u64::MAX {
+        match input.read(&mut buf[n..]) {
+            Ok(k) => {
+                if k == 0 {
+                    return Ok(n);
+                }
+                n += k;
+            }
+            Err(e) => {
+                if e.kind() != ErrorKind::Interrupted {
+                    return Err(e);
+                }
+            }
+        }
+    }
+    Ok(n)
+}
+
 fn main(rt: HostRuntime) -> io::Result<()> {
-    let mut capture = Vec::new(rt.alloc());
+    // one byte more than is taken, to know that there are more
+    let mut capture = [0u8; 65537];
     let mut text = vec![in rt.alloc(); 0u8; 524320]?;
-    if let Err(e) = rt.stdin().take(65537).read_to_end(&mut capture) {
-        return eprintln!(rt; "read: {e}");
+    match read_all(&mut rt.stdin(), &mut capture) {
+        Ok(n) => {
+            let length = put_output(&capture[0..n], &mut text);
+            if let Err(e) = rt.write_all(&text[0..length]) {
+                return eprintln!(rt; "write: {e}");
+            }
+            Ok(())
+        }
+        Err(e) => eprintln!(rt; "read: {e}"),
     }
-    let length = put_output(&capture, &mut text);
-    if let Err(e) = rt.write_all(&text[0..length]) {
-        return eprintln!(rt; "write: {e}");
-    }
-    Ok(())
 }
