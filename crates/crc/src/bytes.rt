@@ -33,10 +33,8 @@ pub(crate) fn few(s: &[u8]) -> u64
     ensures { result ≡ number_of s.now }
 {
     let mut n: u64 = 0;
-    let mut i = 0;
-    while i < s.len() {
-        n = (n << 8) ^ (s[i] as u64);
-        i += 1;
+    for b in s {
+        n = (n << 8) ^ (*b as u64);
     }
     n
 }

@@ -34,10 +34,8 @@ pub(crate) fn turned_all(x: Words, s: &[u8], from: usize) -> Words
     ensures { rest (joined result) ≡ rest (behind (joined x) (drop from s.now)) }
 {
     let mut four = x;
-    let mut i = from;
-    while i < s.len() {
+    for i in (from..s.len()).step_by(8) {
         four = turned(four, word(s, i));
-        i += 8;
     }
     four
 }

@@ -3,12 +3,12 @@ ghost use Rattle.std.specs.Prelude.{◌≡◌, ◌%◌};
 ghost use Rattle.flags.specs.Flags.{chosen, ecef_fix, llh_fix, baseline_fix, raim_available, raim_repaired, llh_above_sea, llh_raim_available, llh_raim_repaired};
 
 // Reserved is a mode that the message's table leaves out; a record that was read never has it.
-#[derive(Clone, Copy)]
+#[derive(Clone, Copy, Debug, PartialEq, Eq)]
 pub enum Fix {
-    SinglePoint,
-    Float,
-    Fixed,
-    Reserved,
+    SinglePoint = 0,
+    Float = 1,
+    Fixed = 2,
+    Reserved = 3,
 }
 
 // The fix mode is the low three bits.
@@ -18,20 +18,16 @@ pub(crate) fn fix_mode(flags: u8) -> u8
     flags & 7
 }
 
+#[tactic(auto, unfolding(crate::specs::Flags::chosen))]
 fn chosen(flags: u8, zeroth: Fix, first: Fix, second: Fix) -> Fix
     ensures { result ≡ chosen (flags % 8) zeroth first second }
 {
-    let mode = fix_mode(flags);
-    if mode == 0 {
-        return zeroth;
+    match fix_mode(flags) {
+        0 => zeroth,
+        1 => first,
+        2 => second,
+        _ => Fix::Reserved,
     }
-    if mode == 1 {
-        return first;
-    }
-    if mode == 2 {
-        return second;
-    }
-    Fix::Reserved
 }
 
 // POS_ECEF.
@@ -55,6 +51,7 @@ pub fn baseline_fix(flags: u8) -> Fix
     chosen(flags, Fix::Float, Fix::Fixed, Fix::Reserved)
 }
 
+// The flags below are a line each over `wire::flag`, by the names that docs/ and the functions for C have.
 // All but POS_LLH: the RAIM check was available; the solution came from RAIM repair.
 pub fn raim_available(flags: u8) -> bool
     ensures { result ≡ raim_available flags }

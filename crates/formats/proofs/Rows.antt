@@ -2,8 +2,7 @@
 use mathlib.Core.Path.{◌≡◌, refl, sym, ap, ap₂, ◌∙◌}
 use mathlib.Core.Bool.{Bool, true, false, ◌&&◌}
 use mathlib.Core.List.{List, [], ◌∷◌}
-use Prim.Native.Nat.{ℕ, zero, suc, ◌+◌, ◌/◌, ◌%◌, ◌^◌, ◌≤◌, ◌<◌}
-use native.Mathlib.Nat.{not-suc-le-zero, le_of_suc-le-suc}
+use Prim.Native.Nat.{ℕ, suc, ◌+◌, ◌/◌, ◌%◌, ◌^◌, ◌<◌}
 use native.Mathlib.Numerals.{add-one}
 use lib.ListN.{length, get_or, set}
 use lib.Seq.{sets}
@@ -13,12 +12,6 @@ use Rattle.wire.proofs.Numbers.{length-stored}
 use Rattle.formats.specs.Wide.{wide_of, fits_in}
 use Rattle.formats.specs.Digits.{format_by, formats_by, numbers_at, run_fits, run_stored}
 use Rattle.formats.proofs.Steps.{no_formats, first_format}
-
--- a number past the end counts 0
-pub none_past : (ns : List ℕ) (i : ℕ) → length ns ≤ i → get_or ns i 0 ≡ 0
-none_past [] i h = refl
-none_past (n ∷ ns) zero h = absurd (not-suc-le-zero h)
-none_past (n ∷ ns) (suc i) h = none_past ns i (le_of_suc-le-suc h)
 
 -- ---- each fits
 

@@ -14,6 +14,7 @@ pub(crate) fn width_of(digit: u64) -> usize
     }
 }
 
+// These two take a digit off until none is left, as store_run does, and count no list.
 pub fn count(digits: u64) -> usize
     ensures { result ≡ length (formats_by digits) }
 {

@@ -7,20 +7,14 @@ ghost use Rattle.formats.specs.Digits.{format_by, formats_by, run_fits};
 pub(crate) fn number_of(row: &[u64], i: usize) -> u64
     ensures { result ≡ get_or row.now i 0 }
 {
-    if row.len() <= i {
-        return 0;
-    }
-    row[i]
+    row.get(i).copied().unwrap_or(0)
 }
 
 // A signed number in 64 bits lies below its type's half, or among the last numbers of 64 bits.
 fn low_or_high(n: u64, below: u64, from: u64) -> bool
     ensures { result ≡ ltb n below || leb from n }
 {
-    if n < below {
-        return true;
-    }
-    from <= n
+    n < below || from <= n
 }
 
 fn fits(n: u64, digit: u64) -> bool
@@ -36,6 +30,7 @@ fn fits(n: u64, digit: u64) -> bool
     }
 }
 
+// A digit is taken off until none is left, as in store_run.
 pub fn run_fits(row: &[u64], digits: u64) -> bool
     ensures { result ≡ run_fits (formats_by digits) row.now 0 }
 {

@@ -3,3 +3,4 @@ pub mod WrittenFrames
 pub mod WrittenRead
 pub mod WrittenStream
 pub mod Promised
+pub mod FixedLength

@@ -4,12 +4,14 @@ use Prim.Native.Nat.{ℕ, ◌+◌, ◌≤◌, ◌<◌}
 use borrow.Author.Tests.{le-leb, lt-leb, leb-true}
 use Rattle.refusals.specs.Refusals.{refused, given, Answer}
 use Rattle.refusals.proofs.Ordered.{exactly_all}
-use Rattle.frame_writer.specs.Writer.{written_answer, writing_frame, planned}
-use Rattle.frame_writer.specs.declared.write.Written.{Written}
+use Rattle.std.specs.Prelude.{Result}
+use Rattle.refusals.specs.Numbers.{answer_of}
+use Rattle.refusals.specs.declared.Refusal.{Refusal}
+use Rattle.frame_writer.specs.Writer.{writing_frame, planned}
 
--- what a call answered, once its enum is known
-pub known : {o w : Written} {a : Answer ℕ} → written_answer o ≡ a → o ≡ w → a ≡ written_answer w
-known p e = sym p ∙ ap written_answer e
+-- what a call answered, once its result is known
+pub known : {o w : Result ℕ Refusal} {a : Answer ℕ} → answer_of o ≡ a → o ≡ w → a ≡ answer_of w
+known p e = sym p ∙ ap answer_of e
 
 module _ (n room : ℕ) where
   pub planned_31 : 255 < n → planned n room ≡ refused 31

@@ -1,19 +1,12 @@
 -- What a frame writer answers, and what it leaves in the buffer.
 use Rattle.std.specs.Prelude.{ℕ, ◌+◌, List, [], ◌∷◌, ◌++◌, leb, length, take, drop}
-use Rattle.refusals.specs.Refusals.{refused, given, Answer, Tests, leaves, Call, reply}
+use Rattle.refusals.specs.Refusals.{Answer, Tests, leaves, Call, reply}
 use Rattle.senders.specs.Senders.{carried}
 use Rattle.senders.specs.declared.Writer.{Writer}
 use Rattle.frames.specs.Frame.{frame_bytes, Content}
 use Rattle.frames.specs.Reading.{Positioned}
 use Rattle.frames.specs.declared.step.Frame.{Frame}
 use Rattle.frames.specs.declared.step.Step.TheVariants.{Found}
-use Rattle.frame_writer.specs.declared.write.Written.{Written}
-use Rattle.frame_writer.specs.declared.write.Written.TheVariants.{Bytes, Refused}
-
--- document 01's values and numbers
-abbrev pub written_answer : Written → Answer ℕ
-written_answer (Bytes n) = given n
-written_answer (Refused n) = refused n
 
 -- a payload of n bytes into a buffer of some length: 31 over 255, then 32 for a buffer shorter than N + 8
 abbrev pub writing_frame : ℕ → ℕ → Tests

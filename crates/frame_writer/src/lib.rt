@@ -3,6 +3,8 @@
 // write_frame and plan are entry points, refused by number; the others are inner parts: total, and seal is whole or nothing.
 #![tactic(auto)]
 
+mod message;
 mod write;
 
-pub use write::{Written, hand_on, plan, seal, write_frame};
+pub use message::{FixedMessage, read_message, write_message};
+pub use write::{hand_on, plan, seal, write_frame};

@@ -40,6 +40,14 @@ over_counts c x h =
       plain c.short k.short (omega arith),
     )
 
+-- a closed reading goes on by every step but the last
+pub closed_on : (x : Step) → (x ≡ Finished → ⊥) → stops false x ≡ false
+closed_on Finished n = absurd (n refl)
+closed_on Junk n = refl
+closed_on (Short k) n = refl
+closed_on Bad n = refl
+closed_on (Found f) n = refl
+
 pub passed_on : (opened : Bool) (x : Step) → passes opened x ≡ true → stops opened x ≡ false
 passed_on opened Finished e = absurd (false≢true e)
 passed_on opened Junk e = refl

@@ -1,41 +1,8 @@
--- What numbers tell: a step, and an answer of a cursor.
-use Rattle.std.proofs.Common.{◌≡◌, Bool, true, false, cond, eqb, refl, ap, ◌∙◌, ne_eqb}
-use Rattle.frames.specs.Reading.{stops}
+-- What numbers tell: an answer of a cursor.
+use Rattle.std.proofs.Common.{◌≡◌, cond, eqb, refl, ap, ◌∙◌, ne_eqb}
 use Rattle.frames.specs.Cursors.{reached_in}
-use Rattle.frames.specs.Inner.{step_in}
-use Rattle.frames.specs.declared.step.Seen.{Seen}
-use Rattle.frames.specs.declared.step.Step.TheVariants.{Finished, Junk, Short, Bad, Found}
 use Rattle.frames.specs.declared.cursor.Next as Next
 use Rattle.frames.specs.declared.cursor.Reached.{Reached}
-
--- ---- a step
-
-module _ (x : Seen) where
-  pub tells_finished : x.what ≡ 0 → Finished ≡ step_in x
-  tells_finished e = rw e
-
-  pub tells_junk : x.what ≡ 1 → Junk ≡ step_in x
-  tells_junk e = rw e
-
-  pub tells_short : x.what ≡ 2 → Short x.needed ≡ step_in x
-  tells_short e = rw e
-
-  pub tells_bad : x.what ≡ 3 → Bad ≡ step_in x
-  tells_bad e = rw e
-
-  -- none of these four, as a match leaves it
-  pub tells_found : ((((Unit {0} × (x.what ≡ 0 → ⊥)) × (x.what ≡ 1 → ⊥)) × (x.what ≡ 2 → ⊥)) × (x.what ≡ 3 → ⊥)) → Found x.frame ≡ step_in x
-  tells_found n = rw (ne_eqb x.what 0 n.0.0.0.1, ne_eqb x.what 1 n.0.0.1, ne_eqb x.what 2 n.0.1, ne_eqb x.what 3 n.1)
-
-  -- a closed reading goes on by all but the first
-  pub tells_more : (x.what ≡ 0 → ⊥) → stops false (step_in x) ≡ false
-  tells_more n = rw (ne_eqb x.what 0 n) (by (eqb x.what 1) (eqb x.what 2) (eqb x.what 3))
-    where
-      by : (a b c : Bool) → stops false (cond a Junk (cond b (Short x.needed) (cond c Bad (Found x.frame)))) ≡ false
-      by true b c = refl
-      by false true c = refl
-      by false false true = refl
-      by false false false = refl
 
 -- ---- an answer
 

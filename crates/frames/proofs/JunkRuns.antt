@@ -1,6 +1,7 @@
 -- Runs of junk: their length, and that what a cursor keeps at each byte of junk it keeps past all of them.
-use Rattle.std.proofs.Common.{◌≡◌, ℕ, zero, suc, ◌+◌, ◌%◌, ◌^◌, ◌<◌, ◌≤◌, Bool, true, false, cond, not, eqb, leb, List, [], ◌∷◌, length, get_or, drop, sym, refl, ap, ◌∙◌, subst, add-zero, add_assoc, mod-eq_of_lt, arith, length-drop, get_or-drop, drop-cons, drop-drop, eqb-true, le-leb, leb-false, leb-true}
+use Rattle.std.proofs.Common.{◌≡◌, ℕ, zero, suc, ◌+◌, ◌%◌, ◌^◌, ◌<◌, ◌≤◌, Bool, true, false, not, eqb, leb, List, [], ◌∷◌, length, get_or, drop, sym, refl, ap, ◌∙◌, subst, add-zero, add_assoc, mod-eq_of_lt, arith, length-drop, get_or-drop, drop-cons, drop-drop, eqb-true, le-leb, leb-false, leb-true}
 use mathlib.Core.Path.{subst⁻¹}
+use mathlib.Core.Bool.{◌||◌}
 use native.Mathlib.Nat.{mod-add-mod}
 use borrow.Author.Tests.{eqb-false, lt-leb}
 use Rattle.frames.specs.Reading.{stops}
@@ -85,12 +86,12 @@ Hit t i = not (leb i (junk_run t))
 pub hit_none : (t : List ℕ) → false ≡ Hit t 0
 hit_none t = rw (le-leb 0 (junk_run t) (omega arith))
 
-pub hit_more : (t : List ℕ) (i : ℕ) → i < length t → cond (eqb (get_or t i 0) 0x55) true (Hit t i) ≡ Hit t (i + 1)
+pub hit_more : (t : List ℕ) (i : ℕ) → i < length t → (Hit t i || eqb (get_or t i 0) 0x55) ≡ Hit t (i + 1)
 hit_more t i l = by (eqb (get_or t i 0) 0x55) refl (leb i (junk_run t)) refl
   where
-    by : (x : Bool) → eqb (get_or t i 0) 0x55 ≡ x → (y : Bool) → leb i (junk_run t) ≡ y → cond (eqb (get_or t i 0) 0x55) true (Hit t i) ≡ Hit t (i + 1)
-    by true e true g = rw (e, lt-leb (i + 1) (junk_run t) (omega (arith, run_stop i t (leb-true i (junk_run t) g) l (eqb-true (get_or t i 0) 0x55 e))))
-    by true e false g = rw (e, lt-leb (i + 1) (junk_run t) (omega (arith, leb-false i (junk_run t) g)))
+    by : (x : Bool) → eqb (get_or t i 0) 0x55 ≡ x → (y : Bool) → leb i (junk_run t) ≡ y → (Hit t i || eqb (get_or t i 0) 0x55) ≡ Hit t (i + 1)
+    by true e true g = rw (e, g, lt-leb (i + 1) (junk_run t) (omega (arith, run_stop i t (leb-true i (junk_run t) g) l (eqb-true (get_or t i 0) 0x55 e))))
+    by true e false g = rw (e, g, lt-leb (i + 1) (junk_run t) (omega (arith, leb-false i (junk_run t) g)))
     by false e true g = rw (e, g, le-leb (i + 1) (junk_run t) (omega (arith, run_more i t (leb-true i (junk_run t) g) l (eqb-false (get_or t i 0) 0x55 e))))
     by false e false g = rw (e, g, lt-leb (i + 1) (junk_run t) (omega (arith, leb-false i (junk_run t) g)))
 

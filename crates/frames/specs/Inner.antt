@@ -1,19 +1,7 @@
--- What only private contracts cite: a step in numbers; runs of junk, which a cursor passes over at once, the same as byte by byte.
+-- What only private contracts cite: runs of junk, which a cursor passes over at once, the same as byte by byte.
 use Rattle.std.specs.Prelude.{ℕ, zero, suc, cond, List, [], ◌∷◌, ◌==◌}
 use Rattle.frames.specs.Cursors.{past}
-use Rattle.frames.specs.declared.step.Seen.{Seen}
-use Rattle.frames.specs.declared.step.Step.{Step}
-use Rattle.frames.specs.declared.step.Step.TheVariants.{Finished, Junk, Short, Bad, Found}
 use Rattle.frames.specs.declared.cursor.Cursor.{Cursor}
-
--- the step that numbers tell: 0 finished, 1 junk, 2 short, 3 bad, else a frame
-abbrev pub step_in : Seen → Step
-step_in x =
-    cond (x.what == 0) Finished
-    (cond (x.what == 1) Junk
-    (cond (x.what == 2) (Short x.needed)
-    (cond (x.what == 3) Bad
-    (Found x.frame))))
 
 -- how many bytes stand before the first 0x55, or the end
 unfoldable pub junk_run : List ℕ → ℕ

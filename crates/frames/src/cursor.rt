@@ -1,11 +1,11 @@
 // A cursor that goes from frame to frame through a lent capture, and the totals of a whole closed reading.
 ghost use Rattle.std.specs.Prelude.{◌≡◌, true, false};
 ghost use Rattle.frames.specs.Reading.{counts_of, closed_steps};
-ghost use Rattle.frames.specs.Inner.{step_in, over_junk};
+ghost use Rattle.frames.specs.Inner.{over_junk};
 ghost use Rattle.frames.specs.Cursors.{passes, past, over, ended, begun, counts_in, next_of, no_frame, reached_in};
 
 use crate::junk::junk_run;
-use crate::step::{BAD, FINISHED, Frame, JUNK, SHORT, Seen, no_frame, seen_at};
+use crate::step::{Frame, Step, no_frame, step_at};
 
 // The bytes in frames, and those passed over as junk, bad or short.
 #[derive(Clone, Copy)]
@@ -35,7 +35,8 @@ pub enum Next {
     Needs(usize, Cursor),
 }
 
-// The same in numbers: 0 a frame, 1 the end, 2 more bytes are needed. Where there is no frame its numbers are 0.
+// The same in numbers: 0 a frame, 1 the end, 2 more bytes are needed. Where there is no frame its numbers are 0. They stay numbers, since the
+// demands state `reach` by them (`ReadOff`).
 #[derive(Clone, Copy)]
 pub struct Reached {
     pub number: u8,
@@ -56,17 +57,16 @@ fn tally(framed: usize, junk: usize, bad: usize, short: usize) -> Counts
     }
 }
 
-// Whether a reading passes over what is seen, on the way to the next frame.
-fn passes(opened: bool, seen: Seen) -> bool
-    ensures { result ≡ passes opened (step_in seen) }
+// Whether a reading passes over what stands there, on the way to the next frame.
+fn passes(opened: bool, step: Step) -> bool
+    ensures { result ≡ passes opened step }
 {
-    let what = seen.what;
-    match what {
-        FINISHED => false,
-        JUNK => true,
-        SHORT => !opened,
-        BAD => true,
-        _ => false,
+    match step {
+        Step::Finished => false,
+        Step::Junk => true,
+        Step::Short(_) => !opened,
+        Step::Bad => true,
+        Step::Found(_) => false,
     }
 }
 
@@ -112,18 +112,19 @@ impl Cursor {
         }
     }
 
-    // Past what is seen: a frame, or one byte, counted under its kind.
-    fn over(self, seen: Seen) -> Self
-        ensures { result ≡ over self (step_in seen) }
+    // Past what stands there: a frame, or one byte, counted under its kind.
+    fn over(self, step: Step) -> Self
+        ensures { result ≡ over self step }
     {
-        let what = seen.what;
-        let n = (seen.frame.length as usize) + 8;
-        match what {
-            FINISHED => self.past(0, tally(0, 0, 0, 0)),
-            JUNK => self.past(1, tally(0, 1, 0, 0)),
-            SHORT => self.past(1, tally(0, 0, 0, 1)),
-            BAD => self.past(1, tally(0, 0, 1, 0)),
-            _ => self.past(n, tally(n, 0, 0, 0)),
+        match step {
+            Step::Finished => self.past(0, tally(0, 0, 0, 0)),
+            Step::Junk => self.past(1, tally(0, 1, 0, 0)),
+            Step::Short(_) => self.past(1, tally(0, 0, 0, 1)),
+            Step::Bad => self.past(1, tally(0, 0, 1, 0)),
+            Step::Found(frame) => {
+                let n = frame.length as usize + 8;
+                self.past(n, tally(n, 0, 0, 0))
+            }
         }
     }
 
@@ -146,23 +147,18 @@ impl Cursor {
         }
     }
 
-    // The answer at what is not passed over.
-    fn reached(self, seen: Seen) -> Reached
-        ensures { result ≡ reached_in (ended self (step_in seen)) }
+    // The answer at what is not passed over. Junk and bad are passed over and never stand here; the definition gives them the end.
+    fn reached(self, step: Step) -> Reached
+        ensures { result ≡ reached_in (ended self step) }
     {
-        let what = seen.what;
-        let frame = seen.frame;
-        match what {
-            FINISHED => self.stopped(1, 0),
-            // junk and bad are passed over and never stand here; the definition gives them the end
-            JUNK => self.stopped(1, 0),
-            SHORT => self.stopped(2, seen.needed),
-            BAD => self.stopped(1, 0),
-            _ => Reached {
+        match step {
+            Step::Finished | Step::Junk | Step::Bad => self.stopped(1, 0),
+            Step::Short(needed) => self.stopped(2, needed),
+            Step::Found(frame) => Reached {
                 number: 0,
                 needed: 0,
                 frame,
-                cursor: self.over(seen),
+                cursor: self.over(step),
             },
         }
     }
@@ -174,13 +170,13 @@ impl Cursor {
         let mut c = self;
         loop {
             let at = c.at;
-            let seen = seen_at(s, at);
-            if seen.what == JUNK {
+            let step = step_at(s, at);
+            if let Step::Junk = step {
                 c = c.past_junk(junk_run(&s[at..]));
-            } else if passes(c.opened, seen) {
-                c = c.over(seen);
+            } else if passes(c.opened, step) {
+                c = c.over(step);
             } else {
-                return c.reached(seen);
+                return c.reached(step);
             }
         }
     }
@@ -190,11 +186,11 @@ impl Cursor {
     pub fn reach(self, s: &[u8]) -> Reached
         ensures { result ≡ reached_in (next_of s.now self) }
     {
-        let seen = seen_at(s, self.at);
-        if passes(self.opened, seen) {
-            return self.over(seen).search(s);
+        let step = step_at(s, self.at);
+        if passes(self.opened, step) {
+            return self.over(step).search(s);
         }
-        self.reached(seen)
+        self.reached(step)
     }
 
     // The same as an enum.
@@ -226,14 +222,14 @@ pub fn totals(s: &[u8]) -> Counts
     let mut c = Cursor::closed();
     loop {
         let at = c.at;
-        let seen = seen_at(s, at);
-        if seen.what == FINISHED {
+        let step = step_at(s, at);
+        if let Step::Finished = step {
             return c.counts();
         }
-        if seen.what == JUNK {
+        if let Step::Junk = step {
             c = c.past_junk(junk_run(&s[at..]));
         } else {
-            c = c.over(seen);
+            c = c.over(step);
         }
     }
 }

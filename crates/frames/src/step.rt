@@ -1,8 +1,9 @@
 // What stands at a position of a capture.
 ghost use Rattle.std.specs.Prelude.{◌≡◌, ◌+◌, min};
 ghost use Rattle.frames.specs.Step.{step_at, payload_in};
-ghost use Rattle.frames.specs.Inner.{step_in};
 ghost use Rattle.frames.specs.Cursors.{no_frame};
+
+use wire::InBytes;
 
 // A frame that was found: its position, type, sender and payload length. Its payload starts at + 6.
 #[derive(Clone, Copy)]
@@ -23,25 +24,6 @@ pub enum Step {
     Found(Frame),
 }
 
-// The same in numbers, for loops that go from step to step: an enum would be stored in parts there and copied whole. needed is a short's, frame
-// the one that was found.
-#[derive(Clone, Copy)]
-pub(crate) struct Seen {
-    pub what: u8,
-    pub needed: usize,
-    pub frame: Frame,
-}
-
-pub(crate) const FINISHED: u8 = 0;
-
-pub(crate) const JUNK: u8 = 1;
-
-pub(crate) const SHORT: u8 = 2;
-
-pub(crate) const BAD: u8 = 3;
-
-const FOUND: u8 = 4;
-
 // Where none was found.
 pub(crate) fn no_frame() -> Frame
     ensures { result ≡ no_frame }
@@ -54,65 +36,35 @@ pub(crate) fn no_frame() -> Frame
     }
 }
 
-fn without_frame(what: u8, needed: usize) -> Seen
-    ensures { result ≡ record { what = what; needed = needed; frame = no_frame } }
-{
-    Seen {
-        what,
-        needed,
-        frame: no_frame(),
-    }
-}
-
-pub(crate) fn seen_at(s: &[u8], at: usize) -> Seen
-    ensures { step_in result ≡ step_at s.now at }
+pub fn step_at(s: &[u8], at: usize) -> Step
+    ensures { result ≡ step_at s.now at }
 {
     if s.len() <= at {
-        return without_frame(FINISHED, 0);
+        return Step::Finished;
     }
     if s[at] != 0x55 {
-        return without_frame(JUNK, 0);
+        return Step::Junk;
     }
     let left = s.len() - at;
     if left < 6 {
-        return without_frame(SHORT, 6);
+        return Step::Short(6);
     }
     let length = s[at + 5];
     let n = length as usize;
     if left < n + 8 {
-        return without_frame(SHORT, n + 8);
+        return Step::Short(n + 8);
     }
     let first = at + 1;
     let end = at + n + 6;
-    if crc::crc(0, &s[first..end]) != wire::read_u16(s, end) {
-        return without_frame(BAD, 0);
+    if crc::crc(0, &s[first..end]) != u16::read(s, end) {
+        return Step::Bad;
     }
-    let frame = Frame {
+    Step::Found(Frame {
         at,
-        kind: wire::read_u16(s, first),
-        sender: wire::read_u16(s, at + 3),
+        kind: u16::read(s, first),
+        sender: u16::read(s, at + 3),
         length,
-    };
-    Seen {
-        what: FOUND,
-        needed: 0,
-        frame,
-    }
-}
-
-pub fn step_at(s: &[u8], at: usize) -> Step
-    ensures { result ≡ step_at s.now at }
-{
-    let seen = seen_at(s, at);
-    let what = seen.what;
-    let frame = seen.frame;
-    match what {
-        FINISHED => Step::Finished,
-        JUNK => Step::Junk,
-        SHORT => Step::Short(seen.needed),
-        BAD => Step::Bad,
-        _ => Step::Found(frame),
-    }
+    })
 }
 
 // n bytes on from a position, or the end where that comes first.

@@ -1,8 +1,8 @@
 -- A message: its type number, its layout, and its record as a value of it. Reading a payload answers 22, then 23.
-use Rattle.std.specs.Prelude.{ℕ, ◌≡◌, refl, List, [], ◌∷◌, length}
-use Rattle.std.proofs.Common.{ap₂}
-use Rattle.layouts.specs.Field.{Field, Row}
-use Rattle.layouts.specs.Layout.{Layout, Body, lengths, allowed_body, decode_body}
+use Rattle.std.specs.Prelude.{ℕ, ◌≡◌, refl, true, List, [], ◌∷◌, length}
+use Rattle.std.proofs.Common.{ap₂, subst}
+use Rattle.layouts.specs.Field.{Field, Row, size}
+use Rattle.layouts.specs.Layout.{Layout, run, Body, lengths, LengthOf, allowed_body, few_enough, body_size, decode_body}
 use Rattle.refusals.specs.Refusals.{Answer, Call, reply}
 
 -- the type of the frames that carry it, and its layout; a record and a value of the layout are the same thing
@@ -24,6 +24,25 @@ reading d s = record { tests = (lengths d.layout (length s), 22) ∷ (allowed_bo
 
 unfoldable pub read_as : {R : Type 0} → Description R → List ℕ → Answer R
 read_as d s = reply (reading d s)
+
+-- a message of this type whose bytes are always n: nothing of it repeats
+pub record Fixed {R : Type 0} (d : Description R) (kind n : ℕ) : Type 0 where
+  pub of_kind : d.kind ≡ kind
+  pub few : (v : Body d.layout) → few_enough d.layout v ≡ true
+  pub size : (v : Body d.layout) → body_size d.layout v ≡ n
+  pub length : LengthOf d.layout n
+  pub only_length : (m : ℕ) → LengthOf d.layout m → m ≡ n
+
+-- so is each whose layout is a run of fields
+pub fixed_run : {R : Type 0} (d : Description R) {fs : List Field} → run fs ≡ d.layout → Fixed d d.kind (size fs)
+fixed_run d {fs} e =
+    record {
+      of_kind = refl;
+      few = subst (λ (l : Layout). (v : Body l) → few_enough l v ≡ true) e (λ v. refl);
+      size = subst (λ (l : Layout). (v : Body l) → body_size l v ≡ size fs) e (λ v. refl);
+      length = subst (λ (l : Layout). LengthOf l (size fs)) e refl;
+      only_length = subst (λ (l : Layout). (m : ℕ) → LengthOf l m → m ≡ size fs) e (λ m q. q);
+    }
 
 -- ---- a part of a message: a record that is a run of fields, with no type number of its own
 

@@ -3,14 +3,15 @@
 use mathlib.Core.Path.{◌≡◌, refl, sym, ap, ap₂, ◌∙◌}
 use mathlib.Core.Bool.{Bool, true, false, ◌&&◌, not, cond, false≢true, and-eq-true_iff, and-true}
 use mathlib.Core.List.{List, [], ◌∷◌, ◌++◌, append-nil}
-use Prim.Native.Nat.{ℕ, zero, suc, ◌+◌, ◌≤◌, ◌-◌, ◌<◌, zero-le}
-use native.Mathlib.Nat.{zero-add, le_refl}
+use Prim.Native.Nat.{ℕ, zero, suc, ◌+◌, ◌≤◌, ◌-◌, ◌<◌}
+use native.Mathlib.Nat.{le_refl}
 use native.Mathlib.Numerals.{add-one}
 use native.Mathlib.Omega.{arith}
 use lib.Dec.{eqb, lit<}
 use lib.ListN.{length, get_or, take, drop, length-append, take-append-drop, drop_of_length-le}
 use lib.Seq.{length-take-le, drop-length, take_at, drop_at, drop-cons}
 use borrow.Author.Tests.{eq-eqb, ne_eqb, eqb-true}
+use Rattle.std.specs.List.{list_all}
 use Rattle.wire.specs.Number.{Bytes}
 use Rattle.padded.specs.Padded.{before_zero, from_zero, no_zero, all_zero, zeros}
 
@@ -100,6 +101,12 @@ unfolding all_zero
 only_zeros [] h = refl
 only_zeros (b ∷ p) h = let q = (and-eq-true_iff (eqb b 0) (all_zero p)).0 h in ap₂ ◌∷◌ (eqb-true b 0 q.0) (only_zeros p q.1)
 
+-- a test of each byte
+pub each_zero : (s : List ℕ) → list_all (λ b. eqb b 0) s ≡ all_zero s
+unfolding all_zero
+each_zero [] = refl
+each_zero (b ∷ s) = ap (λ (t : Bool). eqb b 0 && t) (each_zero s)
+
 pub bytes_zeros : (n : ℕ) → Bytes (zeros n)
 bytes_zeros zero i = lit< tt
 bytes_zeros (suc n) zero = lit< tt
@@ -114,25 +121,13 @@ whole_text s n h none all =
 -- ---- byte after byte
 
 module _ (s : List ℕ) where
-  -- i bytes were passed, none of them zero; i were passed, all of them zero
+  -- i bytes were passed, none of them zero
   abbrev pub Passed : ℕ → Type 0
   Passed i = (i ≤ length s) × (i + length (before_zero (drop i s)) ≡ length (before_zero s))
-
-  abbrev pub Zeroed : ℕ → Type 0
-  Zeroed i = (i ≤ length s) × (all_zero (drop i s) ≡ all_zero s)
 
   -- i bytes were looked at; whether none of them is zero
   abbrev pub Clean : Bool → ℕ → Type 0
   Clean clean i = (i ≤ length s) × ((clean && no_zero (drop i s)) ≡ no_zero s)
-
-  pub none_looked_at : Clean true 0
-  none_looked_at = (zero-le, refl)
-
-  pub none_passed : Passed 0
-  none_passed = (zero-le, zero-add (length (before_zero s)))
-
-  pub none_zeroed : Zeroed 0
-  none_zeroed = (zero-le, refl)
 
   -- from n on there are zeros alone
   abbrev pub Trimmed : ℕ → Type 0
@@ -155,15 +150,13 @@ module _ (s : List ℕ) where
     ahead h = rw add-one (drop-cons s i 0 h)
 
     module _ (clean : Bool) (p : Clean clean i) where
-      pub looked_at : i < length s → Clean (cond (eqb (get_or s i 0) 0) false clean) (i + 1)
+      pub looked_at : i < length s → Clean (clean && not (eqb (get_or s i 0) 0)) (i + 1)
       unfolding no_zero
       looked_at h = (omega arith, by (eqb (get_or s i 0) 0) clean ∙ sym (ap (λ (t : List ℕ). clean && no_zero t) (ahead h)) ∙ p.1)
         where
-          by : (z c : Bool) → (cond z false c && no_zero (drop (i + 1) s)) ≡ (c && (not z && no_zero (drop (i + 1) s)))
-          by true true = refl
-          by true false = refl
-          by false true = refl
-          by false false = refl
+          by : (z c : Bool) → ((c && not z) && no_zero (drop (i + 1) s)) ≡ (c && (not z && no_zero (drop (i + 1) s)))
+          by z true = refl
+          by z false = refl
 
       pub looked_at_all : length s ≤ i → clean ≡ no_zero s
       unfolding no_zero
@@ -182,23 +175,8 @@ module _ (s : List ℕ) where
           let one : length (before_zero (drop i s)) ≡ suc (length (before_zero (drop (i + 1) s))) = rw (ahead h, ne_eqb (get_or s i 0) 0 z) in
           (omega arith, omega arith)
 
-      pub passed_all : length s ≤ i → i ≡ length (before_zero s)
+      pub passed_end : length s ≤ i → length s ≡ length (before_zero s)
       unfolding before_zero
-      passed_all h =
+      passed_end h =
           let none : length (before_zero (drop i s)) ≡ 0 = rw (drop_of_length-le s h) in
-          omega arith
-
-    module _ (p : Zeroed i) where
-      pub another : i < length s → (get_or s i 0 ≡ 0 → ⊥) → false ≡ all_zero s
-      unfolding all_zero
-      another h z = sym (rw (ahead h, ne_eqb (get_or s i 0) 0 z)) ∙ p.1
-
-      pub zeroed : i < length s → get_or s i 0 ≡ 0 → Zeroed (i + 1)
-      unfolding all_zero
-      zeroed h z =
-          let rest : all_zero (drop i s) ≡ all_zero (drop (i + 1) s) = rw (ahead h, eq-eqb (get_or s i 0) 0 z) in
-          (omega arith, sym rest ∙ p.1)
-
-      pub zeroed_all : length s ≤ i → true ≡ all_zero s
-      unfolding all_zero
-      zeroed_all h = sym (rw (drop_of_length-le s h)) ∙ p.1
+          omega (arith, h)

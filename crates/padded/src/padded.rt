@@ -5,25 +5,13 @@ ghost use Rattle.padded.specs.Padded.{before_zero, no_zero, all_zero, zeros};
 
 use wire::room;
 
-// Whether no zero was seen, before or now.
-fn clean_after(clean: bool, b: u8) -> bool
-    ensures { result ≡ cond (eqb b 0) false clean }
-{
-    if b == 0 {
-        return false;
-    }
-    clean
-}
-
 // There is no way out before the end, so that the compiler tests many bytes at once.
 pub fn no_zero(s: &[u8]) -> bool
     ensures { result ≡ no_zero s.now }
 {
     let mut clean = true;
-    let mut i = 0;
-    while i < s.len() {
-        clean = clean_after(clean, s[i]);
-        i += 1;
+    for b in s {
+        clean &= *b != 0;
     }
     clean
 }
@@ -32,27 +20,23 @@ pub fn no_zero(s: &[u8]) -> bool
 fn trimmed(s: &[u8]) -> usize
     ensures { (result ≤ length s.now) × (all_zero (drop result s.now) ≡ true) }
 {
-    let mut n = s.len();
-    while 0 < n {
-        if s[n - 1] != 0 {
-            return n;
+    for i in (0..s.len()).rev() {
+        if s[i] != 0 {
+            return i + 1;
         }
-        n -= 1;
     }
-    n
+    0
 }
 
 fn first_zero(s: &[u8]) -> usize
     ensures { result ≡ length (before_zero s.now) }
 {
-    let mut i = 0;
-    while i < s.len() {
-        if s[i] == 0 {
+    for (i, b) in s.iter().enumerate() {
+        if *b == 0 {
             return i;
         }
-        i += 1;
     }
-    i
+    s.len()
 }
 
 // How many bytes stand before the first zero. A text with zeros after it, which most are, is not searched byte by byte.
@@ -69,24 +53,14 @@ pub fn text_length(s: &[u8]) -> usize
 pub fn all_zero(s: &[u8]) -> bool
     ensures { result ≡ all_zero s.now }
 {
-    let mut i = 0;
-    while i < s.len() {
-        if s[i] != 0 {
-            return false;
-        }
-        i += 1;
-    }
-    true
+    s.iter().all(|b| *b == 0)
 }
 
 pub fn store_zeros(buf: &mut [u8], at: usize, n: usize)
     ensures { buf.new ≡ bytes_stored (zeros n) buf.old at }
 {
     if room(buf.len(), at, n) {
-        let mut i = 0;
-        while i < n {
-            buf[at + i] = 0;
-            i += 1;
-        }
+        let end = at + n;
+        buf[at..end].fill(0);
     }
 }

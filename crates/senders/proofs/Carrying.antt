@@ -7,22 +7,21 @@ use lib.Dec.{ltb, lit≤}
 use borrow.Author.Tests.{ltb-true}
 use Rattle.senders.specs.Senders.{obeyed_from42, carried_by, carried, HeldSender}
 use Rattle.senders.specs.Carries.{NotAs42, Carries, CarriesLinked}
-use Rattle.senders.specs.declared.Sender.{Sender}
-use Rattle.senders.specs.declared.Sender.TheVariants.{Named, Unnamed}
+use Rattle.std.specs.Prelude.{Option, None, Some}
 use Rattle.senders.specs.declared.Writer.{Writer}
 use Rattle.senders.proofs.Numbers.{not_obeyed, linked_given, linked_none}
 pub use Rattle.senders.proofs.Numbers.{carried_small}
 
 -- by the sender that is given
-pub as_given : (kind : ℕ) (w : Writer) {s : Sender} → w.sender ≡ s → carried_by kind w.own s ≡ carried kind w
+pub as_given : (kind : ℕ) (w : Writer) {s : Option ℕ} → w.sender ≡ s → carried_by kind w.own s ≡ carried kind w
 unfolding carried
 as_given kind w e = ap (carried_by kind w.own) (sym e)
 
 -- where none is, by the type
-pub unnamed : (kind : ℕ) (w : Writer) (t : Bool) → w.sender ≡ Unnamed → obeyed_from42 kind ≡ t → cond t 0x42 w.own ≡ carried kind w
+pub unnamed : (kind : ℕ) (w : Writer) (t : Bool) → w.sender ≡ None → obeyed_from42 kind ≡ t → cond t 0x42 w.own ≡ carried kind w
 unnamed kind w t none e = ap (λ (t : Bool). cond t 0x42 w.own) (sym e) ∙ as_given kind w none
 
-own_number : (kind own : ℕ) → NotAs42 kind → carried kind (record { own = own; sender = Unnamed }) ≡ own
+own_number : (kind own : ℕ) → NotAs42 kind → carried kind (record { own = own; sender = None }) ≡ own
 unfolding carried
 own_number kind own h = rw (not_obeyed kind h)
 
@@ -41,10 +40,10 @@ carries = record {
 -- ---- as C has it
 
 -- a number that is below another of 16 bits
-held_from : (n most : ℕ) → most ≤ 65536 → HeldSender (cond (ltb n most) (Named n) Unnamed)
+held_from : (n most : ℕ) → most ≤ 65536 → HeldSender (cond (ltb n most) (Some n) None)
 held_from n most few = by (ltb n most) (ltb-true n most)
   where
-    by : (t : Bool) → (t ≡ true → n < most) → HeldSender (cond t (Named n) Unnamed)
+    by : (t : Bool) → (t ≡ true → n < most) → HeldSender (cond t (Some n) None)
     by true h = omega (arith, h refl)
     by false h = tt
 

@@ -8,8 +8,7 @@ use lib.Dec.{lit<}
 use borrow.Author.Tests.{ne_eqb, lt-ltb, le-ltb}
 use Rattle.senders.specs.Senders.{obeyed_from42, carried_by, carried, writer_from, HeldSender, HeldWriter}
 use Rattle.senders.specs.Carries.{NotAs42}
-use Rattle.senders.specs.declared.Sender.{Sender}
-use Rattle.senders.specs.declared.Sender.TheVariants.{Named, Unnamed}
+use Rattle.std.specs.Prelude.{Option, None, Some}
 use Rattle.senders.specs.declared.Writer.{Writer}
 
 either_small : (t : Bool) {m n : ℕ} → m < 65536 → n < 65536 → cond t m n < 65536
@@ -17,9 +16,9 @@ either_small true h k = h
 either_small false h k = k
 
 module _ (kind own : ℕ) (small : own < 65536) where
-  small_by : (s : Sender) → HeldSender s → carried_by kind own s < 65536
-  small_by (Named n) h = h
-  small_by Unnamed h = either_small (obeyed_from42 kind) (lit< tt) small
+  small_by : (s : Option ℕ) → HeldSender s → carried_by kind own s < 65536
+  small_by (Some n) h = h
+  small_by None h = either_small (obeyed_from42 kind) (lit< tt) small
 
 pub carried_small : (kind : ℕ) (w : Writer) → HeldWriter w → carried kind w < 65536
 unfolding carried
@@ -35,5 +34,5 @@ module _ (kind own n : ℕ) where
   unfolding carried
   linked_given h = rw (lt-ltb n 65536 (omega arith))
 
-  pub linked_none : 65536 ≤ n → carried kind (writer_from own n) ≡ carried kind (record { own = own; sender = Unnamed })
+  pub linked_none : 65536 ≤ n → carried kind (writer_from own n) ≡ carried kind (record { own = own; sender = None })
   linked_none h = rw (le-ltb n 65536 (omega arith))

@@ -6,18 +6,11 @@
 ghost use Rattle.std.specs.Prelude.{◌≡◌};
 ghost use Rattle.senders.specs.Senders.{carried, made_with, naming, writer_from};
 
-// The sender that is given, if any.
-#[derive(Clone, Copy)]
-pub enum Sender {
-    Named(u16),
-    Unnamed,
-}
-
-// Who writes: the recorder's own number, and the sender that is given. Writers hand it on as it is.
+// Who writes: the recorder's own number, and the sender that is given, if any. Writers hand it on as it is.
 #[derive(Clone, Copy)]
 pub struct Writer {
     pub own: u16,
-    pub sender: Sender,
+    pub sender: Option<u16>,
 }
 
 impl Writer {
@@ -27,7 +20,7 @@ impl Writer {
     {
         Writer {
             own: number,
-            sender: Sender::Unnamed,
+            sender: None,
         }
     }
 
@@ -37,7 +30,7 @@ impl Writer {
     {
         Writer {
             own: self.own,
-            sender: Sender::Named(sender),
+            sender: Some(sender),
         }
     }
 }
@@ -48,8 +41,9 @@ pub fn sender_number(kind: u16, writer: Writer) -> u16
 {
     let sender = writer.sender;
     match sender {
-        Sender::Named(n) => n,
-        Sender::Unnamed => match kind {
+        Some(n) => n,
+        // types by number: the crate that names the messages stands above this one
+        None => match kind {
             0x00a1 => 0x42,
             0x00a2 => 0x42,
             _ => writer.own,
@@ -61,14 +55,8 @@ pub fn sender_number(kind: u16, writer: Writer) -> u16
 pub fn writer_from(own: u16, sender: u32) -> Writer
     ensures { result ≡ writer_from own sender }
 {
-    if sender < 65536 {
-        return Writer {
-            own: own,
-            sender: Sender::Named(sender as u16),
-        };
-    }
     Writer {
         own: own,
-        sender: Sender::Unnamed,
+        sender: u16::try_from(sender).ok(),
     }
 }

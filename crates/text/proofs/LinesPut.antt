@@ -58,9 +58,6 @@ module _ (ns : List ℕ) {n i : ℕ} (k : Summing ns n i) where
         whole = omega (arith, k.whole, longer ns i h, e, ap (λ (j : ℕ). length (fields (take j ns))) one);
       }
 
-  pub summing_end : length ns ≤ i → n ≡ length (fields ns) + 2
-  summing_end h = k.whole ∙ ap (λ (r : List ℕ). length (fields r) + 2) (take_all i ns h)
-
 -- ---- the fields, stored before an end
 
 module _ (buf : List ℕ) (end : ℕ) (ns : List ℕ) where

@@ -9,7 +9,7 @@ ghost use Rattle.wire.specs.Number.{bytes_stored};
 ghost use Rattle.text.specs.Decimal.{decimal};
 ghost use Rattle.text.specs.Line.{fields, line};
 
-// How many digits a number has.
+// How many digits a number has. It and put_digits divide until one digit is left; the must-fail edit `digits_of_base_eight` holds them.
 fn digit_count(n: u64) -> usize
     ensures { (result ≡ length (decimal n)) × (result ≤ 20) }
 {
@@ -57,13 +57,11 @@ fn put_number(buf: &mut [u8], end: usize, n: u64) -> usize
 fn line_length(numbers: [u64; 5]) -> usize
     ensures { result ≡ length (fields numbers) + 2 }
 {
-    let mut n = 2;
-    let mut i = 0;
-    while i < 5 {
-        n += digit_count(numbers[i]) + 1;
-        i += 1;
+    let mut length = 2;
+    for n in &numbers {
+        length += digit_count(*n) + 1;
     }
-    n
+    length
 }
 
 // Stores each number behind a space, the last before end: from the last to the first, so that no digits are counted again.
@@ -73,9 +71,7 @@ fn put_fields(buf: &mut [u8], end: usize, numbers: [u64; 5])
     ensures { buf.new ≡ sets buf.old (end - length (fields numbers)) (fields numbers) }
 {
     let mut to = end;
-    let mut i = 5;
-    while 0 < i {
-        i -= 1;
+    for i in (0..5).rev() {
         to = put_number(buf, to, numbers[i]);
     }
 }

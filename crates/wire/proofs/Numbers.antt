@@ -10,7 +10,7 @@ use lib.Dec.{leb, lit<}
 use lib.Arith.{mod-mul}
 use lib.ListN.{length, get_or, take, drop, set, length-drop, drop_of_length-le}
 use lib.Seq.{sets, drop-drop, drop-cons, take-nil, take_all, get_or-drop, set_out, length-sets}
-use borrow.Author.Tests.{le-leb, lt-leb, leb-true, leb-false}
+use borrow.Author.Tests.{le-leb, leb-true, leb-false}
 use Rattle.wire.specs.Number.{Bytes, little, bytes_of, number_at, stored_at}
 
 -- ---- lists of bytes
@@ -184,11 +184,3 @@ pub stored_halves : (a b n : ℕ) (s : List ℕ) (at : ℕ) {t u : List ℕ} →
     → t ≡ stored_at a (n % 256 ^ a) s at → u ≡ stored_at b (n / 256 ^ a) t (at + a) → u ≡ stored_at (a + b) n s at
 stored_halves a b n s at e p q =
     q ∙ ap (λ (t : List ℕ). stored_at b (n / 256 ^ a) t (at + a)) p ∙ halves_stored a b n s at (leb-true (at + (a + b)) (length s) e)
-
--- the test of room, made without a sum that could wrap
-pub room_left : (w at n : ℕ) → at ≤ n → leb w (n - at) ≡ leb (at + w) n
-room_left w at n h = go (leb w (n - at)) refl
-  where
-    go : (t : Bool) → leb w (n - at) ≡ t → leb w (n - at) ≡ leb (at + w) n
-    go true e = e ∙ sym (le-leb (at + w) n (omega (arith, leb-true w (n - at) e)))
-    go false e = e ∙ sym (lt-leb (at + w) n (omega (arith, leb-false w (n - at) e)))

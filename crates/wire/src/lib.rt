@@ -5,13 +5,10 @@
 
 mod bits;
 mod double;
-mod read;
 mod store;
+mod value;
 
 pub use bits::flag;
 pub use double::Double;
-pub use read::{read_double, read_s16, read_s32, read_u8, read_u16, read_u32, read_u64};
-pub use store::{
-    room, store_bytes, store_double, store_s16, store_s32, store_u8, store_u16, store_u32,
-    store_u64,
-};
+pub use store::{room, store_bytes};
+pub use value::InBytes;

@@ -12,9 +12,6 @@ loop-i-init c = let a = c.args in going_none (joined a.x) a.s.now a.from c.requi
 pub word-requires : goal.word-requires
 word-requires c = let a = c.args in room (joined a.x) a.s.now a.from c.loop-i.invariant c.loop-i-test.true
 
-pub loop-i-smaller : goal.loop-i-smaller
-loop-i-smaller c = omega (arith, c.loop-i-test.true)
-
 pub loop-i-preserved : goal.loop-i-preserved
 loop-i-preserved c =
     let a = c.args in
@@ -23,3 +20,12 @@ loop-i-preserved c =
 
 pub returns : goal.returns
 returns c = let a = c.args in going_all (joined a.x) a.s.now a.from c.loop-i.invariant c.loop-i-test.false
+
+-- no word is left after the last
+pub returns-2 : goal.returns-2
+returns-2 c =
+    let a = c.args in
+    going_all (joined a.x) a.s.now a.from
+    (going_more (joined a.x) a.s.now a.from c.loop-i.invariant c.loop-i-test.true
+    (c.turned-four.ensures ∙ ap (λ (w : ℕ). rest (then (joined c.loop-i.four) w)) c.word.ensures))
+    (omega arith)

@@ -1,12 +1,7 @@
 -- `crc::folding::turned_all` meets its contract: each turn of the loop takes the next word.
-use Prim.Native.Nat.{◌-◌}
-use lib.ListN.{length}
 use Rattle.crc.specs.Inner.{joined}
 use Rattle.crc.proofs.Loops.{Going}
 use Rattle.crc.proofs.folding.turned_all.Given as goal
 
 abbrev pub invariant-loop-i : goal.invariant-loop-i
 invariant-loop-i l = Going (joined l.initial.four) l.s l.from (joined l.four) l.i
-
-abbrev pub decreases-loop-i : goal.decreases-loop-i
-decreases-loop-i l = length l.s - l.i

@@ -5,12 +5,11 @@ use Rattle.frame_writer.proofs.WrittenPlan.{known}
 use Rattle.frame_writer.proofs.WrittenFrames.{writes_body, framed_unfit}
 use Rattle.frame_writer.proofs.write.write_frame.Goals as goal
 
-pub returns-in-Bytes : goal.returns-in-Bytes
-returns-in-Bytes c =
+pub returns-in_err-written-clause-buf_after : goal.returns-in_err-written-clause-buf_after
+returns-in_err-written-clause-buf_after c =
     let a = c.args in
-    record { result_value = c.plan-answer.ensures; buf_after = writes_body a.kind a.writer (bytes 255) a.payload.now a.buf.now (known c.plan-answer.ensures c.in-Bytes.is) c.store_bytes.ensures c.seal.ensures }
+    sym (framed_unfit a.kind a.writer a.payload.now a.buf.now (known c.plan.ensures c.in_err-written.was))
 
-pub returns-in_default : goal.returns-in_default
-returns-in_default c =
-    let a = c.args in
-    record { result_value = c.plan-answer.ensures; buf_after = sym (framed_unfit a.kind a.writer a.payload.now a.buf.now (known c.plan-answer.ensures c.in_default.is)) }
+pub returns-clause-buf_after : goal.returns-clause-buf_after
+returns-clause-buf_after c = let a = c.args in
+    writes_body a.kind a.writer (bytes 255) a.payload.now a.buf.now (known c.plan.ensures c.in_ok-written.was) c.store_bytes.ensures c.seal.ensures

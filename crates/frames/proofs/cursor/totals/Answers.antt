@@ -6,47 +6,46 @@ use Rattle.wire.proofs.Lent.{lent_all}
 use Rattle.frames.specs.Reading.{stops}
 use Rattle.frames.specs.Inner.{junk_run}
 use Rattle.frames.specs.Cursors.{Honest}
-use Rattle.frames.proofs.GoingOn.{comes_further, honest_begun, honest_past, honest_given}
+use Rattle.frames.proofs.GoingOn.{closed_on, comes_further, honest_begun, honest_past, honest_given}
 use Rattle.frames.proofs.JunkRuns.{junk_inside, past_junk_honest, past_junk_further}
-use Rattle.frames.proofs.InNumbers.{tells_finished, tells_junk, tells_more}
 use Rattle.frames.proofs.cursor.totals.Goals as goal
 
-pub loop-seen-init : goal.loop-seen-init
-loop-seen-init c =
+pub loop-c-init : goal.loop-c-init
+loop-c-init c =
     subst⁻¹ (Honest false c.args.s.now) c.closed-c.ensures (honest_begun c.args.s.now c.well_formed.0.0 false)
 
-pub returns-then-seen-eq-FINISHED : goal.returns-then-seen-eq-FINISHED
-returns-then-seen-eq-FINISHED c =
-    honest_given c.args.s.now c.well_formed.0.0 false c.loop-seen.c c.loop-seen.invariant c.seen_at-seen.ensures c.counts.ensures (ap (stops false) (sym (tells_finished c.seen_at-seen.result c.if-seen-eq-FINISHED.true)))
+pub returns-in-Finished : goal.returns-in-Finished
+returns-in-Finished c =
+    honest_given c.args.s.now c.well_formed.0.0 false c.loop-c.c c.loop-c.invariant c.step_at-step.ensures c.counts.ensures (ap (stops false) c.in-Finished.is)
 
 pub slice_bounds-junk_run-count : goal.slice_bounds-junk_run-count
 slice_bounds-junk_run-count c =
-    omega (arith, junk_inside c.args.s.now c.well_formed.0.0 c.loop-seen.c (tells_junk c.seen_at-seen.result c.if-seen-eq-JUNK.true ∙ c.seen_at-seen.ensures))
+    omega (arith, junk_inside c.args.s.now c.well_formed.0.0 c.loop-c.c (sym c.in-Junk.is ∙ c.step_at-step.ensures))
 
 pub slice_bounds-junk_run-start : goal.slice_bounds-junk_run-start
 slice_bounds-junk_run-start c = slice_bounds-junk_run-count c
 
-pub loop-seen-smaller-then-seen-eq-JUNK : goal.loop-seen-smaller-then-seen-eq-JUNK
-loop-seen-smaller-then-seen-eq-JUNK c =
+pub loop-c-smaller-in-Junk : goal.loop-c-smaller-in-Junk
+loop-c-smaller-in-Junk c =
     let s = c.args.s.now in
-    let at-junk = tells_junk c.seen_at-seen.result c.if-seen-eq-JUNK.true ∙ c.seen_at-seen.ensures in
-    let run = c.junk_run.ensures ∙ ap junk_run (lent_all c.loop-seen.c.at s) in
-    omega (arith, junk_inside s c.well_formed.0.0 c.loop-seen.c at-junk, past_junk_further s c.well_formed.0.0 c.loop-seen.c at-junk run c.past_junk-c.ensures)
+    let at-junk = sym c.in-Junk.is ∙ c.step_at-step.ensures in
+    let run = c.junk_run.ensures ∙ ap junk_run (lent_all c.loop-c.c.at s) in
+    omega (arith, junk_inside s c.well_formed.0.0 c.loop-c.c at-junk, past_junk_further s c.well_formed.0.0 c.loop-c.c at-junk run c.past_junk-c.ensures)
 
-pub loop-seen-preserved-then-seen-eq-JUNK : goal.loop-seen-preserved-then-seen-eq-JUNK
-loop-seen-preserved-then-seen-eq-JUNK c =
+pub loop-c-preserved-in-Junk : goal.loop-c-preserved-in-Junk
+loop-c-preserved-in-Junk c =
     let s = c.args.s.now in
-    let at-junk = tells_junk c.seen_at-seen.result c.if-seen-eq-JUNK.true ∙ c.seen_at-seen.ensures in
-    let run = c.junk_run.ensures ∙ ap junk_run (lent_all c.loop-seen.c.at s) in
-    past_junk_honest s c.well_formed.0.0 c.loop-seen.c at-junk run c.past_junk-c.ensures false c.loop-seen.invariant
+    let at-junk = sym c.in-Junk.is ∙ c.step_at-step.ensures in
+    let run = c.junk_run.ensures ∙ ap junk_run (lent_all c.loop-c.c.at s) in
+    past_junk_honest s c.well_formed.0.0 c.loop-c.c at-junk run c.past_junk-c.ensures false c.loop-c.invariant
 
-pub loop-seen-smaller : goal.loop-seen-smaller
-loop-seen-smaller c =
+pub loop-c-smaller : goal.loop-c-smaller
+loop-c-smaller c =
     omega (
       arith,
-      comes_further c.args.s.now c.well_formed.0.0 c.loop-seen.c c.seen_at-seen.ensures c.over-c.ensures false (tells_more c.seen_at-seen.result c.if-seen-eq-FINISHED.false),
+      comes_further c.args.s.now c.well_formed.0.0 c.loop-c.c c.step_at-step.ensures c.over-c.ensures false (closed_on c.step_at-step.result c.in_default.not-Finished),
     )
 
-pub loop-seen-preserved : goal.loop-seen-preserved
-loop-seen-preserved c =
-    honest_past c.args.s.now c.well_formed.0.0 false c.loop-seen.c c.loop-seen.invariant c.seen_at-seen.ensures c.over-c.ensures (tells_more c.seen_at-seen.result c.if-seen-eq-FINISHED.false)
+pub loop-c-preserved : goal.loop-c-preserved
+loop-c-preserved c =
+    honest_past c.args.s.now c.well_formed.0.0 false c.loop-c.c c.loop-c.invariant c.step_at-step.ensures c.over-c.ensures (closed_on c.step_at-step.result c.in_default.not-Finished)

@@ -4,8 +4,8 @@ use Rattle.std.proofs.Common.{◌-◌, false, length}
 use Rattle.frames.specs.Cursors.{Honest}
 use Rattle.frames.proofs.cursor.totals.Given as goal
 
-abbrev pub invariant-loop-seen : goal.invariant-loop-seen
-invariant-loop-seen l = Honest false l.s l.c
+abbrev pub invariant-loop-c : goal.invariant-loop-c
+invariant-loop-c l = Honest false l.s l.c
 
-abbrev pub decreases-loop-seen : goal.decreases-loop-seen
-decreases-loop-seen l = length l.s - l.c.at
+abbrev pub decreases-loop-c : goal.decreases-loop-c
+decreases-loop-c l = length l.s - l.c.at

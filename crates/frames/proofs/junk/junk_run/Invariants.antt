@@ -1,10 +1,7 @@
 -- `frames::junk::junk_run` meets its contract. The loop's invariant: the run reaches to where it stands.
-use Rattle.std.proofs.Common.{◌-◌, ◌≤◌, length}
+use Rattle.std.proofs.Common.{◌≤◌}
 use Rattle.frames.specs.Inner.{junk_run}
 use Rattle.frames.proofs.junk.junk_run.Given as goal
 
-abbrev pub invariant-loop-to : goal.invariant-loop-to
-invariant-loop-to l = l.to ≤ junk_run l.s
-
-abbrev pub decreases-loop-to : goal.decreases-loop-to
-decreases-loop-to l = length l.s - l.to
+abbrev pub invariant-loop-i : goal.invariant-loop-i
+invariant-loop-i l = l.i ≤ junk_run l.s

@@ -14,9 +14,3 @@ pub loop-to-preserved : goal.loop-to-preserved
 loop-to-preserved c =
     let s = c.args.s.now in
     run_on c.loop-to.to 32 s c.loop-to.invariant (leb-true 32 (junk_run (drop c.loop-to.to s)) (sym c.clear.ensures ∙ c.if-clear.true))
-
-pub returns-else-clear : goal.returns-else-clear
-returns-else-clear c = c.loop-to.invariant
-
-pub returns : goal.returns
-returns c = c.loop-to.invariant

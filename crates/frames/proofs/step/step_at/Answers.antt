@@ -1,19 +1,45 @@
--- `frames::step::step_at` meets its contract: the step that the numbers tell.
-use Rattle.std.proofs.Common.{◌∙◌}
-use Rattle.frames.proofs.InNumbers.{tells_finished, tells_junk, tells_short, tells_bad, tells_found}
+-- `frames::step::step_at` meets its contract: each return is one of the five lines.
+use Rattle.std.proofs.Common.{ℕ, ◌+◌, sym, ◌∙◌, ap₂, arith}
+use Rattle.frames.specs.declared.step.Step.TheVariants.{Found}
+use Rattle.frames.specs.Decides.{found, bad, cut, headless, junk, finished, size}
+use Rattle.frames.proofs.Steps.{only, summed}
 use Rattle.frames.proofs.step.step_at.Goals as goal
 
-pub returns-in-0 : goal.returns-in-0
-returns-in-0 c = tells_finished c.seen_at-seen.result c.in-0.is ∙ c.seen_at-seen.ensures
+pub returns-then-s-at : goal.returns-then-s-at
+returns-then-s-at c =
+    let a = c.args in
+    only a.s.now a.at (finished c.if-s-at.true)
 
-pub returns-in-1 : goal.returns-in-1
-returns-in-1 c = tells_junk c.seen_at-seen.result c.in-1.is ∙ c.seen_at-seen.ensures
+pub returns-then-s-at-ne85 : goal.returns-then-s-at-ne85
+returns-then-s-at-ne85 c =
+    let a = c.args in
+    only a.s.now a.at (junk c.if-s-at.false c.if-s-at-ne85.true)
 
-pub returns-in-2 : goal.returns-in-2
-returns-in-2 c = tells_short c.seen_at-seen.result c.in-2.is ∙ c.seen_at-seen.ensures
+pub returns-then-left-lt6 : goal.returns-then-left-lt6
+returns-then-left-lt6 c =
+    let a = c.args in
+    only a.s.now a.at (headless c.if-s-at.false c.if-s-at-ne85.false c.if-left-lt6.true)
 
-pub returns-in-3 : goal.returns-in-3
-returns-in-3 c = tells_bad c.seen_at-seen.result c.in-3.is ∙ c.seen_at-seen.ensures
+pub overflow_cast-n : goal.overflow_cast-n
+overflow_cast-n c = omega (arith, c.shared_slice_known-3-1.given (c.args.at + 5))
 
-pub returns-in_default : goal.returns-in_default
-returns-in_default c = tells_found c.seen_at-seen.result c.in_default.in_default-own.rest ∙ c.seen_at-seen.ensures
+pub overflow_add-n : goal.overflow_add-n
+overflow_add-n c = omega (arith, c.shared_slice_known-3-1.given (c.args.at + 5))
+
+pub returns-then-left-n : goal.returns-then-left-n
+returns-then-left-n c =
+    let a = c.args in
+    only a.s.now a.at (cut c.if-s-at-ne85.false c.if-left-lt6.false (omega arith))
+
+pub returns-then-crc-read : goal.returns-then-crc-read
+returns-then-crc-read c =
+    let a = c.args in
+    let same = summed a.s.now a.at c.crc.ensures in
+    only a.s.now a.at (bad c.if-s-at-ne85.false (omega (arith, c.if-left-n.false)) (λ e. c.if-crc-read.true (same ∙ e ∙ sym c.read.ensures)))
+
+pub returns : goal.returns
+returns c =
+    let a = c.args in
+    let same = summed a.s.now a.at c.crc.ensures in
+    ap₂ (λ (k n : ℕ). Found (record { at = a.at; kind = k; sender = n; length = size a.s.now a.at })) c.read-2.ensures c.read-3.ensures
+    ∙ only a.s.now a.at (found c.if-s-at-ne85.false c.if-left-n.false (sym same ∙ c.if-crc-read.false ∙ c.read.ensures))

@@ -1,11 +1,6 @@
 -- `padded::padded::first_zero` meets its contract: none of the bytes passed is zero.
-use Prim.Native.Nat.{◌-◌}
-use lib.ListN.{length}
 use Rattle.padded.proofs.Texts.{Passed}
 use Rattle.padded.proofs.padded.first_zero.Given as goal
 
 abbrev pub invariant-loop-i : goal.invariant-loop-i
 invariant-loop-i l = Passed l.s l.i
-
-abbrev pub decreases-loop-i : goal.decreases-loop-i
-decreases-loop-i l = length l.s - l.i
