@@ -2,13 +2,10 @@
 use Rattle.std.specs.Prelude.{refl, [], ◌∷◌}
 use Rattle.wire.specs.Value.{u8, s16}
 use Rattle.layouts.specs.Field.{any}
-use Rattle.layouts.specs.Description.{Description}
+use Rattle.layouts.specs.Description.{Description, Fixed, fixed_run}
 use Rattle.layouts.specs.Together.{loose, both, named, message}
-use Rattle.refusals.specs.Refusals.{refused, given, Answer}
 use Rattle.parts.specs.TimeOfWeek.{time_of_week}
 use Rattle.atmosphere.specs.declared.group_delay.GroupDelay.{GroupDelay}
-use Rattle.atmosphere.specs.declared.group_delay.GroupDelayRead.{GroupDelayRead}
-use Rattle.atmosphere.specs.declared.group_delay.GroupDelayRead.TheVariants.{Record, Refused}
 
 abbrev pub group_delay : Description GroupDelay
 group_delay =
@@ -19,6 +16,6 @@ group_delay =
     (λ a. refl)
     (λ r. refl))
 
-abbrev pub answer_of : GroupDelayRead → Answer GroupDelay
-answer_of (Record r) = given r
-answer_of (Refused n) = refused n
+-- it has no part that repeats
+pub fixed : Fixed group_delay 0x0092 14
+fixed = fixed_run group_delay refl

@@ -2,14 +2,11 @@
 use Rattle.std.specs.Prelude.{refl, [], ◌∷◌}
 use Rattle.wire.specs.Value.{double}
 use Rattle.layouts.specs.Field.{any}
-use Rattle.layouts.specs.Description.{Description, Part}
+use Rattle.layouts.specs.Description.{Description, Fixed, Part, fixed_run}
 use Rattle.layouts.specs.Together.{both, named, message}
-use Rattle.refusals.specs.Refusals.{refused, given, Answer}
 use Rattle.parts.specs.TimeOfWeek.{time_of_week}
 use Rattle.atmosphere.specs.declared.iono.Cubic.{Cubic}
 use Rattle.atmosphere.specs.declared.iono.Iono.{Iono}
-use Rattle.atmosphere.specs.declared.iono.IonoRead.{IonoRead}
-use Rattle.atmosphere.specs.declared.iono.IonoRead.TheVariants.{Record, Refused}
 
 -- 003's a0 to a3, and b0 to b3: in s, and by powers of a semi-circle
 abbrev pub cubic : Part Cubic
@@ -26,6 +23,6 @@ iono =
     message 0x0090
     (named (both time_of_week (both cubic cubic)) (λ r. (r.t_nmct, (r.a, r.b))) (λ v. record { t_nmct = v.0; a = v.1.0; b = v.1.1 }) (λ a. refl) (λ r. refl))
 
-abbrev pub answer_of : IonoRead → Answer Iono
-answer_of (Record r) = given r
-answer_of (Refused n) = refused n
+-- it has no part that repeats
+pub fixed : Fixed iono 0x0090 70
+fixed = fixed_run iono refl

@@ -6,11 +6,6 @@ mod group_delay;
 mod iono;
 mod sv_configuration_gps;
 
-pub use group_delay::{
-    GroupDelay, GroupDelayRead, read_group_delay, take_group_delay, write_group_delay,
-};
-pub use iono::{Cubic, Iono, IonoRead, read_iono, take_iono, write_iono};
-pub use sv_configuration_gps::{
-    SvConfigurationGps, SvConfigurationGpsRead, read_sv_configuration_gps,
-    take_sv_configuration_gps, write_sv_configuration_gps,
-};
+pub use group_delay::GroupDelay;
+pub use iono::{Cubic, Iono};
+pub use sv_configuration_gps::SvConfigurationGps;

@@ -3,11 +3,8 @@ use Rattle.std.specs.Prelude.{refl, [], ◌∷◌}
 use Rattle.wire.specs.Value.{double}
 use Rattle.layouts.specs.Field.{any}
 use Rattle.layouts.specs.Layout.{run}
-use Rattle.layouts.specs.Description.{Description}
-use Rattle.refusals.specs.Refusals.{refused, given, Answer}
+use Rattle.layouts.specs.Description.{Description, Fixed, fixed_run}
 use Rattle.base_positions.specs.declared.base_pos_ecef.BasePosEcef.{BasePosEcef}
-use Rattle.base_positions.specs.declared.base_pos_ecef.BasePosEcefRead.{BasePosEcefRead}
-use Rattle.base_positions.specs.declared.base_pos_ecef.BasePosEcefRead.TheVariants.{Record, Refused}
 
 abbrev pub base_pos_ecef : Description BasePosEcef
 base_pos_ecef = record {
@@ -19,6 +16,6 @@ base_pos_ecef = record {
   make_row = λ r. refl;
 }
 
-abbrev pub answer_of : BasePosEcefRead → Answer BasePosEcef
-answer_of (Record r) = given r
-answer_of (Refused n) = refused n
+-- it has no part that repeats
+pub fixed : Fixed base_pos_ecef 0x0048 24
+fixed = fixed_run base_pos_ecef refl

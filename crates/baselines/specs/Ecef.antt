@@ -4,12 +4,9 @@ use Rattle.std.specs.Int.{w8}
 use Rattle.wire.specs.Value.{u8, u16, u32, s32}
 use Rattle.layouts.specs.Field.{any, ranged}
 use Rattle.layouts.specs.Layout.{run}
-use Rattle.layouts.specs.Description.{Description}
-use Rattle.refusals.specs.Refusals.{refused, given, Answer}
+use Rattle.layouts.specs.Description.{Description, Fixed, fixed_run}
 use Rattle.flags.specs.Range.{fix_up_to}
 use Rattle.baselines.specs.declared.ecef.EcefVector.{EcefVector}
-use Rattle.baselines.specs.declared.ecef.EcefVectorRead.{EcefVectorRead}
-use Rattle.baselines.specs.declared.ecef.EcefVectorRead.TheVariants.{Record, Refused}
 
 abbrev pub baseline_ecef : Description EcefVector
 baseline_ecef = record {
@@ -32,6 +29,9 @@ vel_ecef = record {
   make_row = baseline_ecef.make_row;
 }
 
-abbrev pub answer_of : EcefVectorRead → Answer EcefVector
-answer_of (Record r) = given r
-answer_of (Refused n) = refused n
+-- neither has a part that repeats
+pub baseline_fixed : Fixed baseline_ecef 0x0202 20
+baseline_fixed = fixed_run baseline_ecef refl
+
+pub vel_fixed : Fixed vel_ecef 0x0204 20
+vel_fixed = fixed_run vel_ecef refl

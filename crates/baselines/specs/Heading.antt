@@ -4,12 +4,9 @@ use Rattle.std.specs.Int.{w8}
 use Rattle.wire.specs.Value.{u8, u32}
 use Rattle.layouts.specs.Field.{any, ranged}
 use Rattle.layouts.specs.Layout.{run}
-use Rattle.layouts.specs.Description.{Description}
-use Rattle.refusals.specs.Refusals.{refused, given, Answer}
+use Rattle.layouts.specs.Description.{Description, Fixed, fixed_run}
 use Rattle.flags.specs.Range.{fix_up_to}
 use Rattle.baselines.specs.declared.heading.BaselineHeading.{BaselineHeading}
-use Rattle.baselines.specs.declared.heading.BaselineHeadingRead.{BaselineHeadingRead}
-use Rattle.baselines.specs.declared.heading.BaselineHeadingRead.TheVariants.{Record, Refused}
 
 abbrev pub baseline_heading : Description BaselineHeading
 baseline_heading = record {
@@ -21,6 +18,6 @@ baseline_heading = record {
   make_row = λ r. refl;
 }
 
-abbrev pub answer_of : BaselineHeadingRead → Answer BaselineHeading
-answer_of (Record r) = given r
-answer_of (Refused n) = refused n
+-- it has no part that repeats
+pub fixed : Fixed baseline_heading 0x0207 10
+fixed = fixed_run baseline_heading refl

@@ -4,12 +4,9 @@ use Rattle.std.specs.Int.{w8}
 use Rattle.wire.specs.Value.{u8, u16, u32, s32}
 use Rattle.layouts.specs.Field.{any, ranged}
 use Rattle.layouts.specs.Layout.{run}
-use Rattle.layouts.specs.Description.{Description}
-use Rattle.refusals.specs.Refusals.{refused, given, Answer}
+use Rattle.layouts.specs.Description.{Description, Fixed, fixed_run}
 use Rattle.flags.specs.Range.{fix_up_to}
 use Rattle.baselines.specs.declared.ned.NedVector.{NedVector}
-use Rattle.baselines.specs.declared.ned.NedVectorRead.{NedVectorRead}
-use Rattle.baselines.specs.declared.ned.NedVectorRead.TheVariants.{Record, Refused}
 
 abbrev pub baseline_ned : Description NedVector
 baseline_ned = record {
@@ -32,6 +29,9 @@ vel_ned = record {
   make_row = baseline_ned.make_row;
 }
 
-abbrev pub answer_of : NedVectorRead → Answer NedVector
-answer_of (Record r) = given r
-answer_of (Refused n) = refused n
+-- neither has a part that repeats
+pub baseline_fixed : Fixed baseline_ned 0x0203 22
+baseline_fixed = fixed_run baseline_ned refl
+
+pub vel_fixed : Fixed vel_ned 0x0205 22
+vel_fixed = fixed_run vel_ned refl

@@ -1,14 +1,12 @@
 // BASELINE_ECEF, 0x0202, in mm, and VEL_ECEF, 0x0204, in mm/s: one layout, two meanings.
-ghost use Rattle.std.specs.Prelude.{◌≡◌, length};
+ghost use Rattle.std.specs.Prelude.{◌≡◌};
 ghost use Rattle.layouts.specs.Inner.{body_stored};
-ghost use Rattle.layouts.specs.Description.{inside, read_as};
-ghost use Rattle.frame_writer.specs.Writer.{written_answer};
-ghost use Rattle.frame_writer.specs.Faithful.{write_answer, written_as};
-ghost use Rattle.baselines.specs.Ecef.{baseline_ecef, vel_ecef, answer_of};
+ghost use Rattle.layouts.specs.Description.{inside};
+ghost use Rattle.baselines.specs.Ecef.{baseline_ecef, vel_ecef, baseline_fixed, vel_fixed};
 
 use flags::fix_allowed;
-use frame_writer::Written;
-use senders::Writer;
+use frame_writer::FixedMessage;
+use wire::InBytes;
 
 #[derive(Clone, Copy)]
 pub struct EcefVector {
@@ -21,83 +19,93 @@ pub struct EcefVector {
     pub flags: u8,
 }
 
-#[derive(Clone, Copy)]
-pub enum EcefVectorRead {
-    Record(EcefVector),
-    Refused(u8),
-}
-
-pub fn take_ecef(s: &[u8]) -> EcefVector
-    ensures { result ≡ inside vel_ecef s.now }
-{
-    EcefVector {
-        tow: wire::read_u32(s, 0),
-        x: wire::read_s32(s, 4),
-        y: wire::read_s32(s, 8),
-        z: wire::read_s32(s, 12),
-        accuracy: wire::read_u16(s, 16),
-        n_sats: wire::read_u8(s, 18),
-        flags: wire::read_u8(s, 19),
-    }
-}
-
-fn put(buf: &mut [u8], r: EcefVector)
-    ensures { buf.new ≡ body_stored vel_ecef.layout (vel_ecef.row r) buf.old 6 }
-{
-    wire::store_u32(buf, 6, r.tow);
-    wire::store_s32(buf, 10, r.x);
-    wire::store_s32(buf, 14, r.y);
-    wire::store_s32(buf, 18, r.z);
-    wire::store_u16(buf, 22, r.accuracy);
-    wire::store_u8(buf, 24, r.n_sats);
-    wire::store_u8(buf, 25, r.flags);
-}
-
-pub fn read_baseline_ecef(s: &[u8]) -> EcefVectorRead
-    ensures { answer_of result ≡ read_as baseline_ecef s.now }
-{
-    if s.len() != 20 {
-        return EcefVectorRead::Refused(22);
-    }
-    let r = take_ecef(s);
-    if fix_allowed(r.flags, 1) {
-        return EcefVectorRead::Record(r);
-    }
-    EcefVectorRead::Refused(23)
-}
-
-pub fn write_baseline_ecef(buf: &mut [u8], writer: Writer, r: EcefVector) -> Written
-    ensures result_value { written_answer result ≡ write_answer baseline_ecef r (length buf.old) }
-    ensures buf_after { buf.new ≡ written_as baseline_ecef writer r buf.old }
-{
-    if fix_allowed(r.flags, 1) {
-        let answer = frame_writer::plan(20, buf.len());
-        if let Written::Bytes(_) = answer {
-            put(buf, r);
-            frame_writer::seal(buf, 0x0202, writer, 20);
+// The bytes that the two have in common.
+impl EcefVector {
+    fn inside(s: &[u8]) -> EcefVector
+        ensures { result ≡ inside vel_ecef s.now }
+    {
+        EcefVector {
+            tow: u32::read(s, 0),
+            x: i32::read(s, 4),
+            y: i32::read(s, 8),
+            z: i32::read(s, 12),
+            accuracy: u16::read(s, 16),
+            n_sats: u8::read(s, 18),
+            flags: u8::read(s, 19),
         }
-        return answer;
     }
-    Written::Refused(23)
+
+    fn store(self, buf: &mut [u8])
+        ensures { buf.new ≡ body_stored vel_ecef.layout (vel_ecef.row self) buf.old 6 }
+    {
+        self.tow.store(buf, 6);
+        self.x.store(buf, 10);
+        self.y.store(buf, 14);
+        self.z.store(buf, 18);
+        self.accuracy.store(buf, 22);
+        self.n_sats.store(buf, 24);
+        self.flags.store(buf, 25);
+    }
 }
 
-pub fn read_vel_ecef(s: &[u8]) -> EcefVectorRead
-    ensures { answer_of result ≡ read_as vel_ecef s.now }
-{
-    if s.len() != 20 {
-        return EcefVectorRead::Refused(22);
+// BASELINE_ECEF: the flags have a fix mode.
+pub struct BaselineEcef;
+
+impl FixedMessage for BaselineEcef {
+    type Record = EcefVector;
+
+    const KIND: u16 = 0x0202;
+
+    const LENGTH: usize = 20;
+
+    ghost KIND = { 0x0202 };
+
+    ghost LENGTH = { 20 };
+
+    ghost description = { baseline_ecef };
+
+    fn take(s: &[u8]) -> EcefVector {
+        EcefVector::inside(s)
     }
-    EcefVectorRead::Record(take_ecef(s))
+
+    fn put(buf: &mut [u8], r: EcefVector) {
+        r.store(buf);
+    }
+
+    fn allowed(r: EcefVector) -> bool {
+        fix_allowed(r.flags, 1)
+    }
+
+    ghost fixed = { baseline_fixed };
 }
 
-pub fn write_vel_ecef(buf: &mut [u8], writer: Writer, r: EcefVector) -> Written
-    ensures result_value { written_answer result ≡ write_answer vel_ecef r (length buf.old) }
-    ensures buf_after { buf.new ≡ written_as vel_ecef writer r buf.old }
-{
-    let answer = frame_writer::plan(20, buf.len());
-    if let Written::Bytes(_) = answer {
-        put(buf, r);
-        frame_writer::seal(buf, 0x0204, writer, 20);
+// VEL_ECEF: any flags.
+pub struct VelEcef;
+
+impl FixedMessage for VelEcef {
+    type Record = EcefVector;
+
+    const KIND: u16 = 0x0204;
+
+    const LENGTH: usize = 20;
+
+    ghost KIND = { 0x0204 };
+
+    ghost LENGTH = { 20 };
+
+    ghost description = { vel_ecef };
+
+    fn take(s: &[u8]) -> EcefVector {
+        EcefVector::inside(s)
     }
-    answer
+
+    fn put(buf: &mut [u8], r: EcefVector) {
+        r.store(buf);
+    }
+
+    fn allowed(_r: EcefVector) -> bool {
+        true
+    }
+
+    ghost fixed = { vel_fixed };
 }

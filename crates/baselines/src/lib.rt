@@ -1,4 +1,4 @@
-// The baselines, velocities and heading of 003, section 6.2: records, readers and writers.
+// The baselines, velocities and heading of 003, section 6.2: their records, as messages that frame_writer reads and writes.
 // Read the description of each message in specs/, which reads like its line of document 01.
 #![tactic(auto)]
 
@@ -6,15 +6,6 @@ mod ecef;
 mod heading;
 mod ned;
 
-pub use ecef::{
-    EcefVector, EcefVectorRead, read_baseline_ecef, read_vel_ecef, take_ecef, write_baseline_ecef,
-    write_vel_ecef,
-};
-pub use heading::{
-    BaselineHeading, BaselineHeadingRead, read_baseline_heading, take_baseline_heading,
-    write_baseline_heading,
-};
-pub use ned::{
-    NedVector, NedVectorRead, read_baseline_ned, read_vel_ned, take_ned, write_baseline_ned,
-    write_vel_ned,
-};
+pub use ecef::{BaselineEcef, EcefVector, VelEcef};
+pub use heading::BaselineHeading;
+pub use ned::{BaselineNed, NedVector, VelNed};

@@ -1,14 +1,12 @@
 // BASELINE_NED, 0x0203, in mm, and VEL_NED, 0x0205, in mm/s: one layout, two meanings.
-ghost use Rattle.std.specs.Prelude.{◌≡◌, length};
+ghost use Rattle.std.specs.Prelude.{◌≡◌};
 ghost use Rattle.layouts.specs.Inner.{body_stored};
-ghost use Rattle.layouts.specs.Description.{inside, read_as};
-ghost use Rattle.frame_writer.specs.Writer.{written_answer};
-ghost use Rattle.frame_writer.specs.Faithful.{write_answer, written_as};
-ghost use Rattle.baselines.specs.Ned.{baseline_ned, vel_ned, answer_of};
+ghost use Rattle.layouts.specs.Description.{inside};
+ghost use Rattle.baselines.specs.Ned.{baseline_ned, vel_ned, baseline_fixed, vel_fixed};
 
 use flags::fix_allowed;
-use frame_writer::Written;
-use senders::Writer;
+use frame_writer::FixedMessage;
+use wire::InBytes;
 
 #[derive(Clone, Copy)]
 pub struct NedVector {
@@ -22,85 +20,95 @@ pub struct NedVector {
     pub flags: u8,
 }
 
-#[derive(Clone, Copy)]
-pub enum NedVectorRead {
-    Record(NedVector),
-    Refused(u8),
-}
-
-pub fn take_ned(s: &[u8]) -> NedVector
-    ensures { result ≡ inside vel_ned s.now }
-{
-    NedVector {
-        tow: wire::read_u32(s, 0),
-        n: wire::read_s32(s, 4),
-        e: wire::read_s32(s, 8),
-        d: wire::read_s32(s, 12),
-        h_accuracy: wire::read_u16(s, 16),
-        v_accuracy: wire::read_u16(s, 18),
-        n_sats: wire::read_u8(s, 20),
-        flags: wire::read_u8(s, 21),
-    }
-}
-
-fn put(buf: &mut [u8], r: NedVector)
-    ensures { buf.new ≡ body_stored vel_ned.layout (vel_ned.row r) buf.old 6 }
-{
-    wire::store_u32(buf, 6, r.tow);
-    wire::store_s32(buf, 10, r.n);
-    wire::store_s32(buf, 14, r.e);
-    wire::store_s32(buf, 18, r.d);
-    wire::store_u16(buf, 22, r.h_accuracy);
-    wire::store_u16(buf, 24, r.v_accuracy);
-    wire::store_u8(buf, 26, r.n_sats);
-    wire::store_u8(buf, 27, r.flags);
-}
-
-pub fn read_baseline_ned(s: &[u8]) -> NedVectorRead
-    ensures { answer_of result ≡ read_as baseline_ned s.now }
-{
-    if s.len() != 22 {
-        return NedVectorRead::Refused(22);
-    }
-    let r = take_ned(s);
-    if fix_allowed(r.flags, 1) {
-        return NedVectorRead::Record(r);
-    }
-    NedVectorRead::Refused(23)
-}
-
-pub fn write_baseline_ned(buf: &mut [u8], writer: Writer, r: NedVector) -> Written
-    ensures result_value { written_answer result ≡ write_answer baseline_ned r (length buf.old) }
-    ensures buf_after { buf.new ≡ written_as baseline_ned writer r buf.old }
-{
-    if fix_allowed(r.flags, 1) {
-        let answer = frame_writer::plan(22, buf.len());
-        if let Written::Bytes(_) = answer {
-            put(buf, r);
-            frame_writer::seal(buf, 0x0203, writer, 22);
+// The bytes that the two have in common.
+impl NedVector {
+    fn inside(s: &[u8]) -> NedVector
+        ensures { result ≡ inside vel_ned s.now }
+    {
+        NedVector {
+            tow: u32::read(s, 0),
+            n: i32::read(s, 4),
+            e: i32::read(s, 8),
+            d: i32::read(s, 12),
+            h_accuracy: u16::read(s, 16),
+            v_accuracy: u16::read(s, 18),
+            n_sats: u8::read(s, 20),
+            flags: u8::read(s, 21),
         }
-        return answer;
     }
-    Written::Refused(23)
+
+    fn store(self, buf: &mut [u8])
+        ensures { buf.new ≡ body_stored vel_ned.layout (vel_ned.row self) buf.old 6 }
+    {
+        self.tow.store(buf, 6);
+        self.n.store(buf, 10);
+        self.e.store(buf, 14);
+        self.d.store(buf, 18);
+        self.h_accuracy.store(buf, 22);
+        self.v_accuracy.store(buf, 24);
+        self.n_sats.store(buf, 26);
+        self.flags.store(buf, 27);
+    }
 }
 
-pub fn read_vel_ned(s: &[u8]) -> NedVectorRead
-    ensures { answer_of result ≡ read_as vel_ned s.now }
-{
-    if s.len() != 22 {
-        return NedVectorRead::Refused(22);
+// BASELINE_NED: the flags have a fix mode.
+pub struct BaselineNed;
+
+impl FixedMessage for BaselineNed {
+    type Record = NedVector;
+
+    const KIND: u16 = 0x0203;
+
+    const LENGTH: usize = 22;
+
+    ghost KIND = { 0x0203 };
+
+    ghost LENGTH = { 22 };
+
+    ghost description = { baseline_ned };
+
+    fn take(s: &[u8]) -> NedVector {
+        NedVector::inside(s)
     }
-    NedVectorRead::Record(take_ned(s))
+
+    fn put(buf: &mut [u8], r: NedVector) {
+        r.store(buf);
+    }
+
+    fn allowed(r: NedVector) -> bool {
+        fix_allowed(r.flags, 1)
+    }
+
+    ghost fixed = { baseline_fixed };
 }
 
-pub fn write_vel_ned(buf: &mut [u8], writer: Writer, r: NedVector) -> Written
-    ensures result_value { written_answer result ≡ write_answer vel_ned r (length buf.old) }
-    ensures buf_after { buf.new ≡ written_as vel_ned writer r buf.old }
-{
-    let answer = frame_writer::plan(22, buf.len());
-    if let Written::Bytes(_) = answer {
-        put(buf, r);
-        frame_writer::seal(buf, 0x0205, writer, 22);
+// VEL_NED: any flags.
+pub struct VelNed;
+
+impl FixedMessage for VelNed {
+    type Record = NedVector;
+
+    const KIND: u16 = 0x0205;
+
+    const LENGTH: usize = 22;
+
+    ghost KIND = { 0x0205 };
+
+    ghost LENGTH = { 22 };
+
+    ghost description = { vel_ned };
+
+    fn take(s: &[u8]) -> NedVector {
+        NedVector::inside(s)
     }
-    answer
+
+    fn put(buf: &mut [u8], r: NedVector) {
+        r.store(buf);
+    }
+
+    fn allowed(_r: NedVector) -> bool {
+        true
+    }
+
+    ghost fixed = { vel_fixed };
 }

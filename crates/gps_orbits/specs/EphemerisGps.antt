@@ -2,9 +2,8 @@
 use Rattle.std.specs.Prelude.{refl, [], ◌∷◌}
 use Rattle.wire.specs.Value.{u8, u16, double}
 use Rattle.layouts.specs.Field.{any}
-use Rattle.layouts.specs.Description.{Description, Part}
+use Rattle.layouts.specs.Description.{Description, Fixed, Part, fixed_run}
 use Rattle.layouts.specs.Together.{loose, both, named, message}
-use Rattle.refusals.specs.Refusals.{refused, given, Answer}
 use Rattle.parts.specs.TimeOfWeek.{time_of_week}
 use Rattle.parts.specs.Common.{common}
 use Rattle.gps_orbits.specs.declared.elements.Harmonics.{Harmonics}
@@ -12,8 +11,6 @@ use Rattle.gps_orbits.specs.declared.elements.Ellipse.{Ellipse}
 use Rattle.gps_orbits.specs.declared.elements.Plane.{Plane}
 use Rattle.gps_orbits.specs.declared.clock.Clock.{Clock}
 use Rattle.gps_orbits.specs.declared.ephemeris_gps.EphemerisGps.{EphemerisGps}
-use Rattle.gps_orbits.specs.declared.ephemeris_gps.EphemerisGpsRead.{EphemerisGpsRead}
-use Rattle.gps_orbits.specs.declared.ephemeris_gps.EphemerisGpsRead.TheVariants.{Record, Refused}
 
 -- amplitudes of the sine and cosine corrections to the radius (m), the argument of latitude and the inclination (rad)
 abbrev pub harmonics : Part Harmonics
@@ -64,6 +61,6 @@ ephemeris_gps =
     (λ a. refl)
     (λ r. refl))
 
-abbrev pub answer_of : EphemerisGpsRead → Answer EphemerisGps
-answer_of (Record r) = given r
-answer_of (Refused n) = refused n
+-- it has no part that repeats
+pub fixed : Fixed ephemeris_gps 0x0081 185
+fixed = fixed_run ephemeris_gps refl

@@ -3,8 +3,8 @@ ghost use Rattle.std.specs.Prelude.{◌≡◌};
 ghost use Rattle.layouts.specs.Together.{taken_at, put_at};
 ghost use Rattle.gps_orbits.specs.EphemerisGps.{clock};
 
-use parts::{TimeOfWeek, time_of_week};
-use wire::Double;
+use parts::TimeOfWeek;
+use wire::{Double, InBytes};
 
 #[derive(Clone, Copy)]
 pub struct Clock {
@@ -14,22 +14,24 @@ pub struct Clock {
     pub toc: TimeOfWeek,
 }
 
-pub(crate) fn take(s: &[u8]) -> Clock
-    ensures { result ≡ taken_at clock s.now 152 }
-{
-    Clock {
-        af0: wire::read_double(s, 152),
-        af1: wire::read_double(s, 160),
-        af2: wire::read_double(s, 168),
-        toc: time_of_week::take(s, 176),
+impl Clock {
+    pub(crate) fn take(s: &[u8]) -> Clock
+        ensures { result ≡ taken_at clock s.now 152 }
+    {
+        Clock {
+            af0: Double::read(s, 152),
+            af1: Double::read(s, 160),
+            af2: Double::read(s, 168),
+            toc: TimeOfWeek::take(s, 176),
+        }
     }
-}
 
-pub(crate) fn put(buf: &mut [u8], r: Clock)
-    ensures { buf.new ≡ put_at clock r buf.old 158 }
-{
-    wire::store_double(buf, 158, r.af0);
-    wire::store_double(buf, 166, r.af1);
-    wire::store_double(buf, 174, r.af2);
-    time_of_week::put(buf, 182, r.toc);
+    pub(crate) fn put(self, buf: &mut [u8])
+        ensures { buf.new ≡ put_at clock self buf.old 158 }
+    {
+        self.af0.store(buf, 158);
+        self.af1.store(buf, 166);
+        self.af2.store(buf, 174);
+        self.toc.put(buf, 182);
+    }
 }

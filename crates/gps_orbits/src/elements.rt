@@ -3,7 +3,7 @@ ghost use Rattle.std.specs.Prelude.{◌≡◌};
 ghost use Rattle.layouts.specs.Together.{taken_at, put_at};
 ghost use Rattle.gps_orbits.specs.EphemerisGps.{harmonics, ellipse, plane};
 
-use wire::Double;
+use wire::{Double, InBytes};
 
 // Sine and cosine corrections to the radius, the argument of latitude and the inclination.
 #[derive(Clone, Copy)]
@@ -16,6 +16,32 @@ pub struct Harmonics {
     pub c_is: Double,
 }
 
+impl Harmonics {
+    pub(crate) fn take(s: &[u8]) -> Harmonics
+        ensures { result ≡ taken_at harmonics s.now 32 }
+    {
+        Harmonics {
+            c_rs: Double::read(s, 32),
+            c_rc: Double::read(s, 40),
+            c_uc: Double::read(s, 48),
+            c_us: Double::read(s, 56),
+            c_ic: Double::read(s, 64),
+            c_is: Double::read(s, 72),
+        }
+    }
+
+    pub(crate) fn put(self, buf: &mut [u8])
+        ensures { buf.new ≡ put_at harmonics self buf.old 38 }
+    {
+        self.c_rs.store(buf, 38);
+        self.c_rc.store(buf, 46);
+        self.c_uc.store(buf, 54);
+        self.c_us.store(buf, 62);
+        self.c_ic.store(buf, 70);
+        self.c_is.store(buf, 78);
+    }
+}
+
 // How the satellite goes along its orbit.
 #[derive(Clone, Copy)]
 pub struct Ellipse {
@@ -23,6 +49,28 @@ pub struct Ellipse {
     pub m0: Double,
     pub ecc: Double,
     pub sqrta: Double,
+}
+
+impl Ellipse {
+    pub(crate) fn take(s: &[u8]) -> Ellipse
+        ensures { result ≡ taken_at ellipse s.now 80 }
+    {
+        Ellipse {
+            dn: Double::read(s, 80),
+            m0: Double::read(s, 88),
+            ecc: Double::read(s, 96),
+            sqrta: Double::read(s, 104),
+        }
+    }
+
+    pub(crate) fn put(self, buf: &mut [u8])
+        ensures { buf.new ≡ put_at ellipse self buf.old 86 }
+    {
+        self.dn.store(buf, 86);
+        self.m0.store(buf, 94);
+        self.ecc.store(buf, 102);
+        self.sqrta.store(buf, 110);
+    }
 }
 
 // How its orbit lies in space.
@@ -35,68 +83,26 @@ pub struct Plane {
     pub inc_dot: Double,
 }
 
-pub(crate) fn take_harmonics(s: &[u8]) -> Harmonics
-    ensures { result ≡ taken_at harmonics s.now 32 }
-{
-    Harmonics {
-        c_rs: wire::read_double(s, 32),
-        c_rc: wire::read_double(s, 40),
-        c_uc: wire::read_double(s, 48),
-        c_us: wire::read_double(s, 56),
-        c_ic: wire::read_double(s, 64),
-        c_is: wire::read_double(s, 72),
+impl Plane {
+    pub(crate) fn take(s: &[u8]) -> Plane
+        ensures { result ≡ taken_at plane s.now 112 }
+    {
+        Plane {
+            omega0: Double::read(s, 112),
+            omegadot: Double::read(s, 120),
+            w: Double::read(s, 128),
+            inc: Double::read(s, 136),
+            inc_dot: Double::read(s, 144),
+        }
     }
-}
 
-pub(crate) fn put_harmonics(buf: &mut [u8], r: Harmonics)
-    ensures { buf.new ≡ put_at harmonics r buf.old 38 }
-{
-    wire::store_double(buf, 38, r.c_rs);
-    wire::store_double(buf, 46, r.c_rc);
-    wire::store_double(buf, 54, r.c_uc);
-    wire::store_double(buf, 62, r.c_us);
-    wire::store_double(buf, 70, r.c_ic);
-    wire::store_double(buf, 78, r.c_is);
-}
-
-pub(crate) fn take_ellipse(s: &[u8]) -> Ellipse
-    ensures { result ≡ taken_at ellipse s.now 80 }
-{
-    Ellipse {
-        dn: wire::read_double(s, 80),
-        m0: wire::read_double(s, 88),
-        ecc: wire::read_double(s, 96),
-        sqrta: wire::read_double(s, 104),
+    pub(crate) fn put(self, buf: &mut [u8])
+        ensures { buf.new ≡ put_at plane self buf.old 118 }
+    {
+        self.omega0.store(buf, 118);
+        self.omegadot.store(buf, 126);
+        self.w.store(buf, 134);
+        self.inc.store(buf, 142);
+        self.inc_dot.store(buf, 150);
     }
-}
-
-pub(crate) fn put_ellipse(buf: &mut [u8], r: Ellipse)
-    ensures { buf.new ≡ put_at ellipse r buf.old 86 }
-{
-    wire::store_double(buf, 86, r.dn);
-    wire::store_double(buf, 94, r.m0);
-    wire::store_double(buf, 102, r.ecc);
-    wire::store_double(buf, 110, r.sqrta);
-}
-
-pub(crate) fn take_plane(s: &[u8]) -> Plane
-    ensures { result ≡ taken_at plane s.now 112 }
-{
-    Plane {
-        omega0: wire::read_double(s, 112),
-        omegadot: wire::read_double(s, 120),
-        w: wire::read_double(s, 128),
-        inc: wire::read_double(s, 136),
-        inc_dot: wire::read_double(s, 144),
-    }
-}
-
-pub(crate) fn put_plane(buf: &mut [u8], r: Plane)
-    ensures { buf.new ≡ put_at plane r buf.old 118 }
-{
-    wire::store_double(buf, 118, r.omega0);
-    wire::store_double(buf, 126, r.omegadot);
-    wire::store_double(buf, 134, r.w);
-    wire::store_double(buf, 142, r.inc);
-    wire::store_double(buf, 150, r.inc_dot);
 }

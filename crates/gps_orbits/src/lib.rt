@@ -8,6 +8,4 @@ mod ephemeris_gps;
 
 pub use clock::Clock;
 pub use elements::{Ellipse, Harmonics, Plane};
-pub use ephemeris_gps::{
-    EphemerisGps, EphemerisGpsRead, read_ephemeris_gps, take_ephemeris_gps, write_ephemeris_gps,
-};
+pub use ephemeris_gps::EphemerisGps;

@@ -3,21 +3,20 @@ use mathlib.Core.Path.{◌≡◌, refl, sym, ap, ap₂, ◌∙◌}
 use mathlib.Core.Bool.{Bool, true, false, ◌&&◌, cond, and-true}
 use mathlib.Core.List.{List, [], ◌∷◌, ◌++◌}
 use mathlib.Core.Logic.{◌↔◌, inl, inr}
-use Prim.Native.Nat.{ℕ, zero, suc, ◌+◌, ◌-◌, ◌<◌}
+use Prim.Native.Nat.{ℕ, zero, suc, ◌+◌, ◌<◌}
 use native.Mathlib.Omega.{arith}
 use lib.Dec.{leb, lit<}
 use lib.ListN.{length, get_or, take, drop, length-replicate}
 use lib.Seq.{get_or-drop}
 use borrow.Author.Tests.{leb-false, eqb-false}
-use Rattle.wire.specs.Number.{Bytes, number_at}
+use Rattle.wire.specs.Number.{Bytes}
 use Rattle.padded.specs.Padded.{before_zero, from_zero, no_zero, zeros}
 use Rattle.layouts.specs.Layout.{allowed_body, few_enough, body_size, decode_body}
 use Rattle.layouts.specs.Inner.{body_stored}
 use Rattle.layouts.specs.Description.{inside, reading, read_as}
 use Rattle.refusals.specs.Refusals.{refused, given, Answer, ordered, FirstFails, AllPass}
 use Rattle.refusals.proofs.Ordered.{exactly_first, exactly_all}
-use Rattle.wire.proofs.Lent.{lent_from, lent_all}
-use Rattle.padded.proofs.Texts.{before_from, length-split, before_take, from_drop, no_zero_before, split_joined, all_zeros, only_zeros, bytes_zeros}
+use Rattle.padded.proofs.Texts.{before_from, before_take, from_drop, no_zero_before, split_joined, all_zeros, only_zeros, bytes_zeros}
 use Rattle.senders.specs.Senders.{HeldWriter}
 use Rattle.senders.specs.declared.Writer.{Writer}
 use Rattle.frames.specs.Step.{payload_in}
@@ -32,23 +31,13 @@ use Rattle.logs.proofs.AfterZeros.{after_zero, zero_before}
 
 -- ---- what stands after the level
 
--- nothing has nothing there
-pub level_none : (s : List ℕ) → length s < 1 → s ≡ drop 1 s
-level_none [] h = refl
-level_none (b ∷ s) h = absurd (omega arith)
-
--- how long the text and the padding are that stand there
+-- the text and the padding that stand there
 module _ (s : List ℕ) {rest : List ℕ} {n : ℕ} (after : rest ≡ drop 1 s) (long : n ≡ length (before_zero rest)) where
   pub text_part : take n rest ≡ text_in s
   text_part = ap (λ (n : ℕ). take n rest) long ∙ before_take rest ∙ ap before_zero after
 
-  pub padding_part : lent_from n rest ≡ from_zero (drop 1 s)
-  padding_part = lent_all n rest ∙ ap (λ (n : ℕ). drop n rest) long ∙ from_drop rest ∙ ap from_zero after
-
-  pub both_shown : {level : ℕ} → level ≡ number_at 1 s 0 → ◌≡◌ {A = Log} (record { level = level; length = n; padding = length rest - n }) (shown (inside log s))
-  both_shown e =
-      let padding : length rest - n ≡ length (from_zero (drop 1 s)) = omega (arith, length-split rest, ap (λ (t : List ℕ). length (from_zero t)) after) in
-      λ i. record { level = e i; length = (long ∙ ap (λ (t : List ℕ). length (before_zero t)) after) i; padding = padding i }
+  pub padding_part : drop n rest ≡ from_zero (drop 1 s)
+  padding_part = ap (λ (n : ℕ). drop n rest) long ∙ from_drop rest ∙ ap from_zero after
 
 -- ---- read
 
@@ -106,7 +95,7 @@ module _ (level : ℕ) (text : List ℕ) (padding : ℕ) where
 
   module _ (w : Writer) (buf : List ℕ) where
     -- the writer's answer, and the buffer as it leaves it
-    abbrev Wrote : Answer ℕ → List ℕ → Type 0
+    abbrev pub Wrote : Answer ℕ → List ℕ → Type 0
     Wrote = promised.Wrote log w r buf
 
     pub wrote_23 : no_zero text ≡ false → Wrote (refused 23) buf

@@ -6,10 +6,8 @@ use Rattle.wire.specs.Value.{u8}
 use Rattle.layouts.specs.Field.{any}
 use Rattle.layouts.specs.Layout.{then, text, lengths}
 use Rattle.layouts.specs.Description.{Description, inside, reading}
-use Rattle.refusals.specs.Refusals.{refused, given, Answer, Call, reply}
+use Rattle.refusals.specs.Refusals.{Answer, Call, reply}
 use Rattle.logs.specs.declared.log.Log.{Log}
-use Rattle.logs.specs.declared.log.LogRead.{LogRead}
-use Rattle.logs.specs.declared.log.LogRead.TheVariants.{Record, Refused}
 
 -- what a LOG payload holds; the padding are the bytes after the text, which have to be zero
 pub record Logged : Type 0 where
@@ -42,10 +40,6 @@ reading_log s = record { tests = (reading log s).tests; value = shown (inside lo
 
 unfoldable pub read_log : List ℕ → Answer Log
 read_log s = reply (reading_log s)
-
-abbrev pub log_answer : LogRead → Answer Log
-log_answer (Record r) = given r
-log_answer (Refused n) = refused n
 
 -- the two tests, as document 01's table has them: n is the length of a payload; nothing but zeros stands after the text
 abbrev pub log_length : ℕ → Bool

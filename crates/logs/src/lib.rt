@@ -4,4 +4,4 @@
 
 mod log;
 
-pub use log::{Log, LogRead, is_log_length, log_padded, log_text, read_log, take_log, write_log};
+pub use log::{Log, is_log_length, log_padded, log_text, read_log, take_log, write_log};

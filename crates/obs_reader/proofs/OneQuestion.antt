@@ -2,7 +2,7 @@
 use mathlib.Core.Path.{◌≡◌, refl, sym, ap, ◌∙◌}
 use mathlib.Core.Bool.{Bool, true, false}
 use mathlib.Core.List.{List}
-use Prim.Native.Nat.{ℕ, suc, ◌+◌, ◌^◌, ◌≤◌, ◌<◌}
+use Prim.Native.Nat.{ℕ, suc, ◌+◌, ◌≤◌, ◌<◌}
 use native.Mathlib.Nat.{add-zero}
 use native.Mathlib.Numerals.{add-one}
 use native.Mathlib.Omega.{arith}
@@ -16,19 +16,17 @@ use Rattle.observation.specs.Obs.{entry_at, read_entry_of}
 use Rattle.observation.specs.declared.entry.Observation.{Observation}
 use Rattle.observation.proofs.Editions.{whole}
 use Rattle.observation.proofs.ObsReading.{entry_22, entry_25, entry_given, of_obs, of_21}
-use Rattle.obs_reader.specs.Reader.{moved_by, at_after}
+use Rattle.obs_reader.specs.Reader.{moved_by, at_after, asked}
+use Rattle.obs_reader.specs.declared.ObsReader.{ObsReader}
 
 module _ (kind : ℕ) (s : List ℕ) (i : ℕ) where
-  -- from an answer and a distance that were found apart, as the code finds them
-  pub stands_at : {a : Answer Observation} {m : ℕ} → m ≡ moved_by a → a ≡ read_entry_of kind s i → i + m ≡ at_after kind s i
-  unfolding at_after
-  stands_at e r = ap (λ (m : ℕ). i + m) (e ∙ ap moved_by r)
-
   moves_on : {o : Observation} → read_entry_of kind s i ≡ given o → at_after kind s i ≡ i + 1
-  moves_on r = sym (stands_at refl (sym r))
+  unfolding at_after
+  moves_on r = ap (λ (a : Answer Observation). i + moved_by a) r
 
   pub stays : {n : ℕ} → read_entry_of kind s i ≡ refused n → at_after kind s i ≡ i
-  stays r = sym (stands_at refl (sym r)) ∙ add-zero i
+  unfolding at_after
+  stays r = ap (λ (a : Answer Observation). i + moved_by a) r ∙ add-zero i
 
   -- ---- over an observation type
 
@@ -47,7 +45,7 @@ module _ (kind : ℕ) (s : List ℕ) (i : ℕ) where
 
   -- ---- an observation stands below 15, so where the reader stands stays a number of the machine
 
-  at_small : {o : Observation} → read_entry_of kind s i ≡ given o → i < 15
+  pub at_small : {o : Observation} → read_entry_of kind s i ≡ given o → i < 15
   at_small g = typed (is_obs kind) refl
     where
       within : (t : Bool) → is_obs kind ≡ true → fitting first (length s) ≡ true → ltb i (count_in first (length s)) ≡ t → i < 15
@@ -62,9 +60,11 @@ module _ (kind : ℕ) (s : List ℕ) (i : ℕ) where
       typed true is = fits (fitting first (length s)) is refl
       typed false is = absurd (never_both g (of_21 s i kind is))
 
-  pub at_fits : i < 2 ^ 64 → at_after kind s i < 2 ^ 64
-  at_fits h = by (read_entry_of kind s i) refl
-    where
-      by : (a : Answer Observation) → read_entry_of kind s i ≡ a → at_after kind s i < 2 ^ 64
-      by (given o) r = omega (arith, moves_on r, at_small r)
-      by (refused n) r = omega (arith, stays r)
+-- ---- the reader itself
+
+module _ (r : ObsReader) where
+  pub asked_given : {o : Observation} → read_entry_of r.kind r.payload.now r.at ≡ given o → record { kind = r.kind; payload = r.payload; at = r.at + 1 } ≡ asked r
+  asked_given g = λ i. record { kind = r.kind; payload = r.payload; at = sym (moves_on r.kind r.payload.now r.at g) i }
+
+  pub asked_refused : {n : ℕ} → read_entry_of r.kind r.payload.now r.at ≡ refused n → r ≡ asked r
+  asked_refused g = λ i. record { kind = r.kind; payload = r.payload; at = sym (stays r.kind r.payload.now r.at g) i }

@@ -21,7 +21,7 @@ use Rattle.obs_writer.proofs.ObsLong.{first_rows, sized}
 
 module _ {H O : Type 0} (e : Edition H O) (w : Writer) (h : H) (k : ℕ) (os : List O) (buf : List ℕ) where
   -- what the writer answers, and the buffer as it leaves it
-  abbrev Wrote : Answer ℕ → List ℕ → Type 0
+  abbrev pub Wrote : Answer ℕ → List ℕ → Type 0
   Wrote a u = (a ≡ obs_write_answer e k (length buf)) × (u ≡ obs_written e w h k os buf)
 
   left_alone : {n : ℕ} → obs_write_answer e k (length buf) ≡ refused n → buf ≡ obs_written e w h k os buf

@@ -2,14 +2,10 @@
 -- edition.
 use Rattle.std.specs.Prelude.{ℕ, List, [], ◌∷◌, ltb, length}
 use Rattle.layouts.specs.Field.{decode}
-use Rattle.refusals.specs.Refusals.{refused, given, Answer, Call, reply}
+use Rattle.refusals.specs.Refusals.{Answer, Call, reply}
 use Rattle.observation.specs.Edition.{Edition, Observed, fitting, count_in, start_of, Head, first, is_obs}
 use Rattle.observation.specs.declared.entry.Observation.{Observation}
-use Rattle.observation.specs.declared.entry.ObservationRead.{ObservationRead}
-use Rattle.observation.specs.declared.entry.ObservationRead.TheVariants as entry
 use Rattle.observation.specs.declared.obs.Obs.{Obs}
-use Rattle.observation.specs.declared.obs.ObsRead.{ObsRead}
-use Rattle.observation.specs.declared.obs.ObsRead.TheVariants as obs
 
 module _ {H O : Type 0} (e : Edition H O) where
   -- ---- one observation
@@ -34,10 +30,6 @@ one_of_frame kind s i = record { tests = (is_obs kind, 21) ∷ (one_observation 
 unfoldable pub read_entry_of : ℕ → List ℕ → ℕ → Answer Observation
 read_entry_of kind s i = reply (one_of_frame kind s i)
 
-abbrev pub entry_answer : ObservationRead → Answer Observation
-entry_answer (entry.Record r) = given r
-entry_answer (entry.Refused n) = refused n
-
 -- of a whole OBS the code shows the header, and how many observations follow
 abbrev pub shown : Observed Head Observation → Obs
 shown r = record { tow = r.header.tow; wn = r.header.wn; n_obs = r.header.n_obs; count = length r.observations }
@@ -53,7 +45,3 @@ reading_obs s = record { tests = (fitting first (length s), 22) ∷ []; value = 
 
 unfoldable pub read_obs : List ℕ → Answer Obs
 read_obs s = reply (reading_obs s)
-
-abbrev pub obs_answer : ObsRead → Answer Obs
-obs_answer (obs.Record r) = given r
-obs_answer (obs.Refused n) = refused n

@@ -2,9 +2,12 @@
 ghost use Rattle.std.specs.Prelude.{◌≡◌};
 ghost use Rattle.layouts.specs.Field.{decode};
 ghost use Rattle.observation.specs.Edition.{observation, first};
-ghost use Rattle.observation.specs.Obs.{read_entry, read_entry_of, entry_answer};
+ghost use Rattle.observation.specs.Obs.{read_entry, read_entry_of};
+ghost use Rattle.refusals.specs.Numbers.{answer_of};
 
 use crate::obs::{EACH, HEAD, is_obs, is_obs_length};
+use refusals::Refusal;
+use wire::InBytes;
 
 // 003's P, L.i, L.f, cn0, lock, sid.sat, sid.code and sid.reserved.
 #[derive(Clone, Copy)]
@@ -19,48 +22,44 @@ pub struct Observation {
     pub reserved: u8,
 }
 
-#[derive(Clone, Copy)]
-pub enum ObservationRead {
-    Record(Observation),
-    Refused(u8),
-}
-
 fn take(s: &[u8]) -> Observation
     ensures { result ≡ observation.make (decode observation.fields s.now 0) }
 {
     Observation {
-        p: wire::read_u32(s, 0),
-        l_i: wire::read_s32(s, 4),
-        l_f: wire::read_u8(s, 8),
-        cn0: wire::read_u8(s, 9),
-        lock: wire::read_u16(s, 10),
-        sat: wire::read_u16(s, 12),
-        code: wire::read_u8(s, 14),
-        reserved: wire::read_u8(s, 15),
+        p: u32::read(s, 0),
+        l_i: i32::read(s, 4),
+        l_f: u8::read(s, 8),
+        cn0: u8::read(s, 9),
+        lock: u16::read(s, 10),
+        sat: u16::read(s, 12),
+        code: u8::read(s, 14),
+        reserved: u8::read(s, 15),
     }
 }
 
 // Observation i of a payload: 22 where the payload is no OBS, then 25 where it has no such observation.
-pub fn read_observation(s: &[u8], i: usize) -> ObservationRead
-    ensures { entry_answer result ≡ read_entry first s.now i }
+#[tactic(auto, unfolding(crate::specs::Obs::read_entry))]
+pub fn read_observation(s: &[u8], i: usize) -> Result<Observation, Refusal>
+    ensures { answer_of result ≡ read_entry first s.now i }
 {
-    if is_obs_length(s.len()) {
-        if i < (s.len() - HEAD) / EACH {
-            let start = HEAD + i * EACH;
-            let end = start + EACH;
-            return ObservationRead::Record(take(&s[start..end]));
-        }
-        return ObservationRead::Refused(25);
+    if !is_obs_length(s.len()) {
+        return Err(Refusal::WrongLength);
     }
-    ObservationRead::Refused(22)
+    if i < (s.len() - HEAD) / EACH {
+        let start = HEAD + i * EACH;
+        let end = start + EACH;
+        return Ok(take(&s[start..end]));
+    }
+    Err(Refusal::NoObservation)
 }
 
 // The same of a frame's payload by the frame's type: 21 where that is no observation type, then 22, 25.
-pub fn read_observation_of(kind: u16, s: &[u8], i: usize) -> ObservationRead
-    ensures { entry_answer result ≡ read_entry_of kind s.now i }
+#[tactic(auto, unfolding(crate::specs::Obs::read_entry, crate::specs::Obs::read_entry_of))]
+pub fn read_observation_of(kind: u16, s: &[u8], i: usize) -> Result<Observation, Refusal>
+    ensures { answer_of result ≡ read_entry_of kind s.now i }
 {
     if is_obs(kind) {
         return read_observation(s, i);
     }
-    ObservationRead::Refused(21)
+    Err(Refusal::UnknownType)
 }

@@ -5,5 +5,5 @@
 mod entry;
 mod obs;
 
-pub use entry::{Observation, ObservationRead, read_observation, read_observation_of};
-pub use obs::{EACH, HEAD, MOST, Obs, ObsRead, is_obs, is_obs_length, read_obs};
+pub use entry::{Observation, read_observation, read_observation_of};
+pub use obs::{EACH, HEAD, MOST, Obs, is_obs, is_obs_length, read_obs};

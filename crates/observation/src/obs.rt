@@ -1,7 +1,11 @@
 // OBS, 0x0049: the header and the number of observations that follow.
 ghost use Rattle.std.specs.Prelude.{◌≡◌};
 ghost use Rattle.observation.specs.Edition.{fitting, first, is_obs};
-ghost use Rattle.observation.specs.Obs.{read_obs, obs_answer};
+ghost use Rattle.observation.specs.Obs.{read_obs};
+ghost use Rattle.refusals.specs.Numbers.{answer_of};
+
+use refusals::Refusal;
+use wire::InBytes;
 
 // The first edition's sizes (specs/Edition.antt says them by its fields): of the header, of one observation, and how many at most.
 pub const HEAD: usize = 7;
@@ -19,13 +23,8 @@ pub struct Obs {
     pub count: u8,
 }
 
-#[derive(Clone, Copy)]
-pub enum ObsRead {
-    Record(Obs),
-    Refused(u8),
-}
-
 // Whether a frame of this type is an observation frame.
+#[tactic(auto, unfolding(crate::specs::Edition::is_obs))]
 pub fn is_obs(kind: u16) -> bool
     ensures { result ≡ is_obs kind }
 {
@@ -36,25 +35,20 @@ pub fn is_obs(kind: u16) -> bool
 pub fn is_obs_length(n: usize) -> bool
     ensures { result ≡ fitting first n }
 {
-    if n < HEAD {
-        return false;
-    }
-    if (n - HEAD) % EACH != 0 {
-        return false;
-    }
-    (n - HEAD) / EACH <= MOST
+    n >= HEAD && (n - HEAD) % EACH == 0 && (n - HEAD) / EACH <= MOST
 }
 
-pub fn read_obs(s: &[u8]) -> ObsRead
-    ensures { obs_answer result ≡ read_obs s.now }
+#[tactic(auto, unfolding(crate::specs::Obs::read_obs))]
+pub fn read_obs(s: &[u8]) -> Result<Obs, Refusal>
+    ensures { answer_of result ≡ read_obs s.now }
 {
-    if is_obs_length(s.len()) {
-        return ObsRead::Record(Obs {
-            tow: wire::read_u32(s, 0),
-            wn: wire::read_u16(s, 4),
-            n_obs: wire::read_u8(s, 6),
-            count: ((s.len() - HEAD) / EACH) as u8,
-        });
+    if !is_obs_length(s.len()) {
+        return Err(Refusal::WrongLength);
     }
-    ObsRead::Refused(22)
+    Ok(Obs {
+        tow: u32::read(s, 0),
+        wn: u16::read(s, 4),
+        n_obs: u8::read(s, 6),
+        count: ((s.len() - HEAD) / EACH) as u8,
+    })
 }

@@ -2,14 +2,11 @@
 use Rattle.std.specs.Prelude.{refl, [], ◌∷◌}
 use Rattle.wire.specs.Value.{double}
 use Rattle.layouts.specs.Field.{any}
-use Rattle.layouts.specs.Description.{Description}
+use Rattle.layouts.specs.Description.{Description, Fixed, fixed_run}
 use Rattle.layouts.specs.Together.{loose, both, named, message}
-use Rattle.refusals.specs.Refusals.{refused, given, Answer}
 use Rattle.parts.specs.Common.{common}
 use Rattle.orbits.specs.Motion.{motion}
 use Rattle.orbits.specs.declared.ephemeris_sbas.EphemerisSbas.{EphemerisSbas}
-use Rattle.orbits.specs.declared.ephemeris_sbas.EphemerisSbasRead.{EphemerisSbasRead}
-use Rattle.orbits.specs.declared.ephemeris_sbas.EphemerisSbasRead.TheVariants.{Record, Refused}
 
 abbrev pub ephemeris_sbas : Description EphemerisSbas
 ephemeris_sbas =
@@ -20,6 +17,6 @@ ephemeris_sbas =
     (λ a. refl)
     (λ r. refl))
 
-abbrev pub answer_of : EphemerisSbasRead → Answer EphemerisSbas
-answer_of (Record r) = given r
-answer_of (Refused n) = refused n
+-- it has no part that repeats
+pub fixed : Fixed ephemeris_sbas 0x0082 112
+fixed = fixed_run ephemeris_sbas refl

@@ -7,11 +7,6 @@ mod ephemeris_glo;
 mod ephemeris_sbas;
 mod motion;
 
-pub use ephemeris_glo::{
-    EphemerisGlo, EphemerisGloRead, read_ephemeris_glo, take_ephemeris_glo, write_ephemeris_glo,
-};
-pub use ephemeris_sbas::{
-    EphemerisSbas, EphemerisSbasRead, read_ephemeris_sbas, take_ephemeris_sbas,
-    write_ephemeris_sbas,
-};
+pub use ephemeris_glo::EphemerisGlo;
+pub use ephemeris_sbas::EphemerisSbas;
 pub use motion::{Motion, Vector};

@@ -1,9 +1,9 @@
 // Position, velocity and acceleration of a satellite.
-ghost use Rattle.std.specs.Prelude.{◌≡◌, ◌<◌};
+ghost use Rattle.std.specs.Prelude.{◌≡◌};
 ghost use Rattle.layouts.specs.Together.{taken_at, put_at};
 ghost use Rattle.orbits.specs.Motion.{motion, vector};
 
-use wire::Double;
+use wire::{Double, InBytes};
 
 #[derive(Clone, Copy)]
 pub struct Vector {
@@ -19,51 +19,47 @@ pub struct Motion {
     pub acc: Vector,
 }
 
-// A motion begins within a frame, below 256, and its vectors below 512.
-fn take_vector(s: &[u8], at: usize) -> Vector
-    requires { at < 512 }
-    ensures { result ≡ taken_at vector s.now at }
-{
-    let y = at + 8;
-    let z = y + 8;
-    Vector {
-        x: wire::read_double(s, at),
-        y: wire::read_double(s, y),
-        z: wire::read_double(s, z),
+// A motion begins where a byte can say; its vectors go on beyond that.
+impl Vector {
+    fn take(s: &[u8], at: u16) -> Vector
+        ensures { result ≡ taken_at vector s.now at }
+    {
+        let start = at as usize;
+        Vector {
+            x: Double::read(s, start),
+            y: Double::read(s, start + 8),
+            z: Double::read(s, start + 16),
+        }
+    }
+
+    fn put(self, buf: &mut [u8], at: u16)
+        ensures { buf.new ≡ put_at vector self buf.old at }
+    {
+        let start = at as usize;
+        self.x.store(buf, start);
+        self.y.store(buf, start + 8);
+        self.z.store(buf, start + 16);
     }
 }
 
-fn put_vector(buf: &mut [u8], at: usize, r: Vector)
-    requires { at < 512 }
-    ensures { buf.new ≡ put_at vector r buf.old at }
-{
-    let y = at + 8;
-    let z = y + 8;
-    wire::store_double(buf, at, r.x);
-    wire::store_double(buf, y, r.y);
-    wire::store_double(buf, z, r.z);
-}
-
-pub(crate) fn take(s: &[u8], at: usize) -> Motion
-    requires { at < 256 }
-    ensures { result ≡ taken_at motion s.now at }
-{
-    let vel = at + 24;
-    let acc = vel + 24;
-    Motion {
-        pos: take_vector(s, at),
-        vel: take_vector(s, vel),
-        acc: take_vector(s, acc),
+impl Motion {
+    pub(crate) fn take(s: &[u8], at: u8) -> Motion
+        ensures { result ≡ taken_at motion s.now at }
+    {
+        let start = at as u16;
+        Motion {
+            pos: Vector::take(s, start),
+            vel: Vector::take(s, start + 24),
+            acc: Vector::take(s, start + 48),
+        }
     }
-}
 
-pub(crate) fn put(buf: &mut [u8], at: usize, r: Motion)
-    requires { at < 256 }
-    ensures { buf.new ≡ put_at motion r buf.old at }
-{
-    let vel = at + 24;
-    let acc = vel + 24;
-    put_vector(buf, at, r.pos);
-    put_vector(buf, vel, r.vel);
-    put_vector(buf, acc, r.acc);
+    pub(crate) fn put(self, buf: &mut [u8], at: u8)
+        ensures { buf.new ≡ put_at motion self buf.old at }
+    {
+        let start = at as u16;
+        self.pos.put(buf, start);
+        self.vel.put(buf, start + 24);
+        self.acc.put(buf, start + 48);
+    }
 }

@@ -5,8 +5,7 @@ ghost use Rattle.parts.specs.Common.{common};
 
 use crate::satellite::Satellite;
 use crate::time_of_week::TimeOfWeek;
-use crate::{satellite, time_of_week};
-use wire::Double;
+use wire::{Double, InBytes};
 
 #[derive(Clone, Copy)]
 pub struct EphemerisCommon {
@@ -18,26 +17,28 @@ pub struct EphemerisCommon {
     pub health: u8,
 }
 
-pub fn take(s: &[u8]) -> EphemerisCommon
-    ensures { result ≡ taken_at common s.now 0 }
-{
-    EphemerisCommon {
-        sid: satellite::take(s),
-        toe: time_of_week::take(s, 4),
-        ura: wire::read_double(s, 10),
-        fit_interval: wire::read_u32(s, 18),
-        valid: wire::read_u8(s, 22),
-        health: wire::read_u8(s, 23),
+impl EphemerisCommon {
+    pub fn take(s: &[u8]) -> EphemerisCommon
+        ensures { result ≡ taken_at common s.now 0 }
+    {
+        EphemerisCommon {
+            sid: Satellite::take(s),
+            toe: TimeOfWeek::take(s, 4),
+            ura: Double::read(s, 10),
+            fit_interval: u32::read(s, 18),
+            valid: u8::read(s, 22),
+            health: u8::read(s, 23),
+        }
     }
-}
 
-pub fn put(buf: &mut [u8], r: EphemerisCommon)
-    ensures { buf.new ≡ put_at common r buf.old 6 }
-{
-    satellite::put(buf, r.sid);
-    time_of_week::put(buf, 10, r.toe);
-    wire::store_double(buf, 16, r.ura);
-    wire::store_u32(buf, 24, r.fit_interval);
-    wire::store_u8(buf, 28, r.valid);
-    wire::store_u8(buf, 29, r.health);
+    pub fn put(self, buf: &mut [u8])
+        ensures { buf.new ≡ put_at common self buf.old 6 }
+    {
+        self.sid.put(buf);
+        self.toe.put(buf, 10);
+        self.ura.store(buf, 16);
+        self.fit_interval.store(buf, 24);
+        self.valid.store(buf, 28);
+        self.health.store(buf, 29);
+    }
 }

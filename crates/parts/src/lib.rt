@@ -2,9 +2,9 @@
 // Read specs/TimeOfWeek.antt and specs/Common.antt. All functions are inner parts: total.
 #![tactic(auto)]
 
-pub mod common;
+mod common;
 mod satellite;
-pub mod time_of_week;
+mod time_of_week;
 
 pub use common::EphemerisCommon;
 pub use satellite::Satellite;

@@ -1,2 +1,1 @@
 pub mod Phases
-pub mod PhaseBits

@@ -1,10 +1,8 @@
 -- The carrier phase in 1/256 cycle: 256 × L.i + L.f, signed.
 use Rattle.std.specs.Prelude.{◌-◌, ◌/◌, ◌%◌, Bool, ◌&&◌, [], ◌∷◌, ℤ, pos, negsuc, neg_ℤ, ◌+ℤ◌, ◌*ℤ◌}
 use Rattle.std.specs.Int.Signed.{le_z}
-use Rattle.refusals.specs.Refusals.{refused, given, Answer, Call, reply}
+use Rattle.refusals.specs.Refusals.{Answer, Call, reply}
 use Rattle.phases.specs.declared.phase.Phase.{Phase}
-use Rattle.phases.specs.declared.phase.PhaseParts.{PhaseParts}
-use Rattle.phases.specs.declared.phase.PhaseParts.TheVariants.{Parts, Refused}
 
 abbrev pub phase_of : Phase → ℤ
 phase_of p = pos 256 *ℤ p.l_i +ℤ pos p.l_f
@@ -24,7 +22,3 @@ reading_phase z = record { tests = (in_phase z, 33) ∷ []; value = parts_of z }
 
 unfoldable pub read_phase : ℤ → Answer Phase
 read_phase z = reply (reading_phase z)
-
-abbrev pub parts_answer : PhaseParts → Answer Phase
-parts_answer (Parts p) = given p
-parts_answer (Refused n) = refused n

@@ -4,12 +4,9 @@ use Rattle.std.specs.Int.{w8}
 use Rattle.wire.specs.Value.{u8, u16, u32, double}
 use Rattle.layouts.specs.Field.{any, ranged}
 use Rattle.layouts.specs.Layout.{run}
-use Rattle.layouts.specs.Description.{Description}
-use Rattle.refusals.specs.Refusals.{refused, given, Answer}
+use Rattle.layouts.specs.Description.{Description, Fixed, fixed_run}
 use Rattle.flags.specs.Range.{fix_up_to}
 use Rattle.positions.specs.declared.pos_ecef.PosEcef.{PosEcef}
-use Rattle.positions.specs.declared.pos_ecef.PosEcefRead.{PosEcefRead}
-use Rattle.positions.specs.declared.pos_ecef.PosEcefRead.TheVariants.{Record, Refused}
 
 abbrev pub pos_ecef : Description PosEcef
 pos_ecef = record {
@@ -21,6 +18,6 @@ pos_ecef = record {
   make_row = λ r. refl;
 }
 
-abbrev pub answer_of : PosEcefRead → Answer PosEcef
-answer_of (Record r) = given r
-answer_of (Refused n) = refused n
+-- it has no part that repeats
+pub fixed : Fixed pos_ecef 0x0200 32
+fixed = fixed_run pos_ecef refl

@@ -4,12 +4,9 @@ use Rattle.std.specs.Int.{w8}
 use Rattle.wire.specs.Value.{u8, u16, u32, double}
 use Rattle.layouts.specs.Field.{any, ranged}
 use Rattle.layouts.specs.Layout.{run}
-use Rattle.layouts.specs.Description.{Description}
-use Rattle.refusals.specs.Refusals.{refused, given, Answer}
+use Rattle.layouts.specs.Description.{Description, Fixed, fixed_run}
 use Rattle.flags.specs.Range.{fix_up_to}
 use Rattle.positions.specs.declared.pos_llh.PosLlh.{PosLlh}
-use Rattle.positions.specs.declared.pos_llh.PosLlhRead.{PosLlhRead}
-use Rattle.positions.specs.declared.pos_llh.PosLlhRead.TheVariants.{Record, Refused}
 
 abbrev pub pos_llh : Description PosLlh
 pos_llh = record {
@@ -21,6 +18,6 @@ pos_llh = record {
   make_row = λ r. refl;
 }
 
-abbrev pub answer_of : PosLlhRead → Answer PosLlh
-answer_of (Record r) = given r
-answer_of (Refused n) = refused n
+-- it has no part that repeats
+pub fixed : Fixed pos_llh 0x0201 34
+fixed = fixed_run pos_llh refl

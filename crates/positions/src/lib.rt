@@ -1,4 +1,4 @@
-// The two positions of 003, section 6.2: records, readers and writers.
+// The two positions of 003, section 6.2: their records, as messages that frame_writer reads and writes.
 // Read the description of each message in specs/, which reads like its line of document 01. What a description makes of bytes is in layouts'
 // specs/Description.antt, what a ranged field may hold in flags' specs/Range.antt.
 #![tactic(auto)]
@@ -6,5 +6,5 @@
 mod pos_ecef;
 mod pos_llh;
 
-pub use pos_ecef::{PosEcef, PosEcefRead, read_pos_ecef, take_pos_ecef, write_pos_ecef};
-pub use pos_llh::{PosLlh, PosLlhRead, read_pos_llh, take_pos_llh, write_pos_llh};
+pub use pos_ecef::PosEcef;
+pub use pos_llh::PosLlh;

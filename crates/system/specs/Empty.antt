@@ -1,10 +1,7 @@
 -- SETTINGS_SAVE, 0x00A1, and READ_BY_INDEX_DONE, 0x00A6: no payload.
 use Rattle.std.specs.Prelude.{ℕ, refl, []}
 use Rattle.layouts.specs.Layout.{run}
-use Rattle.layouts.specs.Description.{Description}
-use Rattle.refusals.specs.Refusals.{refused, given, Answer}
-use Rattle.system.specs.declared.empty.EmptyRead.{EmptyRead}
-use Rattle.system.specs.declared.empty.EmptyRead.TheVariants.{Empty, Refused}
+use Rattle.layouts.specs.Description.{Description, Fixed, fixed_run}
 
 -- there is one record with no fields
 abbrev pub empty : ℕ → Description (Unit {0})
@@ -16,6 +13,6 @@ settings_save = empty 0x00a1
 abbrev pub read_by_index_done : Description (Unit {0})
 read_by_index_done = empty 0x00a6
 
-abbrev pub empty_answer : EmptyRead → Answer (Unit {0})
-empty_answer Empty = given tt
-empty_answer (Refused n) = refused n
+-- it has no part that repeats
+pub fixed : (kind : ℕ) → Fixed (empty kind) kind 0
+fixed kind = fixed_run (empty kind) refl

@@ -3,11 +3,8 @@ use Rattle.std.specs.Prelude.{refl, [], ◌∷◌}
 use Rattle.wire.specs.Value.{u32}
 use Rattle.layouts.specs.Field.{any}
 use Rattle.layouts.specs.Layout.{run}
-use Rattle.layouts.specs.Description.{Description}
-use Rattle.refusals.specs.Refusals.{refused, given, Answer}
+use Rattle.layouts.specs.Description.{Description, Fixed, fixed_run}
 use Rattle.system.specs.declared.heartbeat.Heartbeat.{Heartbeat}
-use Rattle.system.specs.declared.heartbeat.HeartbeatRead.{HeartbeatRead}
-use Rattle.system.specs.declared.heartbeat.HeartbeatRead.TheVariants.{Record, Refused}
 
 abbrev pub heartbeat : Description Heartbeat
 heartbeat = record {
@@ -19,6 +16,6 @@ heartbeat = record {
   make_row = λ r. refl;
 }
 
-abbrev pub answer_of : HeartbeatRead → Answer Heartbeat
-answer_of (Record r) = given r
-answer_of (Refused n) = refused n
+-- it has no part that repeats
+pub fixed : Fixed heartbeat 0xffff 4
+fixed = fixed_run heartbeat refl

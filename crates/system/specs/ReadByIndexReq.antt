@@ -3,11 +3,8 @@ use Rattle.std.specs.Prelude.{refl, [], ◌∷◌}
 use Rattle.wire.specs.Value.{u16}
 use Rattle.layouts.specs.Field.{any}
 use Rattle.layouts.specs.Layout.{run}
-use Rattle.layouts.specs.Description.{Description}
-use Rattle.refusals.specs.Refusals.{refused, given, Answer}
+use Rattle.layouts.specs.Description.{Description, Fixed, fixed_run}
 use Rattle.system.specs.declared.settings.ReadByIndexReq.{ReadByIndexReq}
-use Rattle.system.specs.declared.settings.ReadByIndexReqRead.{ReadByIndexReqRead}
-use Rattle.system.specs.declared.settings.ReadByIndexReqRead.TheVariants.{Record, Refused}
 
 abbrev pub read_by_index_req : Description ReadByIndexReq
 read_by_index_req = record {
@@ -19,6 +16,6 @@ read_by_index_req = record {
   make_row = λ r. refl;
 }
 
-abbrev pub answer_of : ReadByIndexReqRead → Answer ReadByIndexReq
-answer_of (Record r) = given r
-answer_of (Refused n) = refused n
+-- it has no part that repeats
+pub fixed : Fixed read_by_index_req 0x00a2 2
+fixed = fixed_run read_by_index_req refl

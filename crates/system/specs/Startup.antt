@@ -3,11 +3,8 @@ use Rattle.std.specs.Prelude.{refl, [], ◌∷◌}
 use Rattle.wire.specs.Value.{u32}
 use Rattle.layouts.specs.Field.{any}
 use Rattle.layouts.specs.Layout.{run}
-use Rattle.layouts.specs.Description.{Description}
-use Rattle.refusals.specs.Refusals.{refused, given, Answer}
+use Rattle.layouts.specs.Description.{Description, Fixed, fixed_run}
 use Rattle.system.specs.declared.startup.Startup.{Startup}
-use Rattle.system.specs.declared.startup.StartupRead.{StartupRead}
-use Rattle.system.specs.declared.startup.StartupRead.TheVariants.{Record, Refused}
 
 abbrev pub startup : Description Startup
 startup = record {
@@ -19,6 +16,6 @@ startup = record {
   make_row = λ r. refl;
 }
 
-abbrev pub answer_of : StartupRead → Answer Startup
-answer_of (Record r) = given r
-answer_of (Refused n) = refused n
+-- it has no part that repeats
+pub fixed : Fixed startup 0xff00 4
+fixed = fixed_run startup refl

@@ -1,4 +1,4 @@
-// What the flags of a HEARTBEAT mean.
+// What the flags of a HEARTBEAT mean: a line each over `wire::flag`, by the names that docs/ and the functions for C have.
 ghost use Rattle.std.specs.Prelude.{◌≡◌};
 ghost use Rattle.system.specs.HeartbeatFlags.{system_error, io_error, nap_error, external_antenna};
 

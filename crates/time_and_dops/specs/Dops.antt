@@ -3,11 +3,8 @@ use Rattle.std.specs.Prelude.{refl, [], ◌∷◌}
 use Rattle.wire.specs.Value.{u16, u32}
 use Rattle.layouts.specs.Field.{any}
 use Rattle.layouts.specs.Layout.{run}
-use Rattle.layouts.specs.Description.{Description}
-use Rattle.refusals.specs.Refusals.{refused, given, Answer}
+use Rattle.layouts.specs.Description.{Description, Fixed, fixed_run}
 use Rattle.time_and_dops.specs.declared.dops.Dops.{Dops}
-use Rattle.time_and_dops.specs.declared.dops.DopsRead.{DopsRead}
-use Rattle.time_and_dops.specs.declared.dops.DopsRead.TheVariants.{Record, Refused}
 
 abbrev pub dops : Description Dops
 dops = record {
@@ -19,6 +16,6 @@ dops = record {
   make_row = λ r. refl;
 }
 
-abbrev pub answer_of : DopsRead → Answer Dops
-answer_of (Record r) = given r
-answer_of (Refused n) = refused n
+-- it has no part that repeats
+pub fixed : Fixed dops 0x0206 14
+fixed = fixed_run dops refl

@@ -4,12 +4,9 @@ use Rattle.std.specs.Int.{w32}
 use Rattle.wire.specs.Value.{u8, u16, u32}
 use Rattle.layouts.specs.Field.{any, ranged_signed}
 use Rattle.layouts.specs.Layout.{run}
-use Rattle.layouts.specs.Description.{Description}
-use Rattle.refusals.specs.Refusals.{refused, given, Answer}
+use Rattle.layouts.specs.Description.{Description, Fixed, fixed_run}
 use Rattle.flags.specs.Range.{in_ns}
 use Rattle.time_and_dops.specs.declared.gps_time.GpsTime.{GpsTime}
-use Rattle.time_and_dops.specs.declared.gps_time.GpsTimeRead.{GpsTimeRead}
-use Rattle.time_and_dops.specs.declared.gps_time.GpsTimeRead.TheVariants.{Record, Refused}
 
 abbrev pub gps_time : Description GpsTime
 gps_time = record {
@@ -21,6 +18,6 @@ gps_time = record {
   make_row = λ r. refl;
 }
 
-abbrev pub answer_of : GpsTimeRead → Answer GpsTime
-answer_of (Record r) = given r
-answer_of (Refused n) = refused n
+-- it has no part that repeats
+pub fixed : Fixed gps_time 0x0100 11
+fixed = fixed_run gps_time refl

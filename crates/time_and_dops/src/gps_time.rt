@@ -1,15 +1,10 @@
 // GPS_TIME, 0x0100: the GPS time.
-ghost use Rattle.std.specs.Prelude.{◌≡◌, length};
-ghost use Rattle.layouts.specs.Layout.{allowed_body};
-ghost use Rattle.layouts.specs.Inner.{body_stored};
-ghost use Rattle.layouts.specs.Description.{inside, read_as};
-ghost use Rattle.frame_writer.specs.Writer.{written_answer};
-ghost use Rattle.frame_writer.specs.Faithful.{write_answer, written_as};
-ghost use Rattle.time_and_dops.specs.GpsTime.{gps_time, answer_of};
+ghost use Rattle.std.specs.Prelude.{◌≡◌};
+ghost use Rattle.time_and_dops.specs.GpsTime.{gps_time, fixed};
 
 use flags::ns_allowed;
-use frame_writer::Written;
-use senders::Writer;
+use frame_writer::FixedMessage;
+use wire::InBytes;
 
 #[derive(Clone, Copy)]
 pub struct GpsTime {
@@ -19,62 +14,38 @@ pub struct GpsTime {
     pub flags: u8,
 }
 
-#[derive(Clone, Copy)]
-pub enum GpsTimeRead {
-    Record(GpsTime),
-    Refused(u8),
-}
+impl FixedMessage for GpsTime {
+    type Record = GpsTime;
 
-pub fn take_gps_time(s: &[u8]) -> GpsTime
-    ensures { result ≡ inside gps_time s.now }
-{
-    GpsTime {
-        wn: wire::read_u16(s, 0),
-        tow: wire::read_u32(s, 2),
-        ns: wire::read_s32(s, 6),
-        flags: wire::read_u8(s, 10),
-    }
-}
+    const KIND: u16 = 0x0100;
 
-fn put(buf: &mut [u8], r: GpsTime)
-    ensures { buf.new ≡ body_stored gps_time.layout (gps_time.row r) buf.old 6 }
-{
-    wire::store_u16(buf, 6, r.wn);
-    wire::store_u32(buf, 8, r.tow);
-    wire::store_s32(buf, 12, r.ns);
-    wire::store_u8(buf, 16, r.flags);
-}
+    const LENGTH: usize = 11;
 
-fn allowed(r: GpsTime) -> bool
-    ensures { result ≡ allowed_body gps_time.layout (gps_time.row r) }
-{
-    ns_allowed(r.ns)
-}
+    ghost KIND = { 0x0100 };
 
-pub fn read_gps_time(s: &[u8]) -> GpsTimeRead
-    ensures { answer_of result ≡ read_as gps_time s.now }
-{
-    if s.len() != 11 {
-        return GpsTimeRead::Refused(22);
-    }
-    let r = take_gps_time(s);
-    if allowed(r) {
-        return GpsTimeRead::Record(r);
-    }
-    GpsTimeRead::Refused(23)
-}
+    ghost LENGTH = { 11 };
 
-pub fn write_gps_time(buf: &mut [u8], writer: Writer, r: GpsTime) -> Written
-    ensures result_value { written_answer result ≡ write_answer gps_time r (length buf.old) }
-    ensures buf_after { buf.new ≡ written_as gps_time writer r buf.old }
-{
-    if allowed(r) {
-        let answer = frame_writer::plan(11, buf.len());
-        if let Written::Bytes(_) = answer {
-            put(buf, r);
-            frame_writer::seal(buf, 0x0100, writer, 11);
+    ghost description = { gps_time };
+
+    fn take(s: &[u8]) -> GpsTime {
+        GpsTime {
+            wn: u16::read(s, 0),
+            tow: u32::read(s, 2),
+            ns: i32::read(s, 6),
+            flags: u8::read(s, 10),
         }
-        return answer;
     }
-    Written::Refused(23)
+
+    fn put(buf: &mut [u8], r: GpsTime) {
+        r.wn.store(buf, 6);
+        r.tow.store(buf, 8);
+        r.ns.store(buf, 12);
+        r.flags.store(buf, 16);
+    }
+
+    fn allowed(r: GpsTime) -> bool {
+        ns_allowed(r.ns)
+    }
+
+    ghost fixed = { fixed };
 }

@@ -1,5 +1,0 @@
--- `system::startup::put` meets its contract, which is that of its one store.
-use Rattle.system.proofs.startup.put.Goals as goal
-
-pub returns : goal.returns
-returns c = c.store_u32.ensures
