@@ -1,22 +1,23 @@
 -- The descriptions say document 01's types, lengths and ranges; what follows for the answer to a payload.
 use mathlib.Core.Path.{◌≡◌, refl, sym, ap, ap₂, ◌∙◌}
 use mathlib.Core.Bool.{Bool, true, false, ◌&&◌, cond, and-true}
-use mathlib.Core.List.{List, [], ◌∷◌, map}
+use mathlib.Core.List.{List, [], ◌∷◌}
+use Rattle.std.proofs.Common.{Option, Some, None}
 use Prim.Native.Nat.{ℕ, ◌<◌}
 use native.Mathlib.Omega.{arith}
 use lib.Dec.{eqb, ltb}
 use lib.ListN.{length}
-use borrow.Author.Tests.{ne_eqb, ltb-true}
+use borrow.Author.Tests.{ltb-true}
 use Rattle.refusals.specs.Refusals.{refused, given, Answer, Tests, ordered, zero_or}
 use Rattle.flags.specs.Range.{in_ns, fix_up_to}
 use Rattle.logs.proofs.Logs.{as_padded}
-use Rattle.payloads.specs.Payloads.{Entry, table, entry_for, known_for, tests_of, reading_any, read_for, answer_for}
+use Rattle.payloads.specs.Payloads.{Entry, table, entry_for, tests_of, reading_any, read_for, answer_for}
 use Rattle.payloads.specs.Checks.{document, tests, tests_by, Agrees, AsInDocument}
-use Rattle.payloads.specs.Inner.{check_in, check_for, number_by}
+use Rattle.payloads.specs.Inner.{check_in, check_for, tests_found, number_by}
 use Rattle.payloads.specs.declared.Message.{Message}
 use Rattle.payloads.specs.declared.check.Check.{Check}
-use Rattle.payloads.specs.declared.check.Check.TheVariants.{Unknown, Length, Ns, Fix, Obs, Log}
-use Rattle.payloads.proofs.Entries.{obs_allowed, both, Absent}
+use Rattle.payloads.specs.declared.check.Check.TheVariants.{Length, Ns, Fix, Obs, Log}
+use Rattle.payloads.proofs.Entries.{obs_allowed, both}
 use Rattle.payloads.proofs.Lengths.{obs_length, log_length_lem}
 
 -- a range that stands last in its row
@@ -30,12 +31,7 @@ agreed =
 
 -- ---- of any type
 
--- the first test passes
-abbrev first_of : Tests → Bool
-first_of [] = true
-first_of (t ∷ ts) = t.0
-
-pub tests_agree : (es : List Entry) (ds : List (ℕ × Check)) → Agrees es ds → (kind : ℕ) (s : List ℕ) → tests_of (entry_for es kind) s ≡ tests_by (check_in ds kind) s
+pub tests_agree : (es : List Entry) (ds : List (ℕ × Check)) → Agrees es ds → (kind : ℕ) (s : List ℕ) → tests_of (entry_for es kind) s ≡ tests_found (check_in ds kind) s
 unfolding entry_for check_in
 tests_agree [] (d ∷ ds) h kind s = elim h [ ]
 tests_agree (e ∷ es) [] h kind s = elim h [ ]
@@ -43,21 +39,9 @@ tests_agree [] [] h kind s = refl
 tests_agree (e ∷ es) (d ∷ ds) h kind s =
     ap (λ (k : ℕ). tests_of (cond (eqb kind k) e (entry_for es kind)) s) h.0 ∙ by (eqb kind d.0) (tests_agree es ds h.2 kind s)
   where
-    by : (t : Bool) → tests_of (entry_for es kind) s ≡ tests_by (check_in ds kind) s → tests_of (cond t e (entry_for es kind)) s ≡ tests_by (cond t d.1 (check_in ds kind)) s
+    by : (t : Bool) → tests_of (entry_for es kind) s ≡ tests_found (check_in ds kind) s → tests_of (cond t e (entry_for es kind)) s ≡ tests_found (cond t (Some d.1) (check_in ds kind)) s
     by true rest = h.1 s
     by false rest = rest
-
--- a type is known by its check as by its entry
-abbrev pub known_by : Check → Bool
-known_by k = first_of (tests_by k [])
-
-pub known_agrees : (kind : ℕ) → known_by (check_for kind) ≡ known_for kind
-known_agrees kind = sym (ap first_of (tests_agree table document agreed kind []))
-
-pub no_check : {P : Type 0} (ds : List (ℕ × Check)) (kind : ℕ) → Absent P (map (λ (d : ℕ × Check). d.0) ds) kind → P × (Unknown ≡ check_in ds kind)
-unfolding check_in
-no_check [] kind h = (h, refl)
-no_check (d ∷ ds) kind h = let rest = no_check ds kind h in (rest.0.0, rw (ne_eqb kind d.0 rest.0.1) rest.1)
 
 -- ---- the answer
 
@@ -85,12 +69,15 @@ passes (t ∷ ts) x p z = let q = both (ltb 0 t.1) (positive ts) p in by t.0 (lt
     by false more z rest = absurd (omega arith)
 
 positive_by : (k : Check) (s : List ℕ) → positive (tests_by k s) ≡ true
-positive_by Unknown s = refl
 positive_by (Length n) s = refl
 positive_by (Ns n at) s = refl
 positive_by (Fix n at last) s = refl
 positive_by Obs s = refl
 positive_by Log s = refl
+
+positive_found : (k : Option Check) (s : List ℕ) → positive (tests_found k s) ≡ true
+positive_found None s = refl
+positive_found (Some k) s = positive_by k s
 
 -- what is not 0 is the refusal
 pub refuses_by : {A : Type 0} (a : Answer A) {n : ℕ} → n ≡ zero_or a → (n ≡ 0 → ⊥) → refused n ≡ a
@@ -98,9 +85,9 @@ refuses_by (given x) p h = absurd (h p)
 refuses_by (refused m) p h = ap refused p
 
 module _ (kind : ℕ) (s : List ℕ) where
-  pub numbered : {n : ℕ} {k : Check} → n ≡ number_by (tests_by k s) → k ≡ check_for kind → n ≡ answer_for kind s
+  pub numbered : {n : ℕ} {k : Option Check} → n ≡ number_by (tests_found k s) → k ≡ check_for kind → n ≡ answer_for kind s
   numbered p q =
-      p ∙ ap (λ (k : Check). number_by (tests_by k s)) q ∙ sym (ap number_by (tests_agree table document agreed kind s)) ∙ number_alone (reading_any kind s).tests tt ((entry_for table kind).holds s)
+      p ∙ ap (λ (k : Option Check). number_by (tests_found k s)) q ∙ sym (ap number_by (tests_agree table document agreed kind s)) ∙ number_alone (reading_any kind s).tests tt ((entry_for table kind).holds s)
 
   module _ {n : ℕ} (p : n ≡ answer_for kind s) where
     pub refuses : (n ≡ 0 → ⊥) → refused n ≡ read_for kind s
@@ -109,9 +96,5 @@ module _ (kind : ℕ) (s : List ℕ) where
     -- x is what the entry of the type that was met holds
     pub gives : n ≡ 0 → {k : ℕ} {x : Message} → kind ≡ k → x ≡ (entry_for table k).holds s → given x ≡ read_for kind s
     gives z q e =
-        let positive-tests = ap positive (tests_agree table document agreed kind s) ∙ positive_by (check_for kind) s in
+        let positive-tests = ap positive (tests_agree table document agreed kind s) ∙ positive_found (check_for kind) s in
         ap given (e ∙ sym (ap (λ (k : ℕ). (entry_for table k).holds s) q)) ∙ passes (reading_any kind s).tests ((entry_for table kind).holds s) positive-tests (sym p ∙ z)
-
-  -- what a type's payloads are read as, at a type that was met as equal to it
-  pub at_kind : {k : ℕ} {a b : Answer Message} → read_for k s ≡ b → a ≡ b → kind ≡ k → a ≡ read_for kind s
-  at_kind typed p q = p ∙ sym typed ∙ sym (ap (λ (k : ℕ). read_for k s) q)

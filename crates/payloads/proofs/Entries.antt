@@ -5,11 +5,11 @@ use mathlib.Core.List.{List, [], ◌∷◌, ◌++◌, map, append_assoc}
 use Prim.Native.Nat.{ℕ, ◌<◌}
 use lib.Dec.{eqb, leb, ltb}
 use lib.ListN.{length}
-use borrow.Author.Tests.{eq-eqb, ne_eqb, leb-true, ltb-true}
+use borrow.Author.Tests.{eq-eqb, leb-true, ltb-true}
 use Rattle.layouts.specs.Field.{size}
 use Rattle.layouts.specs.Layout.{Layout, run, then, bytes, text, rows, Sound, allowed_body, decode_body}
 use Rattle.layouts.specs.Description.{read_as, reading, inside}
-use Rattle.refusals.specs.Refusals.{Answer, ordered, mapped}
+use Rattle.refusals.specs.Refusals.{ordered}
 use Rattle.refusals.proofs.Joined.{ordered_mapped}
 use Rattle.frame_writer.proofs.Promised.{faithful}
 use Rattle.observation.specs.Edition.{fitting, obs, first}
@@ -18,31 +18,10 @@ use Rattle.observation.specs.declared.obs.Obs.{Obs}
 use Rattle.observation.proofs.ObsReading.{allowed, obs_shown}
 use Rattle.logs.specs.Log as system
 use Rattle.logs.specs.Log.{read_log}
-use Rattle.payloads.specs.Payloads.{Described, messages, Entry, entry_of, no_entry, table, entry_for, tests_of, Typed, TypedIn, Promised, AllOf}
-use Rattle.payloads.specs.declared.Message.{Message}
+use Rattle.payloads.specs.Payloads.{Described, messages, Entry, entry_of, table, entry_for, tests_of, Typed, TypedIn, Promised, AllOf}
 use Rattle.payloads.specs.declared.Message.TheVariants as M
 
--- e is what a reader returned, and x the case of it that was met
-pub under_name : {R E : Type 0} (name : R → Message) (answer : E → Answer R) {e x : E} {a : Answer R} → answer e ≡ a → e ≡ x → mapped name (answer x) ≡ mapped name a
-under_name name answer p q = ap (mapped name) (sym (ap answer q) ∙ p)
-
 -- ---- the entry of a type
-
--- the type is none of these: as a `match` keeps it, what was known before and then one after the other
-abbrev pub Absent : Type 0 → List ℕ → ℕ → Type 0
-Absent P [] kind = P
-Absent P (k ∷ ks) kind = Absent (P × (kind ≡ k → ⊥)) ks kind
-
-pub no_entry_lem : {P : Type 0} (es : List Entry) (kind : ℕ) → Absent P (map (λ (e : Entry). e.kind) es) kind → P × (entry_for es kind ≡ no_entry kind)
-unfolding entry_for
-no_entry_lem [] kind h = (h, refl)
-no_entry_lem (e ∷ es) kind h = let rest = no_entry_lem es kind h in (rest.0.0, rw (ne_eqb kind e.kind rest.0.1) rest.1)
-
--- and where it is none of the first, its entry is among the rest
-pub past : {P : Type 0} (front rest : List Entry) (kind : ℕ) → Absent P (map (λ (e : Entry). e.kind) front) kind → P × (entry_for (front ++ rest) kind ≡ entry_for rest kind)
-unfolding entry_for
-past [] rest kind h = (h, refl)
-past (e ∷ es) rest kind h = let r = past es rest kind h in (r.0.0, rw (ne_eqb kind e.kind r.0.1) r.1)
 
 -- no entry has that type
 abbrev lacks : List Entry → ℕ → Bool

@@ -1,5 +1,5 @@
 pub mod Entries
 pub mod Lengths
-pub mod Placed
+pub mod TypesFound
 pub mod Agreed
 pub mod Shapes

@@ -1,13 +1,13 @@
 -- Document 01's columns Type and Length, and its ranges, as numbers: what a payload is tested for before it is read. That the descriptions say
 -- the same is proved (proofs/Agreed.antt).
-use Rattle.std.specs.Prelude.{ℕ, ◌%◌, ◌≡◌, Bool, true, false, ◌&&◌, List, [], ◌∷◌, eqb, leb, ℤ, pos, neg_ℤ, length, drop}
+use Rattle.std.specs.Prelude.{ℕ, ◌%◌, ◌≡◌, Bool, true, ◌&&◌, List, [], ◌∷◌, eqb, leb, ℤ, pos, neg_ℤ, length, drop}
 use Rattle.std.specs.Int.Signed.{le_z}
 use Rattle.wire.specs.Value.{value_at, u8, s32}
 use Rattle.padded.specs.Padded.{from_zero, all_zero}
 use Rattle.refusals.specs.Refusals.{Tests}
 use Rattle.payloads.specs.Payloads.{Entry, table, tests_of}
 use Rattle.payloads.specs.declared.check.Check.{Check}
-use Rattle.payloads.specs.declared.check.Check.TheVariants.{Unknown, Length, Ns, Fix, Obs, Log}
+use Rattle.payloads.specs.declared.check.Check.TheVariants.{Length, Ns, Fix, Obs, Log}
 
 -- each type with its length; ns or flags stand at an offset, and the fix mode goes up to the last; of LOG nothing but zeros stands after the text
 abbrev pub document : List (ℕ × Check)
@@ -63,7 +63,6 @@ abbrev pub zeros_last : List ℕ → Bool
 zeros_last s = all_zero (from_zero (drop 1 s))
 
 abbrev pub tests_by : Check → List ℕ → Tests
-tests_by Unknown s = (false, 21) ∷ []
 tests_by (Length n) s = tests (eqb (length s) n) true
 tests_by (Ns n at) s = tests (eqb (length s) n) (ns_inside (value_at s32 s at))
 tests_by (Fix n at last) s = tests (eqb (length s) n) (mode_inside last (value_at u8 s at))

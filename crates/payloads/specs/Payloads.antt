@@ -3,7 +3,7 @@
 use Rattle.std.specs.Prelude.{ℕ, ◌≡◌, Bool, true, false, cond, List, [], ◌∷◌, map, eqb}
 use Rattle.layouts.specs.Layout.{Layout, run}
 use Rattle.layouts.specs.Description.{Description, inside, reading, read_as}
-use Rattle.refusals.specs.Refusals.{refused, given, Answer, Tests, mapped, zero_or, Call, reply}
+use Rattle.refusals.specs.Refusals.{Answer, Tests, mapped, zero_or, Call, reply}
 use Rattle.formats.specs.Digits.{shape_of}
 use Rattle.formats.specs.declared.Shape.{Shape}
 use Rattle.frame_writer.specs.Faithful.{Faithful}
@@ -32,12 +32,6 @@ use Rattle.system.specs.ReadByIndexReq.{read_by_index_req}
 use Rattle.system.specs.Startup.{startup}
 use Rattle.payloads.specs.declared.Message.{Message}
 use Rattle.payloads.specs.declared.Message.TheVariants as M
-use Rattle.payloads.specs.declared.Reading.{Reading}
-use Rattle.payloads.specs.declared.Reading.TheVariants.{Record, Refused}
-
-abbrev pub reading_answer : Reading → Answer Message
-reading_answer (Record m) = given m
-reading_answer (Refused n) = refused n
 
 -- ---- the messages
 

@@ -4,14 +4,20 @@
 #![tactic(auto)]
 
 ghost use Rattle.std.specs.Prelude.{◌≡◌};
+ghost use Rattle.refusals.specs.Refusals.{zero_or};
+ghost use Rattle.refusals.specs.Numbers.{answer_of};
 ghost use Rattle.payloads.specs.Payloads.{answer_for};
+ghost use Rattle.payloads.specs.Types.{type_number};
 
 mod check;
+mod kind;
 mod place;
 mod shape;
 
+pub use kind::{MessageType, message_type};
 pub use place::{MESSAGES, place_of};
-pub use shape::{is_known, shape_of};
+use refusals::Refusal;
+pub use shape::{shape_of, shape_of_type};
 
 // Every message that has a reading. The observations of an Obs and the text of a Log stay in the payload: read_observation and
 // log_text give them.
@@ -43,15 +49,16 @@ pub enum Message {
     Heartbeat(system::Heartbeat),
 }
 
-#[derive(Clone, Copy)]
-pub enum Reading {
-    Record(Message),
-    Refused(u8),
+// 22 or 23 for a payload that the message does not take.
+pub fn accept(message: MessageType, payload: &[u8]) -> Result<(), Refusal>
+    ensures { zero_or (answer_of result) ≡ answer_for (type_number message) payload.now }
+{
+    check::tested(check::check_of(message), payload)
 }
 
-// 0, or the number of the refusal.
-pub fn answer(kind: u16, payload: &[u8]) -> u8
-    ensures { result ≡ answer_for kind payload.now }
+// 21 for a type without a reading, then as its message.
+pub fn answer(kind: u16, payload: &[u8]) -> Result<(), Refusal>
+    ensures { zero_or (answer_of result) ≡ answer_for kind payload.now }
 {
-    check::tested(check::check_of(kind), payload)
+    accept(message_type(kind)?, payload)
 }

@@ -1,19 +1,34 @@
--- A payload of another type than OBS that passes its tests is read as the record that it holds.
-use mathlib.Core.Path.{◌≡◌, refl, sym, ap, ◌∙◌}
-use mathlib.Core.List.{List, [], ◌∷◌, map}
-use Prim.Native.Nat.{ℕ}
-use Rattle.refusals.specs.Refusals.{given}
-use Rattle.observation.specs.Edition.{obs, first}
-use Rattle.observation.specs.Obs as observation
-use Rattle.payloads.specs.Payloads.{under, others, Entry, entry_of, read_for, answer_for}
-use Rattle.payloads.specs.declared.Message.{Message}
-use Rattle.payloads.specs.declared.Message.TheVariants as M
-use Rattle.payloads.proofs.Entries.{Absent, past}
-use Rattle.payloads.proofs.Agreed.{gives}
-use Rattle.readings.specs.Inner.{record_in}
+-- What each message's own reader makes of a payload is what the one list says.
+use Rattle.std.proofs.Common.{◌≡◌, ℕ, List, sym}
+use Rattle.payloads.specs.Payloads.{read_for}
+use Rattle.payloads.specs.Types.{type_number}
+use Rattle.payloads.specs.declared.kind.MessageType.{MessageType}
+use Rattle.payloads.specs.declared.kind.MessageType.TheVariants as T
+use Rattle.payloads.proofs.Entries.{promised, obs_read, log_read}
+use Rattle.readings.specs.Inner.{read_by}
 
-pub gives_record : (kind : ℕ) (s : List ℕ) {n : ℕ} → n ≡ answer_for kind s → {Q : Type 0} {x : Message} → n ≡ 0 → Absent Q (first.kind ∷ []) kind → x ≡ record_in kind s
-    → given x ≡ read_for kind s
-gives_record kind s p z other e =
-    let among-others = (past (entry_of (under (obs first) (λ r. M.Obs (observation.shown r))) ∷ []) (map entry_of others) kind other).1 in
-    gives kind s p z refl (e ∙ sym (ap (λ (e : Entry). e.holds s) among-others))
+pub by_own_reader : (t : MessageType) (s : List ℕ) → read_by t s ≡ read_for (type_number t) s
+by_own_reader T.Obs s = sym (obs_read s)
+by_own_reader T.GpsTime s = sym (promised.1.0.1 s)
+by_own_reader T.Dops s = sym (promised.1.1.0.1 s)
+by_own_reader T.PosEcef s = sym (promised.1.1.1.0.1 s)
+by_own_reader T.PosLlh s = sym (promised.1.1.1.1.0.1 s)
+by_own_reader T.BaselineEcef s = sym (promised.1.1.1.1.1.0.1 s)
+by_own_reader T.VelEcef s = sym (promised.1.1.1.1.1.1.0.1 s)
+by_own_reader T.BaselineNed s = sym (promised.1.1.1.1.1.1.1.0.1 s)
+by_own_reader T.VelNed s = sym (promised.1.1.1.1.1.1.1.1.0.1 s)
+by_own_reader T.BaselineHeading s = sym (promised.1.1.1.1.1.1.1.1.1.0.1 s)
+by_own_reader T.BasePosLlh s = sym (promised.1.1.1.1.1.1.1.1.1.1.0.1 s)
+by_own_reader T.BasePosEcef s = sym (promised.1.1.1.1.1.1.1.1.1.1.1.0.1 s)
+by_own_reader T.EphemerisGps s = sym (promised.1.1.1.1.1.1.1.1.1.1.1.1.0.1 s)
+by_own_reader T.EphemerisSbas s = sym (promised.1.1.1.1.1.1.1.1.1.1.1.1.1.0.1 s)
+by_own_reader T.EphemerisGlo s = sym (promised.1.1.1.1.1.1.1.1.1.1.1.1.1.1.0.1 s)
+by_own_reader T.Iono s = sym (promised.1.1.1.1.1.1.1.1.1.1.1.1.1.1.1.0.1 s)
+by_own_reader T.SvConfigurationGps s = sym (promised.1.1.1.1.1.1.1.1.1.1.1.1.1.1.1.1.0.1 s)
+by_own_reader T.GroupDelay s = sym (promised.1.1.1.1.1.1.1.1.1.1.1.1.1.1.1.1.1.0.1 s)
+by_own_reader T.SettingsSave s = sym (promised.1.1.1.1.1.1.1.1.1.1.1.1.1.1.1.1.1.1.0.1 s)
+by_own_reader T.ReadByIndexDone s = sym (promised.1.1.1.1.1.1.1.1.1.1.1.1.1.1.1.1.1.1.1.0.1 s)
+by_own_reader T.ReadByIndexReq s = sym (promised.1.1.1.1.1.1.1.1.1.1.1.1.1.1.1.1.1.1.1.1.0.1 s)
+by_own_reader T.Startup s = sym (promised.1.1.1.1.1.1.1.1.1.1.1.1.1.1.1.1.1.1.1.1.1.0.1 s)
+by_own_reader T.Heartbeat s = sym (promised.1.1.1.1.1.1.1.1.1.1.1.1.1.1.1.1.1.1.1.1.1.1.0.1 s)
+by_own_reader T.Log s = sym (log_read s)

@@ -2,33 +2,17 @@
 #![tactic(auto)]
 
 ghost use Rattle.std.specs.Prelude.{◌≡◌};
-ghost use Rattle.observation.specs.Obs.{read_obs};
-ghost use Rattle.payloads.specs.Payloads.{read_for, reading_answer};
-ghost use Rattle.refusals.specs.Refusals.{mapped};
+ghost use Rattle.refusals.specs.Numbers.{answer_of};
+ghost use Rattle.payloads.specs.Payloads.{read_for};
 
 mod record;
 
-use observation::ObsRead;
-use payloads::{Message, Reading};
+use payloads::{Message, message_type};
+use refusals::Refusal;
 
-fn obs(s: &[u8]) -> Reading
-    ensures { reading_answer result ≡ mapped (λ x. Message.Obs x) (read_obs s.now) }
+// 21, then as the message's own reader.
+pub fn read(kind: u16, payload: &[u8]) -> Result<Message, Refusal>
+    ensures { answer_of result ≡ read_for kind payload.now }
 {
-    match observation::read_obs(s) {
-        ObsRead::Record(r) => Reading::Record(Message::Obs(r)),
-        ObsRead::Refused(n) => Reading::Refused(n),
-    }
-}
-
-pub fn read(kind: u16, payload: &[u8]) -> Reading
-    ensures { reading_answer result ≡ read_for kind payload.now }
-{
-    let n = payloads::answer(kind, payload);
-    if n != 0 {
-        return Reading::Refused(n);
-    }
-    match kind {
-        0x0049 => obs(payload),
-        _ => Reading::Record(record::record_in(kind, payload)),
-    }
+    record::record_of(message_type(kind)?, payload)
 }

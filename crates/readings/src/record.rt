@@ -1,37 +1,55 @@
-// The record that a payload holds, by its type.
+// The record of a payload, by its message's own reader.
 ghost use Rattle.std.specs.Prelude.{◌≡◌};
-ghost use Rattle.readings.specs.Inner.{record_in};
+ghost use Rattle.refusals.specs.Numbers.{answer_of};
+ghost use Rattle.readings.specs.Inner.{read_by};
 
-use payloads::Message;
+use atmosphere::{GroupDelay, Iono, SvConfigurationGps};
+use base_positions::{BasePosEcef, BasePosLlh};
+use baselines::{BaselineEcef, BaselineHeading, BaselineNed, VelEcef, VelNed};
+use frame_writer::read_message;
+use gps_orbits::EphemerisGps;
+use orbits::{EphemerisGlo, EphemerisSbas};
+use payloads::{Message, MessageType};
+use positions::{PosEcef, PosLlh};
+use refusals::Refusal;
+use system::{Heartbeat, ReadByIndexDone, ReadByIndexReq, SettingsSave, Startup};
+use time_and_dops::{Dops, GpsTime};
 
-// Whether or not the payload passes its tests. Of OBS, which has its own reader, and of a type without a reading it is one that nobody is given.
-pub(crate) fn record_in(kind: u16, s: &[u8]) -> Message
-    ensures { result ≡ record_in kind s.now }
+pub(crate) fn record_of(message: MessageType, s: &[u8]) -> Result<Message, Refusal>
+    ensures { answer_of result ≡ read_by message s.now }
 {
-    match kind {
-        0x0100 => Message::GpsTime(time_and_dops::take_gps_time(s)),
-        0x0206 => Message::Dops(time_and_dops::take_dops(s)),
-        0x0200 => Message::PosEcef(positions::take_pos_ecef(s)),
-        0x0201 => Message::PosLlh(positions::take_pos_llh(s)),
-        0x0202 => Message::BaselineEcef(baselines::take_ecef(s)),
-        0x0204 => Message::VelEcef(baselines::take_ecef(s)),
-        0x0203 => Message::BaselineNed(baselines::take_ned(s)),
-        0x0205 => Message::VelNed(baselines::take_ned(s)),
-        0x0207 => Message::BaselineHeading(baselines::take_baseline_heading(s)),
-        0x0044 => Message::BasePosLlh(base_positions::take_base_pos_llh(s)),
-        0x0048 => Message::BasePosEcef(base_positions::take_base_pos_ecef(s)),
-        0x0081 => Message::EphemerisGps(gps_orbits::take_ephemeris_gps(s)),
-        0x0082 => Message::EphemerisSbas(orbits::take_ephemeris_sbas(s)),
-        0x0083 => Message::EphemerisGlo(orbits::take_ephemeris_glo(s)),
-        0x0090 => Message::Iono(atmosphere::take_iono(s)),
-        0x0091 => Message::SvConfigurationGps(atmosphere::take_sv_configuration_gps(s)),
-        0x0092 => Message::GroupDelay(atmosphere::take_group_delay(s)),
-        0x00a1 => Message::SettingsSave,
-        0x00a6 => Message::ReadByIndexDone,
-        0x00a2 => Message::ReadByIndexReq(system::take_read_by_index_req(s)),
-        0xff00 => Message::Startup(system::take_startup(s)),
-        0xffff => Message::Heartbeat(system::take_heartbeat(s)),
-        0x0401 => Message::Log(logs::take_log(s)),
-        _ => Message::SettingsSave,
+    match message {
+        MessageType::Obs => observation::read_obs(s).map(Message::Obs),
+        MessageType::GpsTime => read_message::<GpsTime>(s).map(Message::GpsTime),
+        MessageType::Dops => read_message::<Dops>(s).map(Message::Dops),
+        MessageType::PosEcef => read_message::<PosEcef>(s).map(Message::PosEcef),
+        MessageType::PosLlh => read_message::<PosLlh>(s).map(Message::PosLlh),
+        MessageType::BaselineEcef => read_message::<BaselineEcef>(s).map(Message::BaselineEcef),
+        MessageType::VelEcef => read_message::<VelEcef>(s).map(Message::VelEcef),
+        MessageType::BaselineNed => read_message::<BaselineNed>(s).map(Message::BaselineNed),
+        MessageType::VelNed => read_message::<VelNed>(s).map(Message::VelNed),
+        MessageType::BaselineHeading => {
+            read_message::<BaselineHeading>(s).map(Message::BaselineHeading)
+        }
+        MessageType::BasePosLlh => read_message::<BasePosLlh>(s).map(Message::BasePosLlh),
+        MessageType::BasePosEcef => read_message::<BasePosEcef>(s).map(Message::BasePosEcef),
+        MessageType::EphemerisGps => read_message::<EphemerisGps>(s).map(Message::EphemerisGps),
+        MessageType::EphemerisSbas => read_message::<EphemerisSbas>(s).map(Message::EphemerisSbas),
+        MessageType::EphemerisGlo => read_message::<EphemerisGlo>(s).map(Message::EphemerisGlo),
+        MessageType::Iono => read_message::<Iono>(s).map(Message::Iono),
+        MessageType::SvConfigurationGps => {
+            read_message::<SvConfigurationGps>(s).map(Message::SvConfigurationGps)
+        }
+        MessageType::GroupDelay => read_message::<GroupDelay>(s).map(Message::GroupDelay),
+        MessageType::SettingsSave => read_message::<SettingsSave>(s).map(|_| Message::SettingsSave),
+        MessageType::ReadByIndexDone => {
+            read_message::<ReadByIndexDone>(s).map(|_| Message::ReadByIndexDone)
+        }
+        MessageType::ReadByIndexReq => {
+            read_message::<ReadByIndexReq>(s).map(Message::ReadByIndexReq)
+        }
+        MessageType::Startup => read_message::<Startup>(s).map(Message::Startup),
+        MessageType::Heartbeat => read_message::<Heartbeat>(s).map(Message::Heartbeat),
+        MessageType::Log => logs::read_log(s).map(Message::Log),
     }
 }

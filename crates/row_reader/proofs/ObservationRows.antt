@@ -18,7 +18,7 @@ use Rattle.formats.proofs.Widened.{numbers_wide, numbers_drop, size_formats}
 use Rattle.observation.specs.Edition.{count_in, start_of, first}
 use Rattle.observation.specs.Obs.{entry_at, one_of_frame, read_entry_of}
 use Rattle.observation.specs.declared.entry.Observation.{Observation}
-use Rattle.observation.proofs.Editions.{obs_kind, whole}
+use Rattle.observation.proofs.Editions.{whole}
 use Rattle.payloads.specs.Payloads.{entry_for, shape_for}
 use Rattle.payloads.proofs.Shapes.{shaped_each}
 use Rattle.row_reader.specs.ReadRow.{beginning, observation_numbers, read_one, row_after_one}
@@ -48,22 +48,19 @@ module _ (kind : ℕ) (s : List ℕ) (i : ℕ) (row : List ℕ) where
   unfolding read_one read_entry_of
   one_refused p = stands (one_of_frame kind s i).tests (entry_at first s i) (observation_numbers s i) (length first.row.fields) row p
 
-  module _ {o : Observation} (p : given o ≡ read_entry_of kind s i) {shape : Shape} (shown : shape ≡ shape_for kind) where
+  module _ {o : Observation} (p : given o ≡ read_entry_of kind s i) {shape : Shape} (shown : shape ≡ shape_for first.kind) where
     passed : AllPass (one_of_frame kind s i).tests
     unfolding read_entry_of
     passed = ((exactly_all (entry_at first s i) (one_of_frame kind s i).tests o).0 (sym p)).0
 
-    of_obs : shape ≡ shape_for first.kind
-    of_obs = shown ∙ ap shape_for (obs_kind kind passed.0)
-
     each : formats_by shape.each ≡ map format_of first.row.fields
-    each = ap (λ (shape : Shape). formats_by shape.each) of_obs ∙ shaped_each
+    each = ap (λ (shape : Shape). formats_by shape.each) shown ∙ shaped_each
 
     many : length (formats_by shape.each) ≡ length first.row.fields
     many = ap length each ∙ length-map first.row.fields format_of
 
     start : size_of (formats_by shape.head) + i * size_of (formats_by shape.each) ≡ start_of first i
-    start = ap₂ (λ (h n : ℕ). h + i * n) (ap (λ (shape : Shape). size_of (formats_by shape.head)) of_obs ∙ head_size) (ap size_of each ∙ size_formats first.row.fields)
+    start = ap₂ (λ (h n : ℕ). h + i * n) (ap (λ (shape : Shape). size_of (formats_by shape.head)) shown ∙ head_size) (ap size_of each ∙ size_formats first.row.fields)
 
     pub one_within : size_of (formats_by shape.head) + i * size_of (formats_by shape.each) ≤ length s
     one_within = omega (arith, start, (whole first (length s) passed.1.0).0, ltb-true i (count_in first (length s)) passed.1.1.0)

@@ -1,11 +1,11 @@
 -- Layouts that are fields alone, and what holds of every type's layout.
 use mathlib.Core.Path.{◌≡◌, refl, sym, ap, ap₂, ◌∙◌}
-use mathlib.Core.Bool.{Bool, true, ◌&&◌, false≢true, and-eq-true_iff}
+use mathlib.Core.Bool.{Bool, true, false, ◌&&◌, false≢true, and-eq-true_iff}
 use mathlib.Core.List.{List, [], ◌∷◌, map}
 use Prim.Native.Nat.{ℕ, ◌+◌, ◌≤◌}
 use lib.Dec.{leb, eqb}
 use lib.ListN.{length, length-append, length-map}
-use borrow.Author.Tests.{leb-true}
+use borrow.Author.Tests.{leb-true, eq-eqb, ne_eqb}
 use Rattle.wire.specs.Value.{Format}
 use Rattle.layouts.specs.Field.{format_of, HeldRow, allowed_row, size, encode}
 use Rattle.layouts.specs.Layout.{Layout, run, then, bytes, text, rows, HeldBody, allowed_body, few_enough, body_size, lengths, encode_body, decode_body, Sound}
@@ -17,7 +17,7 @@ use Rattle.formats.specs.declared.Shape.{Shape}
 use Rattle.formats.proofs.Widened.{size_formats, size_joined}
 use Rattle.formats.proofs.Narrow.{within_all, fits_row_lem}
 use Rattle.payloads.specs.Payloads.{Described, messages, Entry, entry_of, table, entry_for, layout_for, known_for, shape_for}
-use Rattle.payloads.proofs.Shapes.{OfEach, of_any, Ends, shaped}
+use Rattle.payloads.proofs.Shapes.{OfEach, of_any, Ends, unpacks, shaped}
 use Rattle.row_writer.specs.WriteRow.{alone, body_of}
 
 -- ---- fields alone: all of it is said by the fields
@@ -100,6 +100,16 @@ module _ (kind : ℕ) {s : Shape} (e : s ≡ shape_for kind) where
 
   pub fits_shaped : (ns : List ℕ) → run_fits (formats_in s) ns 0 ≡ fits_row (front_of (layout_for kind)) ns 0
   fits_shaped ns = ap (λ (ks : List Format). run_fits ks ns 0) formats_shaped ∙ fits_row_lem (front_of (layout_for kind)) ns 0
+
+  alone_shaped : eqb s.each 0 ≡ alone (layout_for kind)
+  alone_shaped = ap (λ (s : Shape). eqb s.each 0) e ∙ alone_by_shape (layout_for kind) (unpacks kind).1
+
+  -- it tells whether the type is written so
+  pub has_tail : known_for kind ≡ true → (s.each ≡ 0 → ⊥) → (known_for kind && alone (layout_for kind)) ≡ false
+  has_tail known h = ap (λ (t : Bool). t && alone (layout_for kind)) known ∙ sym alone_shaped ∙ ne_eqb s.each 0 h
+
+  pub no_tail : known_for kind ≡ true → s.each ≡ 0 → (known_for kind && alone (layout_for kind)) ≡ true
+  no_tail known h = ap (λ (t : Bool). t && alone (layout_for kind)) known ∙ sym alone_shaped ∙ eq-eqb s.each 0 h
 
   -- how many numbers, as code counts them
   pub counted_as : {x y : ℕ} → x ≡ length (formats_by s.head) → y ≡ length (formats_by s.more) → alone (layout_for kind) ≡ true → x + y ≡ number_count (layout_for kind)

@@ -9,7 +9,7 @@ use lib.ListN.{length, take}
 use Rattle.wire.specs.Value.{Format}
 use Rattle.layouts.specs.Field.{size, encode}
 use Rattle.layouts.specs.Layout.{Layout, Body, HeldBody, allowed_body, body_size, lengths, LengthOf, encode_body}
-use Rattle.refusals.specs.Refusals.{refused, Answer, Tests, ordered, zero_or}
+use Rattle.refusals.specs.Refusals.{refused, given, Answer, Tests, ordered, zero_or}
 use Rattle.layouts.proofs.Fields.{row_sets, length-encode}
 use Rattle.layouts.proofs.Layouts.{lengths_true, size_fits, length-encode_body}
 use Rattle.formats.specs.Wide.{narrow_row, fits_row, number_count}
@@ -18,8 +18,7 @@ use Rattle.formats.specs.Inner.{formats_in}
 use Rattle.formats.specs.declared.Shape.{Shape}
 use Rattle.formats.proofs.Narrow.{Words, held_narrow, stored_narrow}
 use Rattle.senders.specs.declared.Writer.{Writer}
-use Rattle.frame_writer.specs.Writer.{writing_frame, size_left}
-use Rattle.payloads.specs.Inner.{number_by}
+use Rattle.frame_writer.specs.Writer.{writing_frame}
 use Rattle.payloads.specs.Payloads.{table, entry_for, layout_for, known_for, shape_for, answer_for}
 use Rattle.row_writer.specs.WriteRow.{alone, body_of, write_row, row_written}
 use Rattle.row_writer.specs.Inner.{testing_row, sent}
@@ -63,17 +62,18 @@ module _ (kind : ℕ) (ns : List ℕ) where
   abbrev Fits : Bool → Type 0
   Fits t = fits_row (front_of (layout_for kind)) ns 0 ≡ t
 
-  pub number_21 : Alone false → 21 ≡ number_by (testing_row kind ns)
-  number_21 p = rw p
+  module _ {A : Type 0} (x : A) where
+    pub is_21 : Alone false → refused 21 ≡ ordered (testing_row kind ns) x
+    is_21 p = rw p
 
-  pub number_22 : Alone true → Counted false → 22 ≡ number_by (testing_row kind ns)
-  number_22 p q = rw (p, q)
+    pub is_22 : Alone true → Counted false → refused 22 ≡ ordered (testing_row kind ns) x
+    is_22 p q = rw (p, q)
 
-  pub number_23 : Alone true → Counted true → Fits false → 23 ≡ number_by (testing_row kind ns)
-  number_23 p q r = rw (p, q, r)
+    pub is_23 : Alone true → Counted true → Fits false → refused 23 ≡ ordered (testing_row kind ns) x
+    is_23 p q r = rw (p, q, r)
 
-  pub number_0 : Alone true → Counted true → Fits true → 0 ≡ number_by (testing_row kind ns)
-  number_0 p q r = rw (p, q, r)
+    pub is_given : Alone true → Counted true → Fits true → given x ≡ ordered (testing_row kind ns) x
+    is_given p q r = rw (p, q, r)
 
 -- ---- where the numbers fit
 
@@ -85,16 +85,16 @@ pub record Fitting (kind : ℕ) (ns : List ℕ) : Type 0 where
   pub fits : fits_row (front_of (layout_for kind)) ns 0 ≡ true
   pub on : (room : ℕ) → write_row kind ns room ≡ ordered (after kind ns room) (body_size (layout_for kind) (body_of (layout_for kind) ns) + 8)
 
-pub fitting : (kind : ℕ) (ns : List ℕ) {n : ℕ} → n ≡ number_by (testing_row kind ns) → n ≡ 0 → Fitting kind ns
-fitting kind ns p h =
+pub fitting : {A : Type 0} (x : A) (kind : ℕ) (ns : List ℕ) {z : A} → given z ≡ ordered (testing_row kind ns) x → Fitting kind ns
+fitting x kind ns p =
     let ts = testing_row kind ns in
-    let all = all_pass ts [] 0 p refl h in
+    let all = (all_pass ts x p).0 in
     let both = (and-eq-true_iff (known_for kind) (alone (layout_for kind))).0 all.0 in record {
       known = both.0;
       only = both.1;
       counted = all.1.0;
       fits = all.1.1.0;
-      on = λ room. in_parts kind ns room ∙ goes_on ts (after kind ns room) (body_size (layout_for kind) (body_of (layout_for kind) ns) + 8) p refl h;
+      on = λ room. in_parts kind ns room ∙ goes_on ts (after kind ns room) x (body_size (layout_for kind) (body_of (layout_for kind) ns) + 8) p;
     }
 
 module _ (kind : ℕ) (ns : List ℕ) (words : Words ns) (f : Fitting kind ns) where
@@ -139,21 +139,23 @@ module _ (kind : ℕ) (ns : List ℕ) (words : Words ns) (f : Fitting kind ns) w
 
 -- ---- what a call leaves
 
-module _ (kind : ℕ) (by : Writer) (ns buf : List ℕ) (size : ℕ) where
-  abbrev pub Wrote : ℕ → List ℕ → ℕ → Type 0
-  Wrote r u s =
-      (r ≡ zero_or (write_row kind ns (length buf))) × ((u ≡ row_written kind by ns buf) × (s ≡ size_left (write_row kind ns (length buf)) size))
+module _ (kind : ℕ) (by : Writer) (ns buf : List ℕ) where
+  abbrev pub Wrote : Answer ℕ → List ℕ → Type 0
+  Wrote r u = (r ≡ write_row kind ns (length buf)) × (u ≡ row_written kind by ns buf)
 
   abbrev payload : List ℕ
   payload = encode_body (layout_for kind) (body_of (layout_for kind) ns)
 
-  pub wrote_refused : {n : ℕ} → n ≡ number_by (testing_row kind ns) → (n ≡ 0 → ⊥) → Wrote n buf size
+  pub wrote_refused : {A : Type 0} (x : A) {n : ℕ} → refused n ≡ ordered (testing_row kind ns) x → Wrote (refused n) buf
   unfolding row_written
-  wrote_refused p h =
-      let e = in_parts kind ns (length buf) ∙ stands (testing_row kind ns) (after kind ns (length buf)) (body_size (layout_for kind) (body_of (layout_for kind) ns) + 8) p h in
-      left_alone kind by buf size payload (write_row kind ns (length buf)) e
+  wrote_refused x p =
+      let e = in_parts kind ns (length buf)
+      ∙ stands (testing_row kind ns) (after kind ns (length buf)) x (body_size (layout_for kind) (body_of (layout_for kind) ns) + 8) p in
+      left_alone kind by buf payload (write_row kind ns (length buf)) e
 
-  pub wrote_sent : Words ns → Fitting kind ns → {q : List ℕ} {r s : ℕ} {u : List ℕ} → q ≡ payload → LeftBy kind by buf size q (sent kind q (length buf)) r u s → Wrote r u s
+  pub wrote_sent : Words ns → Fitting kind ns → {q : List ℕ} {r : Answer ℕ} {u : List ℕ} → q ≡ payload
+      → LeftBy kind by buf q (sent kind q (length buf)) r u → Wrote r u
   unfolding row_written
   wrote_sent words f e w =
-      left_as kind by buf size payload (sent kind payload (length buf)) (write_row kind ns (length buf)) (left_of kind by buf size payload (λ q. sent kind q (length buf)) e w) (sym (as_sent kind ns words f (length buf)))
+      left_as kind by buf payload (sent kind payload (length buf)) (write_row kind ns (length buf))
+      (left_of kind by buf payload (λ q. sent kind q (length buf)) e w) (sym (as_sent kind ns words f (length buf)))

@@ -1,28 +1,20 @@
--- The number of the first test that fails, as code looks at it before it goes on: what is not 0 is the refusal, and 0 says that all passed.
+-- Tests and then more of them, by what the first were answered: a refusal stands, and what passes goes on to the rest.
 use mathlib.Core.Path.{◌≡◌, sym, ap, ◌∙◌}
-use mathlib.Core.Bool.{true}
 use mathlib.Core.List.{◌++◌}
 use Prim.Native.Nat.{ℕ}
 use Rattle.refusals.specs.Refusals.{refused, given, Answer, Tests, ordered, AllPass}
 use Rattle.refusals.proofs.Ordered.{exactly_all}
 use Rattle.refusals.proofs.Joined.{and_then, ordered_joined}
-use Rattle.payloads.specs.Inner.{number_by}
-use Rattle.payloads.proofs.Agreed.{positive, passes, refuses_by}
 
-module _ (ts us : Tests) (y : ℕ) {n : ℕ} (p : n ≡ number_by ts) where
-  -- the rest by what the first tests answer
-  by : {a : Answer (Unit {0})} → ordered ts tt ≡ a → ordered (ts ++ us) y ≡ and_then a (ordered us y)
-  by e = ordered_joined tt y us ts ∙ ap (λ (a : Answer (Unit {0})). and_then a (ordered us y)) e
+module _ {A : Type 0} (ts us : Tests) (x : A) (y : ℕ) where
+  by : {a : Answer A} → ordered ts x ≡ a → ordered (ts ++ us) y ≡ and_then a (ordered us y)
+  by e = ordered_joined x y us ts ∙ ap (λ (a : Answer A). and_then a (ordered us y)) e
 
-  pub stands : (n ≡ 0 → ⊥) → ordered (ts ++ us) y ≡ refused n
-  stands h = by (sym (refuses_by (ordered ts tt) p h))
+  pub stands : {n : ℕ} → refused n ≡ ordered ts x → ordered (ts ++ us) y ≡ refused n
+  stands p = by (sym p)
 
-  module _ (some : positive ts ≡ true) (z : n ≡ 0) where
-    all_given : ordered {A = Unit {0}} ts tt ≡ given tt
-    all_given = sym (passes ts tt some (sym p ∙ z))
+  pub goes_on : {z : A} → given z ≡ ordered ts x → ordered (ts ++ us) y ≡ ordered us y
+  goes_on p = by (sym p)
 
-    pub goes_on : ordered (ts ++ us) y ≡ ordered us y
-    goes_on = by all_given
-
-    pub all_pass : AllPass ts
-    all_pass = ((exactly_all tt ts tt).0 all_given).0
+pub all_pass : {A : Type 0} (ts : Tests) (x : A) {z : A} → given z ≡ ordered ts x → AllPass ts × (x ≡ z)
+all_pass ts x {z} p = (exactly_all x ts z).0 (sym p)

@@ -8,4 +8,3 @@ mod send;
 
 pub use obs::write_obs_row;
 pub use row::write_row;
-pub use send::send_frame;

@@ -1,15 +1,14 @@
 // OBS written from numbers: three of its header, then eight for each observation.
 ghost use Rattle.std.specs.Prelude.{◌≡◌, true, ◌+◌, ◌*◌, ◌≤◌, length};
-ghost use Rattle.refusals.specs.Refusals.{zero_or};
+ghost use Rattle.refusals.specs.Refusals.{ordered};
+ghost use Rattle.refusals.specs.Numbers.{answer_of};
 ghost use Rattle.layouts.specs.Inner.{rows_stored};
 ghost use Rattle.formats.specs.Wide.{narrow_rows, fits_rows};
-ghost use Rattle.frame_writer.specs.Writer.{size_left};
 ghost use Rattle.observation.specs.Edition.{observation};
-ghost use Rattle.payloads.specs.Inner.{number_by};
-ghost use Rattle.row_writer.specs.WriteObsRow.{write_obs_row, obs_row_written};
+ghost use Rattle.row_writer.specs.WriteObsRow.{rows_in, write_obs_row, obs_row_written};
 ghost use Rattle.row_writer.specs.Inner.{testing_obs_row};
 
-use crate::send::send_frame;
+use refusals::Refusal;
 use senders::Writer;
 
 // The first edition's fields as digits (formats/specs/Digits.antt), how many they are, and how many bytes they take.
@@ -32,41 +31,39 @@ fn rows_fit(rows: &[u64], k: usize) -> bool
     requires { k * 8 ≤ length rows.now }
     ensures { result ≡ fits_rows observation.fields k rows.now 0 }
 {
-    let mut i = 0;
-    while i < k {
+    for i in 0..k {
         let from = i * EACH_NUMBERS;
-        if formats::run_fits(&rows[from..], EACH) {
-            i += 1;
-        } else {
+        if !formats::run_fits(&rows[from..], EACH) {
             return false;
         }
     }
     true
 }
 
-// 21, 22, 23, 31 for too many observations, or 0.
-fn refusal(kind: u16, head: &[u64], rows: &[u64]) -> u8
-    ensures { result ≡ number_by (testing_obs_row kind head.now rows.now) }
+// How many observations the numbers are: else 21, 22, 23, 31 for too many.
+fn count_of(kind: u16, head: &[u64], rows: &[u64]) -> Result<usize, Refusal>
+    ensures { answer_of result ≡ ordered (testing_obs_row kind head.now rows.now) (rows_in (length rows.now)) }
 {
-    if observation::is_obs(kind) {
-        if head.len() != HEAD_NUMBERS {
-            return 22;
-        }
-        if rows.len() % EACH_NUMBERS != 0 {
-            return 22;
-        }
-        let k = rows.len() / EACH_NUMBERS;
-        if formats::run_fits(head, HEAD) {
-            if rows_fit(rows, k) {
-                if k <= MOST {
-                    return 0;
-                }
-                return 31;
-            }
-        }
-        return 23;
+    if !observation::is_obs(kind) {
+        return Err(Refusal::UnknownType);
     }
-    21
+    if head.len() != HEAD_NUMBERS {
+        return Err(Refusal::WrongLength);
+    }
+    if rows.len() % EACH_NUMBERS != 0 {
+        return Err(Refusal::WrongLength);
+    }
+    let k = rows.len() / EACH_NUMBERS;
+    if !formats::run_fits(head, HEAD) {
+        return Err(Refusal::OutOfRange);
+    }
+    if !rows_fit(rows, k) {
+        return Err(Refusal::OutOfRange);
+    }
+    if MOST < k {
+        return Err(Refusal::TooLong);
+    }
+    Ok(k)
 }
 
 // Stores k observations one after the other behind the header.
@@ -76,36 +73,28 @@ fn pack_rows(bytes: &mut [u8], rows: &[u64], k: usize)
     requires rows_value { fits_rows observation.fields k rows.now 0 ≡ true }
     ensures { bytes.new ≡ rows_stored observation.fields (narrow_rows observation.fields k rows.now 0) bytes.old 7 }
 {
-    let mut i = 0;
-    while i < k {
+    for i in 0..k {
         let from = i * EACH_NUMBERS;
         let start = HEAD_SIZE + i * EACH_SIZE;
         formats::store_run(&mut bytes[start..], &rows[from..], EACH);
-        i += 1;
     }
 }
 
-// 21, 22, 23, 31, 32, or 0 with the frame's size through size. The frame is written once nothing is left to refuse.
+// 21, 22, 23, 31, 32, or the frame's size. The frame is written once nothing is left to refuse.
 pub fn write_obs_row(
     out: &mut [u8],
     kind: u16,
     writer: Writer,
     head: &[u64],
     rows: &[u64],
-    size: &mut u64,
-) -> u8
-    ensures value { result ≡ zero_or (write_obs_row kind head.now rows.now (length out.old)) }
+) -> Result<usize, Refusal>
+    ensures result_value { answer_of result ≡ write_obs_row kind head.now rows.now (length out.old) }
     ensures out_after { out.new ≡ obs_row_written kind writer head.now rows.now out.old }
-    ensures size_after { size.new ≡ size_left (write_obs_row kind head.now rows.now (length out.old)) size.old }
 {
-    let number = refusal(kind, head, rows);
-    if number != 0 {
-        return number;
-    }
-    let k = rows.len() / EACH_NUMBERS;
+    let k = count_of(kind, head, rows)?;
     let n = HEAD_SIZE + k * EACH_SIZE;
     let mut bytes = [0u8; 255];
     formats::store_run(&mut bytes, head, HEAD);
     pack_rows(&mut bytes, rows, k);
-    send_frame(out, kind, writer, &bytes[..n], size)
+    frame_writer::write_frame(out, kind, writer, &bytes[..n])
 }

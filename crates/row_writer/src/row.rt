@@ -1,28 +1,17 @@
 // A frame written from one number for each field: every message without a tail.
-ghost use Rattle.std.specs.Prelude.{◌≡◌, ◌&&◌, ◌+◌, ◌≤◌, length};
-ghost use Rattle.refusals.specs.Refusals.{zero_or};
+ghost use Rattle.std.specs.Prelude.{◌≡◌, ◌+◌, ◌≤◌, length};
+ghost use Rattle.refusals.specs.Refusals.{ordered};
+ghost use Rattle.refusals.specs.Numbers.{answer_of};
 ghost use Rattle.formats.specs.Digits.{formats_by, size_of, run_fits, run_stored};
 ghost use Rattle.formats.specs.Inner.{formats_in};
-ghost use Rattle.frame_writer.specs.Writer.{size_left};
-ghost use Rattle.payloads.specs.Inner.{number_by};
-ghost use Rattle.payloads.specs.Payloads.{layout_for, known_for};
-ghost use Rattle.row_writer.specs.WriteRow.{alone, write_row, row_written};
+ghost use Rattle.payloads.specs.Payloads.{shape_for};
+ghost use Rattle.row_writer.specs.WriteRow.{write_row, row_written};
 ghost use Rattle.row_writer.specs.Inner.{testing_row};
 
 use crate::send::send;
 use formats::Shape;
+use refusals::Refusal;
 use senders::Writer;
-
-// Whether a type has a reading, and nothing after its fields.
-fn is_alone(kind: u16) -> bool
-    ensures { result ≡ known_for kind && alone (layout_for kind) }
-{
-    if payloads::is_known(kind) {
-        let shape = payloads::shape_of(kind);
-        return shape.each == 0;
-    }
-    false
-}
 
 // Whether each field can hold its number.
 fn fits(row: &[u64], shape: Shape) -> bool
@@ -30,27 +19,24 @@ fn fits(row: &[u64], shape: Shape) -> bool
     ensures { result ≡ run_fits (formats_in shape) row.now 0 }
 {
     let n = formats::count(shape.head);
-    if formats::run_fits(row, shape.head) {
-        return formats::run_fits(&row[n..], shape.more);
-    }
-    false
+    formats::run_fits(row, shape.head) && formats::run_fits(&row[n..], shape.more)
 }
 
-// 21, 22, 23 for a number that its field cannot hold, or 0.
-fn refusal(kind: u16, row: &[u64]) -> u8
-    ensures { result ≡ number_by (testing_row kind row.now) }
+// The shape of a type that has a reading and nothing after its fields, where each field can hold its number: else 21, 22, 23.
+fn shape_for_row(kind: u16, row: &[u64]) -> Result<Shape, Refusal>
+    ensures { answer_of result ≡ ordered (testing_row kind row.now) (shape_for kind) }
 {
-    if is_alone(kind) {
-        let shape = payloads::shape_of(kind);
-        if row.len() == formats::count(shape.head) + formats::count(shape.more) {
-            if fits(row, shape) {
-                return 0;
-            }
-            return 23;
-        }
-        return 22;
+    let shape = payloads::shape_of_type(payloads::message_type(kind)?);
+    if shape.each != 0 {
+        return Err(Refusal::UnknownType);
     }
-    21
+    if row.len() != formats::count(shape.head) + formats::count(shape.more) {
+        return Err(Refusal::WrongLength);
+    }
+    if !fits(row, shape) {
+        return Err(Refusal::OutOfRange);
+    }
+    Ok(shape)
 }
 
 // Stores the fields one after the other at the start of bytes.
@@ -65,19 +51,14 @@ fn pack(bytes: &mut [u8], row: &[u64], shape: Shape)
     formats::store_run(&mut bytes[at..], &row[n..], shape.more);
 }
 
-// 21, 22, 23, 31, 32, or 0 with the frame's size through size. The frame is written once nothing is left to refuse.
-pub fn write_row(out: &mut [u8], kind: u16, writer: Writer, row: &[u64], size: &mut u64) -> u8
-    ensures value { result ≡ zero_or (write_row kind row.now (length out.old)) }
+// 21, 22, 23, 31, 32, or the frame's size. The frame is written once nothing is left to refuse.
+pub fn write_row(out: &mut [u8], kind: u16, writer: Writer, row: &[u64]) -> Result<usize, Refusal>
+    ensures result_value { answer_of result ≡ write_row kind row.now (length out.old) }
     ensures out_after { out.new ≡ row_written kind writer row.now out.old }
-    ensures size_after { size.new ≡ size_left (write_row kind row.now (length out.old)) size.old }
 {
-    let number = refusal(kind, row);
-    if number != 0 {
-        return number;
-    }
-    let shape = payloads::shape_of(kind);
+    let shape = shape_for_row(kind, row)?;
     let n = formats::size(shape.head) + formats::size(shape.more);
     let mut bytes = [0u8; 255];
     pack(&mut bytes, row, shape);
-    send(out, kind, writer, &bytes[..n], size)
+    send(out, kind, writer, &bytes[..n])
 }

@@ -1,16 +1,20 @@
--- `readings::read` meets its contract: a refusal by its number, an OBS by its own reader, any other type by the record that it holds.
-use Rattle.payloads.proofs.Entries as typed
-use Rattle.payloads.proofs.Agreed.{refuses, at_kind}
-use Rattle.readings.proofs.Records.{gives_record}
+-- `readings::read` meets its contract: 21 for a type without a reading, else by the message's own reader.
+use Rattle.std.proofs.Common.{◌≡◌, ℕ, Result, Err, sym, ap, ◌∙◌, rules}
+use Rattle.refusals.specs.Numbers.{answer_of}
+use Rattle.refusals.specs.declared.Refusal.{Refusal}
+use Rattle.payloads.specs.Payloads.{read_for}
+use Rattle.payloads.specs.declared.Message.{Message}
+use Rattle.payloads.proofs.TypesFound.{has_number, untyped}
+use Rattle.readings.proofs.Records.{by_own_reader}
 use Rattle.readings.proofs.read.Goals as goal
 
-pub returns-then-n-ne0 : goal.returns-then-n-ne0
-returns-then-n-ne0 c = let a = c.args in refuses a.kind a.payload.now c.answer-n.ensures c.if-n-ne0.true
+pub returns-in_err-message_type : goal.returns-in_err-message_type
+returns-in_err-message_type c =
+    let same : c.from_residual.result ≡ Err c.in_err-message_type.field-0.0 = search rules in
+    ap (λ (r : Result Message Refusal). answer_of r) same ∙ untyped c.args.kind c.message_type.ensures c.in_err-message_type.was c.args.payload.now
 
-pub returns-in-73 : goal.returns-in-73
-returns-in-73 c = let a = c.args in at_kind a.kind a.payload.now (typed.obs_read a.payload.now) c.obs.ensures c.in-73.is
-
-pub returns-in_default : goal.returns-in_default
-returns-in_default c =
-    let a = c.args in
-    gives_record a.kind a.payload.now c.answer-n.ensures c.if-n-ne0.false c.in_default.in_default-own.rest c.record_in.ensures
+pub returns : goal.returns
+returns c =
+    let s = c.args.payload.now in
+    let number = has_number c.args.kind c.message_type.ensures c.in_ok-message_type.was in
+    c.record_of.ensures ∙ by_own_reader _ s ∙ sym (ap (λ (k : ℕ). read_for k s) number)

@@ -1,105 +1,105 @@
--- `payloads::check::check_of` meets its contract: each type by its row, any other by having none.
-use mathlib.Core.Path.{sym, ap}
-use Rattle.payloads.specs.Checks.{document}
+-- `payloads::check::check_of` meets its contract: each message by its row.
+use mathlib.Core.Path.{◌≡◌, sym, ap}
+use Rattle.payloads.specs.Types.{type_number}
 use Rattle.payloads.specs.Inner.{check_in, check_for}
-use Rattle.payloads.proofs.Agreed.{no_check}
+use Rattle.payloads.specs.declared.kind.MessageType.{MessageType}
 use Rattle.payloads.proofs.check.check_of.Goals as goal
 
-pub returns-in-73 : goal.returns-in-73
-unfolding check_in
-returns-in-73 c = sym (ap check_for c.in-73.is)
+met : {t u : MessageType} → t ≡ u → check_for (type_number u) ≡ check_for (type_number t)
+met e = sym (ap (λ (t : MessageType). check_for (type_number t)) e)
 
-pub returns-in-256 : goal.returns-in-256
+pub returns-in-Obs : goal.returns-in-Obs
 unfolding check_in
-returns-in-256 c = sym (ap check_for c.in-256.is)
+returns-in-Obs c = met c.in-Obs.is
 
-pub returns-in-518 : goal.returns-in-518
+pub returns-in-GpsTime : goal.returns-in-GpsTime
 unfolding check_in
-returns-in-518 c = sym (ap check_for c.in-518.is)
+returns-in-GpsTime c = met c.in-GpsTime.is
 
-pub returns-in-512 : goal.returns-in-512
+pub returns-in-Dops : goal.returns-in-Dops
 unfolding check_in
-returns-in-512 c = sym (ap check_for c.in-512.is)
+returns-in-Dops c = met c.in-Dops.is
 
-pub returns-in-513 : goal.returns-in-513
+pub returns-in-PosEcef : goal.returns-in-PosEcef
 unfolding check_in
-returns-in-513 c = sym (ap check_for c.in-513.is)
+returns-in-PosEcef c = met c.in-PosEcef.is
 
-pub returns-in-514 : goal.returns-in-514
+pub returns-in-PosLlh : goal.returns-in-PosLlh
 unfolding check_in
-returns-in-514 c = sym (ap check_for c.in-514.is)
+returns-in-PosLlh c = met c.in-PosLlh.is
 
-pub returns-in-516 : goal.returns-in-516
+pub returns-in-BaselineEcef : goal.returns-in-BaselineEcef
 unfolding check_in
-returns-in-516 c = sym (ap check_for c.in-516.is)
+returns-in-BaselineEcef c = met c.in-BaselineEcef.is
 
-pub returns-in-515 : goal.returns-in-515
+pub returns-in-VelEcef : goal.returns-in-VelEcef
 unfolding check_in
-returns-in-515 c = sym (ap check_for c.in-515.is)
+returns-in-VelEcef c = met c.in-VelEcef.is
 
-pub returns-in-517 : goal.returns-in-517
+pub returns-in-BaselineNed : goal.returns-in-BaselineNed
 unfolding check_in
-returns-in-517 c = sym (ap check_for c.in-517.is)
+returns-in-BaselineNed c = met c.in-BaselineNed.is
 
-pub returns-in-519 : goal.returns-in-519
+pub returns-in-VelNed : goal.returns-in-VelNed
 unfolding check_in
-returns-in-519 c = sym (ap check_for c.in-519.is)
+returns-in-VelNed c = met c.in-VelNed.is
 
-pub returns-in-68 : goal.returns-in-68
+pub returns-in-BaselineHeading : goal.returns-in-BaselineHeading
 unfolding check_in
-returns-in-68 c = sym (ap check_for c.in-68.is)
+returns-in-BaselineHeading c = met c.in-BaselineHeading.is
 
-pub returns-in-72 : goal.returns-in-72
+pub returns-in-BasePosLlh : goal.returns-in-BasePosLlh
 unfolding check_in
-returns-in-72 c = sym (ap check_for c.in-72.is)
+returns-in-BasePosLlh c = met c.in-BasePosLlh.is
 
-pub returns-in-129 : goal.returns-in-129
+pub returns-in-BasePosEcef : goal.returns-in-BasePosEcef
 unfolding check_in
-returns-in-129 c = sym (ap check_for c.in-129.is)
+returns-in-BasePosEcef c = met c.in-BasePosEcef.is
 
-pub returns-in-130 : goal.returns-in-130
+pub returns-in-EphemerisGps : goal.returns-in-EphemerisGps
 unfolding check_in
-returns-in-130 c = sym (ap check_for c.in-130.is)
+returns-in-EphemerisGps c = met c.in-EphemerisGps.is
 
-pub returns-in-131 : goal.returns-in-131
+pub returns-in-EphemerisSbas : goal.returns-in-EphemerisSbas
 unfolding check_in
-returns-in-131 c = sym (ap check_for c.in-131.is)
+returns-in-EphemerisSbas c = met c.in-EphemerisSbas.is
 
-pub returns-in-144 : goal.returns-in-144
+pub returns-in-EphemerisGlo : goal.returns-in-EphemerisGlo
 unfolding check_in
-returns-in-144 c = sym (ap check_for c.in-144.is)
+returns-in-EphemerisGlo c = met c.in-EphemerisGlo.is
 
-pub returns-in-145 : goal.returns-in-145
+pub returns-in-Iono : goal.returns-in-Iono
 unfolding check_in
-returns-in-145 c = sym (ap check_for c.in-145.is)
+returns-in-Iono c = met c.in-Iono.is
 
-pub returns-in-146 : goal.returns-in-146
+pub returns-in-SvConfigurationGps : goal.returns-in-SvConfigurationGps
 unfolding check_in
-returns-in-146 c = sym (ap check_for c.in-146.is)
+returns-in-SvConfigurationGps c = met c.in-SvConfigurationGps.is
 
-pub returns-in-161 : goal.returns-in-161
+pub returns-in-GroupDelay : goal.returns-in-GroupDelay
 unfolding check_in
-returns-in-161 c = sym (ap check_for c.in-161.is)
+returns-in-GroupDelay c = met c.in-GroupDelay.is
 
-pub returns-in-166 : goal.returns-in-166
+pub returns-in-SettingsSave : goal.returns-in-SettingsSave
 unfolding check_in
-returns-in-166 c = sym (ap check_for c.in-166.is)
+returns-in-SettingsSave c = met c.in-SettingsSave.is
 
-pub returns-in-162 : goal.returns-in-162
+pub returns-in-ReadByIndexDone : goal.returns-in-ReadByIndexDone
 unfolding check_in
-returns-in-162 c = sym (ap check_for c.in-162.is)
+returns-in-ReadByIndexDone c = met c.in-ReadByIndexDone.is
 
-pub returns-in-65280 : goal.returns-in-65280
+pub returns-in-ReadByIndexReq : goal.returns-in-ReadByIndexReq
 unfolding check_in
-returns-in-65280 c = sym (ap check_for c.in-65280.is)
+returns-in-ReadByIndexReq c = met c.in-ReadByIndexReq.is
 
-pub returns-in-65535 : goal.returns-in-65535
+pub returns-in-Startup : goal.returns-in-Startup
 unfolding check_in
-returns-in-65535 c = sym (ap check_for c.in-65535.is)
+returns-in-Startup c = met c.in-Startup.is
 
-pub returns-in-1025 : goal.returns-in-1025
+pub returns-in-Heartbeat : goal.returns-in-Heartbeat
 unfolding check_in
-returns-in-1025 c = sym (ap check_for c.in-1025.is)
+returns-in-Heartbeat c = met c.in-Heartbeat.is
 
-pub returns-in_default : goal.returns-in_default
-returns-in_default c = (no_check document c.args.kind c.in_default.in_default-own.rest).1
+pub returns-in-Log : goal.returns-in-Log
+unfolding check_in
+returns-in-Log c = met c.in-Log.is

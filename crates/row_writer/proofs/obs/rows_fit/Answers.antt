@@ -26,13 +26,13 @@ pub loop-i-preserved : goal.loop-i-preserved
 loop-i-preserved c =
     let a = c.args in
     fit_more observation.fields a.rows.now a.k c.loop-i.i c.loop-i.invariant c.loop-i-test.true
-    (sym c.if-run_fits.true ∙ c.run_fits.ensures ∙ fits_lent observation.fields a.rows.now (c.loop-i.i * 8) each_formats)
+    (sym c.if-not-run_fits.false ∙ c.run_fits.ensures ∙ fits_lent observation.fields a.rows.now (c.loop-i.i * 8) each_formats)
 
-pub returns-else-run_fits : goal.returns-else-run_fits
-returns-else-run_fits c =
+pub returns-then-not-run_fits : goal.returns-then-not-run_fits
+returns-then-not-run_fits c =
     let a = c.args in
     fit_not observation.fields a.rows.now a.k c.loop-i.i c.loop-i.invariant c.loop-i-test.true
-    (sym c.if-run_fits.false ∙ c.run_fits.ensures ∙ fits_lent observation.fields a.rows.now (c.loop-i.i * 8) each_formats)
+    (sym c.if-not-run_fits.true ∙ c.run_fits.ensures ∙ fits_lent observation.fields a.rows.now (c.loop-i.i * 8) each_formats)
 
 pub returns : goal.returns
 returns c = let a = c.args in fit_all observation.fields a.rows.now a.k c.loop-i.i c.loop-i.invariant c.loop-i-test.false

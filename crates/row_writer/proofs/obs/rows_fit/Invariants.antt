@@ -1,11 +1,7 @@
 -- `row_writer::obs::rows_fit` meets its contract. The loop's invariant: whether the observations left fit is whether all do.
-use Prim.Native.Nat.{◌-◌}
 use Rattle.observation.specs.Edition.{observation}
 use Rattle.row_writer.proofs.ObsRows.{Fit}
 use Rattle.row_writer.proofs.obs.rows_fit.Given as goal
 
 abbrev pub invariant-loop-i : goal.invariant-loop-i
 invariant-loop-i l = Fit observation.fields l.rows l.k l.i
-
-abbrev pub decreases-loop-i : goal.decreases-loop-i
-decreases-loop-i l = l.k - l.i
