@@ -12,21 +12,20 @@ use Rattle.frames.specs.declared.step.Step.{Step}
 use Rattle.frames.specs.declared.step.Step.TheVariants.{Finished, Junk, Short, Bad, Found}
 use Rattle.frames.specs.declared.cursor.Cursor.{Cursor}
 use Rattle.frames.specs.declared.cursor.Next as Next
-use Rattle.frames.proofs.CursorLoops.{Walking, left, walking_begun, walking_on, walking_end}
+use Rattle.frames.proofs.CursorLoops.{Walking, left, never_needs, walking_begun, walking_on, walking_end}
 use Rattle.epochs.specs.Search.{seat_of, repeats}
 use Rattle.epochs.specs.Collator.{roster_of, fed_frame, made}
 use Rattle.epochs.specs.Epoch.{after, outcomes, report_in, reports, reports_of, content_in, contents_of}
 use Rattle.frames.specs.Frame.{Content}
 use Rattle.captures.specs.Capture.{begun, one_more, counted, fed_into, fed_all, collated}
-use Rattle.epochs.specs.declared.seating.Seat.{Seat}
-use Rattle.epochs.specs.declared.seating.Seat.TheVariants.{At, Nowhere}
+use Rattle.std.specs.Prelude.{Option, Some, None}
 use Rattle.epochs.specs.declared.collating.Collator.{Collator}
-use Rattle.epochs.specs.declared.collating.Fed.{Fed}
-use Rattle.epochs.specs.declared.collating.Made.{Made}
+use Rattle.epochs.specs.Fed.{Fed}
+use Rattle.epochs.specs.Fed.{Made}
 use Rattle.epochs.specs.declared.collating.Report.{Report}
-use Rattle.epochs.specs.declared.collating.Happened.{Happened}
-use Rattle.epochs.specs.declared.collating.Happened.TheVariants as H
-use Rattle.captures.specs.declared.capturing.Collated.{Collated}
+use Rattle.epochs.specs.Happened.{Happened}
+use Rattle.epochs.specs.Happened as H
+use Rattle.captures.specs.Collated.{Collated}
 use Rattle.epochs.proofs.Searches.{seat_named, seat_own, seat_below}
 use Rattle.epochs.proofs.Making.{seated, made_seated}
 use Rattle.epochs.proofs.Feeding.{fed_lists}
@@ -75,6 +74,14 @@ module _ (s : List ℕ) (small : length s < 2 ^ 64) where
   unfolding fed_all
   going_end going e = sym (walking_end s small going e).rest
 
+  pub going_done : {end t : Collated} {c : Cursor} → Walking s (Going s end t) c → ((f : Frame) (d : Cursor) → next_of s c ≡ Next.TheVariants.Frame f d → ⊥) → t ≡ end
+  going_done {end} {t} {c} going none = by (next_of s c) refl
+    where
+      by : (next : Next.Next) → next_of s c ≡ next → t ≡ end
+      by (Next.TheVariants.Frame f d) e = absurd (none f d e)
+      by (Next.TheVariants.End d) e = going_end going e
+      by (Next.TheVariants.Needs n d) e = absurd (never_needs s small going.honest e)
+
 -- ---- what the answer is
 
 -- the frames are fed one after the other
@@ -95,19 +102,19 @@ module _ (roster : List ℕ) (once : repeats roster ≡ false) (few : length ros
   one_counted c e H.Taken ns size h rs = refl
   one_counted c e (H.Epoch r) ns size h rs = by (eqb r.sender sender) refl
     where
-      own_seat : r.sender ≡ sender → seat_of (roster_of c) r.sender 0 ≡ At i
+      own_seat : r.sender ≡ sender → seat_of (roster_of c) r.sender 0 ≡ Some i
       own_seat q = ap₂ (λ (l : List ℕ) (s : ℕ). seat_of l s 0) e q ∙ seat_own roster i once below
 
-      other : (x : Seat) → seat_of roster r.sender 0 ≡ x → (r.sender ≡ sender → ⊥) → get_or (one_more ns x) i 0 ≡ get_or ns i 0
-      other Nowhere q d = refl
-      other (At j) q d =
+      other : (x : Option ℕ) → seat_of roster r.sender 0 ≡ x → (r.sender ≡ sender → ⊥) → get_or (one_more ns x) i 0 ≡ get_or ns i 0
+      other None q d = refl
+      other (Some j) q d =
           get_or-set_other ns j i ((get_or ns j 0 + 1) % 2 ^ 64) 0 (λ k. d (sym (seat_named roster r.sender q) ∙ ap (λ (k : ℕ). get_or roster k 0) (sym k)))
 
       by : (t : Bool) → eqb r.sender sender ≡ t
           → get_or (one_more ns (seat_of (roster_of c) r.sender 0)) i 0 + length (reports_of sender rs) ≡ get_or ns i 0 + length (cond t (r ∷ reports_of sender rs) (reports_of sender rs))
       by true q =
           let more : get_or (one_more ns (seat_of (roster_of c) r.sender 0)) i 0 ≡ (get_or ns i 0 + 1) % 2 ^ 64
-          = ap (λ (x : Seat). get_or (one_more ns x) i 0) (own_seat (eqb-true _ _ q)) ∙ get_or-set_same ns i ((get_or ns i 0 + 1) % 2 ^ 64) 0 (omega arith) in
+          = ap (λ (x : Option ℕ). get_or (one_more ns x) i 0) (own_seat (eqb-true _ _ q)) ∙ get_or-set_same ns i ((get_or ns i 0 + 1) % 2 ^ 64) 0 (omega arith) in
           omega arith
       by false q =
           let same : get_or (one_more ns (seat_of (roster_of c) r.sender 0)) i 0 ≡ get_or ns i 0
@@ -119,9 +126,9 @@ module _ (roster : List ℕ) (once : repeats roster ≡ false) (few : length ros
   counted_size c H.Taken ns = refl
   counted_size c (H.Epoch r) ns = by (seat_of (roster_of c) r.sender 0)
     where
-      by : (x : Seat) → length (one_more ns x) ≡ length ns
-      by Nowhere = refl
-      by (At j) = length-set ns j ((get_or ns j 0 + 1) % 2 ^ 64)
+      by : (x : Option ℕ) → length (one_more ns x) ≡ length ns
+      by None = refl
+      by (Some j) = length-set ns j ((get_or ns j 0 + 1) % 2 ^ 64)
 
   -- a frame makes at most one report
   one_report : (h : Happened) → length (reports_of sender (report_in h [])) ≤ 1
@@ -154,9 +161,9 @@ module _ (roster : List ℕ) (i : ℕ) (past : length roster ≤ i) where
   one_idle c e H.Taken counts = refl
   one_idle c e (H.Epoch r) counts = by (seat_of (roster_of c) r.sender 0) refl
     where
-      by : (seat : Seat) → seat_of (roster_of c) r.sender 0 ≡ seat → get_or (one_more counts seat) i 0 ≡ get_or counts i 0
-      by Nowhere q = refl
-      by (At j) q =
+      by : (seat : Option ℕ) → seat_of (roster_of c) r.sender 0 ≡ seat → get_or (one_more counts seat) i 0 ≡ get_or counts i 0
+      by None q = refl
+      by (Some j) q =
           let below = (seat_below (roster_of c) r.sender 0 q).1 in
           get_or-set_other counts j i _ 0 (λ same. omega (arith, below, ap length e, past, same))
 

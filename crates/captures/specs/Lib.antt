@@ -1,1 +1,2 @@
+pub mod Collated
 pub mod Capture

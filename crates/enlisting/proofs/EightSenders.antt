@@ -14,7 +14,7 @@ use Rattle.frames.specs.Frame.{Content}
 use Rattle.epochs.specs.Search.{names, repeats}
 use Rattle.epochs.specs.Collator.{made}
 use Rattle.epochs.specs.Epoch.{Seated}
-use Rattle.epochs.specs.declared.collating.Made.{Made}
+use Rattle.epochs.specs.Fed.{Made}
 use Rattle.epochs.proofs.Searches.{names_on, names_first, names_later, names_not, once_on}
 use Rattle.epochs.proofs.Making.{made_whole}
 use Rattle.enlisting.specs.FirstEight.{obs_senders, different, first_eight}
@@ -101,7 +101,7 @@ module _ (xs : List Content) where
     where
       by : (r : List ℕ) → first_eight xs ≡ r → (first_eight xs ≡ []) ⊎ ((made (first_eight xs)).number ≡ 0)
       by [] e = inl e
-      by (y ∷ ys) e = inr (ap (λ (m : Made). m.number) (sym (made_whole (first_eight xs) (omega (arith, ap length e)) first_seated.few first_seated.once refl)))
+      by (y ∷ ys) e = inr (ap (λ (m : Made). m.number) (made_whole (first_eight xs) (omega (arith, ap length e)) first_seated))
 
   -- none exactly where no frame is OBS
   pub first_empty : (first_eight xs ≡ []) ↔ (obs_senders xs ≡ [])

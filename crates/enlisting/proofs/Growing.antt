@@ -15,11 +15,11 @@ use Rattle.packets.proofs.Recognitions.{read_46}
 use Rattle.epochs.specs.Search.{seat_of, names}
 use Rattle.epochs.specs.Collator.{for_place, idle, fed_frame}
 use Rattle.epochs.specs.Epoch.{after, outcomes}
-use Rattle.epochs.specs.declared.seating.Seat.TheVariants.{At}
+use Rattle.std.specs.Prelude.{Some}
 use Rattle.epochs.specs.declared.collating.Place.{Place}
 use Rattle.epochs.specs.declared.collating.Collator.{Collator}
-use Rattle.epochs.specs.declared.collating.Happened.{Happened}
-use Rattle.epochs.specs.declared.collating.Fed.{Fed}
+use Rattle.epochs.specs.Happened.{Happened}
+use Rattle.epochs.specs.Fed.{Fed}
 use Rattle.epochs.proofs.Searches.{names_first, names_later, seat_listed}
 use Rattle.epochs.proofs.Placings.{placed_seat, placed_unread}
 use Rattle.epochs.proofs.Making.{nobody, made_seated}
@@ -33,13 +33,13 @@ use Rattle.enlisting.proofs.Seating.{held_in, held_list, held_enlisted}
 -- ---- a seat that was given stays
 
 -- senders that come after a sender leave it its seat
-seat_first : (xs ys : List ℕ) (x i : ℕ) {j : ℕ} → seat_of xs x i ≡ At j → seat_of (xs ++ ys) x i ≡ At j
+seat_first : (xs ys : List ℕ) (x i : ℕ) {j : ℕ} → seat_of xs x i ≡ Some j → seat_of (xs ++ ys) x i ≡ Some j
 unfolding seat_of
 seat_first [] ys x i e = let z : ◌≡◌ {A = ℕ} 0 1 = cc in absurd (omega arith)
 seat_first (y ∷ xs) ys x i {j} e = by (eqb y x) e (λ e. seat_first xs ys x (suc i) e)
   where
-    by : (t : Bool) → cond t (At i) (seat_of xs x (suc i)) ≡ At j → (seat_of xs x (suc i) ≡ At j → seat_of (xs ++ ys) x (suc i) ≡ At j)
-        → cond t (At i) (seat_of (xs ++ ys) x (suc i)) ≡ At j
+    by : (t : Bool) → cond t (Some i) (seat_of xs x (suc i)) ≡ Some j → (seat_of xs x (suc i) ≡ Some j → seat_of (xs ++ ys) x (suc i) ≡ Some j)
+        → cond t (Some i) (seat_of (xs ++ ys) x (suc i)) ≡ Some j
     by true e rest = e
     by false e rest = rest e
 

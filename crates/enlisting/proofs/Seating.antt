@@ -9,8 +9,7 @@ use Rattle.frames.specs.Frame.{Content}
 use Rattle.observation.specs.Edition.{is_obs}
 use Rattle.epochs.specs.Search.{names}
 use Rattle.epochs.specs.Collator.{roster_of}
-use Rattle.epochs.specs.declared.seating.Seat.{Seat}
-use Rattle.epochs.specs.declared.seating.Seat.TheVariants.{At}
+use Rattle.std.specs.Prelude.{Option, Some}
 use Rattle.epochs.specs.declared.collating.Place.{Place}
 use Rattle.epochs.specs.declared.collating.Collator.{Collator}
 use Rattle.epochs.proofs.Senders.{roster_kept}
@@ -39,17 +38,6 @@ one_more [] (suc n) zero x h g = absurd (omega arith)
 one_more [] (suc n) (suc k) x h g = ap (λ (r : List ℕ). x ∷ r) (take-zeros n k (suc k) (omega arith) (omega arith))
 one_more (y ∷ xs) (suc n) k x h g = ap (λ (r : List ℕ). y ∷ r) (one_more xs n k x (omega arith) (omega arith))
 
--- ---- the two ways through `enlist`
-
-module _ (c : Collator) (kind sender : ℕ) where
-  pub enlists : {d : Collator} → is_obs kind ≡ true → d ≡ joined_to c sender → d ≡ enlisted_to c kind sender
-  unfolding enlisted_to
-  enlists e q = q ∙ sym (ap (λ (t : Bool). cond t (joined_to c sender) c) e)
-
-  pub enlists_none : is_obs kind ≡ false → c ≡ enlisted_to c kind sender
-  unfolding enlisted_to
-  enlists_none e = sym (ap (λ (t : Bool). cond t (joined_to c sender) c) e)
-
 -- ---- so a sender joins the seats as it joins the roster
 
 module _ (places : List Place) (roster : List ℕ) (few : length roster ≤ 8) where
@@ -64,10 +52,10 @@ module _ (places : List Place) (roster : List ℕ) (few : length roster ≤ 8) w
       listed : names (roster_of c) sender ≡ names roster sender
       listed = ap (λ (xs : List ℕ). names xs sender) (held_list places roster few)
 
-      seated : {x : Seat} → new_seat c.roster c.count sender ≡ x → joined_to c sender ≡ seated_in x c sender
-      seated e = ap (λ (x : Seat). seated_in x c sender) e
+      seated : {x : Option ℕ} → new_seat c.roster c.count sender ≡ x → joined_to c sender ≡ seated_in x c sender
+      seated e = ap (λ (x : Option ℕ). seated_in x c sender) e
 
-      last : length roster < 8 → seated_in (At c.count) c sender ≡ held_in places (roster ++ sender ∷ [])
+      last : length roster < 8 → seated_in (Some c.count) c sender ≡ held_in places (roster ++ sender ∷ [])
       last h =
           ap₂ {C = Collator} (λ (ss : List ℕ) (n : ℕ). record { places = places; roster = ss; count = n }) (one_more roster 8 8 sender h (omega arith))
           (sym (length-append roster (sender ∷ [])))

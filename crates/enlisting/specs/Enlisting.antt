@@ -1,26 +1,24 @@
 -- A collator that takes senders on as their frames come: as a sender joins the roster it gets the first free seat, before its frame is fed.
 -- From nobody on it comes to the same as a collator of the first eight senders, made beforehand.
-use Rattle.std.specs.Prelude.{ℕ, ◌+◌, ◌≡◌, cond, not, ◌&&◌, List, [], ◌∷◌, ltb, set, take}
+use Rattle.std.specs.Prelude.{ℕ, ◌+◌, ◌≡◌, cond, not, ◌&&◌, List, [], ◌∷◌, ltb, set, take, Option, Some, None}
 use Rattle.frames.specs.Frame.{Content}
 use Rattle.observation.specs.Edition.{is_obs}
 use Rattle.epochs.specs.Search.{names}
 use Rattle.epochs.specs.Collator.{fed_frame, made}
 use Rattle.epochs.specs.Epoch.{after, outcomes}
-use Rattle.epochs.specs.declared.seating.Seat.{Seat}
-use Rattle.epochs.specs.declared.seating.Seat.TheVariants.{At, Nowhere}
 use Rattle.epochs.specs.declared.collating.Collator.{Collator}
-use Rattle.epochs.specs.declared.collating.Fed.{Fed}
-use Rattle.epochs.specs.declared.collating.Happened.{Happened}
+use Rattle.epochs.specs.Fed.{Fed}
+use Rattle.epochs.specs.Happened.{Happened}
 use Rattle.enlisting.specs.FirstEight.{first_eight}
 
 -- the seat that a sender takes: the next one, where it has none yet and there is room
-abbrev pub new_seat : List ℕ → ℕ → ℕ → Seat
-new_seat roster count sender = cond (not (names (take count roster) sender) && ltb count 8) (At count) Nowhere
+abbrev pub new_seat : List ℕ → ℕ → ℕ → Option ℕ
+new_seat roster count sender = cond (not (names (take count roster) sender) && ltb count 8) (Some count) None
 
 -- a sender in its new seat, if it takes one
-abbrev pub seated_in : Seat → Collator → ℕ → Collator
-seated_in Nowhere c sender = c
-seated_in (At i) c sender = record { places = c.places; roster = set c.roster i sender; count = i + 1 }
+abbrev pub seated_in : Option ℕ → Collator → ℕ → Collator
+seated_in None c sender = c
+seated_in (Some i) c sender = record { places = c.places; roster = set c.roster i sender; count = i + 1 }
 
 abbrev pub joined_to : Collator → ℕ → Collator
 joined_to c sender = seated_in (new_seat c.roster c.count sender) c sender

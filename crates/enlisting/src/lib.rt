@@ -6,42 +6,37 @@
 ghost use Rattle.std.specs.Prelude.{◌≡◌};
 ghost use Rattle.enlisting.specs.Enlisting.{new_seat, joined_to, enlisted_to};
 
-use epochs::{Collator, Seat};
+use epochs::{Collator, Roster};
 
 // The seat that a sender takes: the next one, where it has none yet and there is room.
-pub fn new_seat(roster: [u16; 8], count: usize, sender: u16) -> Seat
-    ensures { result ≡ new_seat roster count sender }
+pub fn new_seat(roster: Roster, sender: u16) -> Option<usize>
+    ensures { result ≡ new_seat roster.senders roster.count sender }
 {
-    let Seat::Nowhere = epochs::seat_of(roster, count, sender) else {
-        return Seat::Nowhere;
-    };
-    if 8 <= count {
-        return Seat::Nowhere;
+    if roster.seat_of(sender).is_some() {
+        return None;
     }
-    Seat::At(count)
+    if 8 <= roster.count {
+        return None;
+    }
+    Some(roster.count)
 }
 
 // A sender takes its new seat, if it has one to take.
-fn joined(collator: Collator, sender: u16) -> Collator
-    ensures { result ≡ joined_to collator sender }
+fn join(collator: &mut Collator, sender: u16)
+    ensures { collator.new ≡ joined_to collator.old sender }
 {
-    let roster = collator.roster;
-    let count = collator.count;
-    let Seat::At(i) = new_seat(roster, count, sender) else {
-        return collator;
-    };
-    let mut more = collator;
-    more.roster[i] = sender;
-    more.count = i + 1;
-    more
+    if let Some(i) = new_seat(collator.listed(), sender) {
+        collator.roster[i] = sender;
+        collator.count = i + 1;
+    }
 }
 
-// The sender of an observation frame has its seat before the frame is fed. Start with the collator of an empty roster, which lists nobody.
-pub fn enlist(collator: Collator, kind: u16, sender: u16) -> Collator
-    ensures { result ≡ enlisted_to collator kind sender }
+// The sender of an observation frame has its seat before the frame is fed. Start with `Collator::empty`.
+#[tactic(auto, unfolding(crate::specs::Enlisting::enlisted_to))]
+pub fn enlist(collator: &mut Collator, kind: u16, sender: u16)
+    ensures { collator.new ≡ enlisted_to collator.old kind sender }
 {
     if observation::is_obs(kind) {
-        return joined(collator, sender);
+        join(collator, sender);
     }
-    collator
 }

@@ -14,8 +14,7 @@ use Rattle.packets.specs.declared.packet.Packet.{Packet}
 use Rattle.groups.specs.InWords.{whole, group_at, observations_in}
 use Rattle.groups.specs.Group.{stepping, ended_of, left_open}
 use Rattle.groups.specs.AnyOrder.{Reordered, none, first, AllCount}
-use Rattle.groups.specs.declared.grouping.Ended.{Ended}
-use Rattle.groups.specs.declared.grouping.Ended.TheVariants.{Not, Whole}
+use Rattle.std.specs.Prelude.{Option, Some, None}
 use Rattle.groups.specs.declared.grouping.Stepped.{Stepped}
 use Rattle.groups.proofs.WholeGroups.{whole_epoch}
 use Rattle.groups.proofs.AnyOrder.{onto, endings, any_order}
@@ -26,7 +25,7 @@ use Rattle.epochs.specs.Epoch.{own_packet, kept, packets_of, of_sender, history_
 use Rattle.epochs.specs.Arrival.{PacketsOf, InAnyOrder}
 use Rattle.epochs.specs.declared.collating.Collator.{Collator}
 use Rattle.epochs.specs.declared.collating.Report.{Report}
-use Rattle.epochs.specs.declared.collating.Fed.{Fed}
+use Rattle.epochs.specs.Fed.{Fed}
 use Rattle.epochs.proofs.Senders.{state_of, heard_by, comes_to, state_ext, fed_listed}
 use Rattle.epochs.proofs.Collations.{history_formed, standing}
 
@@ -95,13 +94,13 @@ reported : (s : ℕ) (p : Packet) (past : List Packet) → AllFormed (p ∷ past
     report_in (came_to s p (reply (stepping (left_open past) p))) rs ≡ cond (whole g) (report_for s (p.key, observations_in g) ∷ rs) rs
 reported s p past all rs = by (whole (group_at (p ∷ past))) refl (reply (stepping (left_open past) p)) refl
   where
-    by_ended : (e : Ended) → ended_of (reply (stepping (left_open past) p)) ≡ e → whole (group_at (p ∷ past)) ≡ false → report_in (outcome s p e) rs ≡ rs
-    by_ended Not q w = refl
-    by_ended (Whole t) q w = absurd (true≢false (sym ((whole_epoch p past t all).0 q).all_come ∙ w))
+    by_ended : (e : Option ℕ) → ended_of (reply (stepping (left_open past) p)) ≡ e → whole (group_at (p ∷ past)) ≡ false → report_in (outcome s p e) rs ≡ rs
+    by_ended None q w = refl
+    by_ended (Some t) q w = absurd (true≢false (sym ((whole_epoch p past t all).0 q).all_come ∙ w))
 
-    came : (a : Answer Stepped) {t : ℕ} → ended_of a ≡ Whole t → report_in (came_to s p a) rs ≡ report_for s (p.key, t) ∷ rs
+    came : (a : Answer Stepped) {t : ℕ} → ended_of a ≡ Some t → report_in (came_to s p a) rs ≡ report_for s (p.key, t) ∷ rs
     came (refused n) q = let z : ◌≡◌ {A = ℕ} 0 1 = cc in absurd (omega arith)
-    came (given y) q = ap (λ (e : Ended). report_in (outcome s p e) rs) q
+    came (given y) q = ap (λ (e : Option ℕ). report_in (outcome s p e) rs) q
 
     by : (b : Bool) → whole (group_at (p ∷ past)) ≡ b → (a : Answer Stepped) → reply (stepping (left_open past) p) ≡ a
         → report_in (came_to s p a) rs ≡ cond b (report_for s (p.key, observations_in (group_at (p ∷ past))) ∷ rs) rs

@@ -16,8 +16,7 @@ use Rattle.packets.specs.Packet.{AllFormed}
 use Rattle.packets.specs.declared.packet.Packet.{Packet}
 use Rattle.packets.proofs.Recognitions.{formed, n_small}
 use Rattle.groups.specs.Group.{left_open, stepping, ended_of}
-use Rattle.groups.specs.declared.grouping.Ended.{Ended}
-use Rattle.groups.specs.declared.grouping.Ended.TheVariants.{Not, Whole}
+use Rattle.std.specs.Prelude.{Option, Some, None}
 use Rattle.groups.specs.declared.grouping.Stepped.{Stepped}
 use Rattle.groups.proofs.StepCases.{not_whole}
 use Rattle.groups.proofs.WholeGroups.{whole_epoch, total_small}
@@ -27,9 +26,9 @@ use Rattle.epochs.specs.Epoch.{own_packet, kept, packets_of, of_sender, history_
 use Rattle.epochs.specs.declared.collating.Place.{Place}
 use Rattle.epochs.specs.declared.collating.Collator.{Collator}
 use Rattle.epochs.specs.declared.collating.Report.{Report}
-use Rattle.epochs.specs.declared.collating.Happened.{Happened}
-use Rattle.epochs.specs.declared.collating.Happened.TheVariants as H
-use Rattle.epochs.specs.declared.collating.Fed.{Fed}
+use Rattle.epochs.specs.Happened.{Happened}
+use Rattle.epochs.specs.Happened as H
+use Rattle.epochs.specs.Fed.{Fed}
 use Rattle.epochs.proofs.Searches.{map-listed}
 use Rattle.epochs.proofs.Making.{made_seated}
 use Rattle.epochs.proofs.Feeding.{never_refused, never_taken, report_own}
@@ -93,9 +92,9 @@ unfolding reports_of
 comes_own s past (refused n) rs = refl
 comes_own s past (given p) rs = by_step (reply (stepping (left_open past) p))
   where
-    by : (e : Ended) → reports_of s (report_in (outcome s p e) rs) ≡ report_in (outcome s p e) (reports_of s rs)
-    by Not = refl
-    by (Whole t) = rw (eq-eqb s s refl)
+    by : (e : Option ℕ) → reports_of s (report_in (outcome s p e) rs) ≡ report_in (outcome s p e) (reports_of s rs)
+    by None = refl
+    by (Some t) = rw (eq-eqb s s refl)
 
     by_step : (a : Answer Stepped) → reports_of s (report_in (came_to s p a) rs) ≡ report_in (came_to s p a) (reports_of s rs)
     by_step (refused n) = refl
@@ -134,10 +133,10 @@ module _ (roster : List ℕ) (is : Seated roster) where
         listed_comes : names roster x.sender ≡ true → (fed_frame (state_of roster past) x).happened ≡ comes_to x.sender (past x.sender) (own_packet x)
         listed_comes n = ap (λ (f : Fed). f.happened) (fed_listed roster is.few is.once past x n)
 
-        by_ended : names roster x.sender ≡ true → (p : Packet) → own_packet x ≡ given p → (d : Ended) → ended_of (reply (stepping (left_open (past x.sender)) p)) ≡ d
+        by_ended : names roster x.sender ≡ true → (p : Packet) → own_packet x ≡ given p → (d : Option ℕ) → ended_of (reply (stepping (left_open (past x.sender)) p)) ≡ d
             → outcome x.sender p d ≡ H.Epoch e → EndsEpoch roster xs x e
-        by_ended n p q Not r h = absurd (never_taken h)
-        by_ended n p q (Whole t) r h =
+        by_ended n p q None r h = absurd (never_taken h)
+        by_ended n p q (Some t) r h =
             record { packet = p; total = t; listed = n; formed = q; ends = (whole_epoch p (past x.sender) t (formed_on q)).0 r; report = sym (same_report h) }
 
         by_step : names roster x.sender ≡ true → (p : Packet) → own_packet x ≡ given p → (a : Answer Stepped) → reply (stepping (left_open (past x.sender)) p) ≡ a
@@ -155,7 +154,7 @@ module _ (roster : List ℕ) (is : Seated roster) where
             let r = fed_unlisted roster is.few is.once past x n in
             absurd (never_refused (sym (ap (λ (f : Fed). f.happened) r.1) ∙ h))
 
-        came_whole : (p : Packet) {t : ℕ} (a : Answer Stepped) → ended_of a ≡ Whole t → came_to x.sender p a ≡ outcome x.sender p (Whole t)
+        came_whole : (p : Packet) {t : ℕ} (a : Answer Stepped) → ended_of a ≡ Some t → came_to x.sender p a ≡ outcome x.sender p (Some t)
         came_whole p (refused n) w = absurd (not_whole w)
         came_whole p (given y) w = ap (outcome x.sender p) w
 

@@ -12,16 +12,15 @@ use Rattle.packets.specs.Packet.{shape, numbering, AllFormed}
 use Rattle.packets.specs.declared.packet.Packet.{Packet}
 use Rattle.packets.proofs.Recognitions.{formed}
 use Rattle.groups.specs.Group.{stepping, left_open}
-use Rattle.groups.specs.declared.grouping.Ended.{Ended}
-use Rattle.groups.specs.declared.grouping.Ended.TheVariants.{Not, Whole}
+use Rattle.std.specs.Prelude.{Option, Some, None}
 use Rattle.groups.specs.declared.grouping.Stepped.{Stepped}
 use Rattle.groups.proofs.WholeGroups.{copy_refused}
 use Rattle.epochs.specs.Search.{names}
 use Rattle.epochs.specs.Collator.{placing, own_place, for_place, outcome, came_to, fed_frame, made}
 use Rattle.epochs.specs.Epoch.{own_packet, history_of, after, Seated, BringsCopy}
 use Rattle.epochs.specs.declared.collating.Collator.{Collator}
-use Rattle.epochs.specs.declared.collating.Happened.TheVariants as H
-use Rattle.epochs.specs.declared.collating.Fed.{Fed}
+use Rattle.epochs.specs.Happened as H
+use Rattle.epochs.specs.Fed.{Fed}
 use Rattle.epochs.proofs.Searches.{seat_listed}
 use Rattle.epochs.proofs.Placings.{at, placed_listed, placed_unlisted}
 use Rattle.epochs.proofs.Feeding.{fed_refused}
@@ -31,9 +30,9 @@ use Rattle.epochs.proofs.Collations.{history_formed, standing}
 same_refusal : {m n : ℕ} → H.Refused m ≡ H.Refused n → m ≡ n
 same_refusal e = cc
 
-never_outcome : (s : ℕ) (p : Packet) (e : Ended) {n : ℕ} → outcome s p e ≡ H.Refused n → ⊥
-never_outcome s p Not e = let z : ◌≡◌ {A = ℕ} 0 1 = cc in omega arith
-never_outcome s p (Whole t) e = let z : ◌≡◌ {A = ℕ} 0 1 = cc in omega arith
+never_outcome : (s : ℕ) (p : Packet) (e : Option ℕ) {n : ℕ} → outcome s p e ≡ H.Refused n → ⊥
+never_outcome s p None e = let z : ◌≡◌ {A = ℕ} 0 1 = cc in omega arith
+never_outcome s p (Some t) e = let z : ◌≡◌ {A = ℕ} 0 1 = cc in omega arith
 
 -- by itself a frame is refused with 46, 22, 43, 44 or 45
 never_47 : (roster : List ℕ) (x : Content) → for_place roster x ≡ refused 47 → ⊥

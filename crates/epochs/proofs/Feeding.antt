@@ -15,21 +15,20 @@ use Rattle.refusals.proofs.Joined.{and_then, ordered_joined, ordered_mapped}
 use Rattle.frames.specs.Frame.{Content}
 use Rattle.packets.specs.declared.packet.Packet.{Packet}
 use Rattle.groups.specs.Group.{stepped, stepping}
-use Rattle.groups.specs.declared.grouping.Group.{Group}
-use Rattle.groups.specs.declared.grouping.Ended.{Ended}
-use Rattle.groups.specs.declared.grouping.Ended.TheVariants.{Not, Whole}
+use Rattle.groups.specs.declared.grouping.Part.{Part}
+use Rattle.std.specs.Prelude.{Option}
+use Rattle.std.specs.Prelude.{Option, Some, None}
 use Rattle.groups.specs.declared.grouping.Stepped.{Stepped}
 use Rattle.groups.proofs.StepCases.{whole_rests}
 use Rattle.epochs.specs.Search.{seat_of}
 use Rattle.epochs.specs.Collator.{own_place, placing, idle, outcome, for_place, Move, move_to, feeding, moved, roster_of, fed_frame}
 use Rattle.epochs.specs.Epoch.{own_packet, report_in, reports_of}
-use Rattle.epochs.specs.declared.seating.Seat.TheVariants.{At}
 use Rattle.epochs.specs.declared.collating.Place.{Place}
 use Rattle.epochs.specs.declared.collating.Collator.{Collator}
 use Rattle.epochs.specs.declared.collating.Report.{Report}
-use Rattle.epochs.specs.declared.collating.Fed.{Fed}
-use Rattle.epochs.specs.declared.collating.Happened.{Happened}
-use Rattle.epochs.specs.declared.collating.Happened.TheVariants as H
+use Rattle.epochs.specs.Fed.{Fed}
+use Rattle.epochs.specs.Happened.{Happened}
+use Rattle.epochs.specs.Happened as H
 use Rattle.epochs.proofs.Searches.{same_seat, seat_named}
 use Rattle.epochs.proofs.Placings.{placed}
 
@@ -93,9 +92,9 @@ module _ (c : Collator) (x : Content) where
       by (given (i, p)) q = (i, p, q, by_step i p (step_at c i p) refl (sym (replied_for q) ∙ e))
 
   -- and what comes of it is no refusal: the place is taken, or an epoch
-  outcome_told : (p : Packet) (e : Ended) → (outcome sender p e ≡ H.Taken) ⊎ ((r : Report) × (outcome sender p e ≡ H.Epoch r))
-  outcome_told p Not = inl refl
-  outcome_told p (Whole t) = inr (_, refl)
+  outcome_told : (p : Packet) (e : Option ℕ) → (outcome sender p e ≡ H.Taken) ⊎ ((r : Report) × (outcome sender p e ≡ H.Epoch r))
+  outcome_told p None = inl refl
+  outcome_told p (Some t) = inr (_, refl)
 
   pub moves_told : {m : Move} → reply (feeding c x) ≡ given m → (m.happened ≡ H.Taken) ⊎ ((r : Report) × (m.happened ≡ H.Epoch r))
   moves_told {m} e =
@@ -130,7 +129,7 @@ module _ (c : Collator) (x : Content) where
   -- it is a refusal, or the frame's own packet at its sender's seat
   pub by_placing : (P : Fed → Type 0)
       → ((n : ℕ) → P (record { collator = c; happened = H.Refused n }))
-      → ((i : ℕ) (p : Packet) → seat_of (roster_of c) sender 0 ≡ At i → own_packet x ≡ given p → P (taken c sender i p))
+      → ((i : ℕ) (p : Packet) → seat_of (roster_of c) sender 0 ≡ Some i → own_packet x ≡ given p → P (taken c sender i p))
       → P (fed_frame c x)
   by_placing P unchanged for = by (for_place (roster_of c) x) refl
     where
@@ -150,36 +149,36 @@ module _ (c : Collator) (x : Content) where
   pub refused_keeps : {n : ℕ} → (fed_frame c x).happened ≡ H.Refused n → (fed_frame c x).collator ≡ c
   refused_keeps {n} = by_placing (λ (f : Fed). f.happened ≡ H.Refused n → f.collator ≡ c) (λ m e. refl) (λ i p s q e. absurd (never p (stepped (get_or c.places i idle).group p).ended e))
     where
-      never : (p : Packet) (e : Ended) → outcome sender p e ≡ H.Refused n → ⊥
-      never p Not e = let z : ◌≡◌ {A = ℕ} 0 1 = cc in omega arith
-      never p (Whole t) e = let z : ◌≡◌ {A = ℕ} 0 1 = cc in omega arith
+      never : (p : Packet) (e : Option ℕ) → outcome sender p e ≡ H.Refused n → ⊥
+      never p None e = let z : ◌≡◌ {A = ℕ} 0 1 = cc in omega arith
+      never p (Some t) e = let z : ◌≡◌ {A = ℕ} 0 1 = cc in omega arith
 
   -- a report leaves its sender's place idle
-  pub report_rests : {r : Report} (i : ℕ) → seat_of (roster_of c) sender 0 ≡ At i → (fed_frame c x).happened ≡ H.Epoch r
+  pub report_rests : {r : Report} (i : ℕ) → seat_of (roster_of c) sender 0 ≡ Some i → (fed_frame c x).happened ≡ H.Epoch r
       → get_or (fed_frame c x).collator.places i idle ≡ idle
   report_rests {r} i s = by_placing (λ (f : Fed). f.happened ≡ H.Epoch r → get_or f.collator.places i idle ≡ idle) (λ n e. absurd (never_refused e)) (λ k p q own. rests k p q)
     where
-      ended : (p : Packet) (e : Ended) → outcome sender p e ≡ H.Epoch r → (t : ℕ) × (e ≡ Whole t)
-      ended p Not e = absurd (never_taken e)
-      ended p (Whole t) e = (t, refl)
+      ended : (p : Packet) (e : Option ℕ) → outcome sender p e ≡ H.Epoch r → (t : ℕ) × (e ≡ Some t)
+      ended p None e = absurd (never_taken e)
+      ended p (Some t) e = (t, refl)
 
       set_idle : (ps : List Place) (i : ℕ) → get_or (set ps i idle) i idle ≡ idle
       set_idle [] i = refl
       set_idle (x ∷ ps) zero = refl
       set_idle (x ∷ ps) (suc i) = set_idle ps i
 
-      rests : (k : ℕ) (p : Packet) → seat_of (roster_of c) sender 0 ≡ At k → (taken c sender k p).happened ≡ H.Epoch r → get_or (taken c sender k p).collator.places i idle ≡ idle
+      rests : (k : ℕ) (p : Packet) → seat_of (roster_of c) sender 0 ≡ Some k → (taken c sender k p).happened ≡ H.Epoch r → get_or (taken c sender k p).collator.places i idle ≡ idle
       rests k p q e =
           let run = (get_or c.places k idle).group in
           let same : k ≡ i = same_seat (sym q ∙ s) in
-          ap₂ (λ (r : Group) (k : ℕ). get_or (set c.places k (record { group = r })) i idle) (let w = ended p (stepped run p).ended e in whole_rests p run w.0 w.1) same
+          ap₂ (λ (r : Option Part) (k : ℕ). get_or (set c.places k (record { group = r })) i idle) (let w = ended p (stepped run p).ended e in whole_rests p run w.0 w.1) same
           ∙ set_idle c.places i
 
   -- a place is touched by its own sender only
   pub others_keep : (j : ℕ) → (get_or (roster_of c) j 0 ≡ sender → ⊥) → get_or (fed_frame c x).collator.places j idle ≡ get_or c.places j idle
   others_keep j other = by_placing (λ (f : Fed). get_or f.collator.places j idle ≡ get_or c.places j idle) (λ n. refl) (λ i p s q. keeps i p s)
     where
-      keeps : (i : ℕ) (p : Packet) → seat_of (roster_of c) sender 0 ≡ At i → get_or (taken c sender i p).collator.places j idle ≡ get_or c.places j idle
+      keeps : (i : ℕ) (p : Packet) → seat_of (roster_of c) sender 0 ≡ Some i → get_or (taken c sender i p).collator.places j idle ≡ get_or c.places j idle
       keeps i p s =
           get_or-set_other c.places i j (record { group = (stepped (get_or c.places i idle).group p).group }) idle
           (λ e. other (ap (λ (k : ℕ). get_or (roster_of c) k 0) e ∙ seat_named (roster_of c) sender s))
@@ -194,9 +193,9 @@ module _ (c : Collator) (x : Content) where
   report_own {s} rs other =
       by_placing (λ (f : Fed). reports_of s (report_in f.happened rs) ≡ reports_of s rs) (λ n. refl) (λ i p s q. of p (stepped (get_or c.places i idle).group p).ended)
     where
-      of : (p : Packet) (e : Ended) → reports_of s (report_in (outcome sender p e) rs) ≡ reports_of s rs
-      of p Not = refl
-      of p (Whole t) = rw (ne_eqb sender s other)
+      of : (p : Packet) (e : Option ℕ) → reports_of s (report_in (outcome sender p e) rs) ≡ reports_of s rs
+      of p None = refl
+      of p (Some t) = rw (ne_eqb sender s other)
 
 -- a collator of the same places does the same to them, where the frame is the same to its roster
 abbrev relisted : Collator → Fed → Fed

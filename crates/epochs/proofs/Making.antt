@@ -1,36 +1,19 @@
--- Making a collator: each refusal by its own test, and what an accepted roster is.
+-- Making a collator: what an accepted roster is, and that each listed sender has its seat.
 use mathlib.Core.Path.{◌≡◌, refl, sym, ap}
 use mathlib.Core.Bool.{Bool, true, false, ◌&&◌, not, cond}
 use mathlib.Core.List.{List, [], ◌∷◌}
-use Prim.Native.Nat.{ℕ, ◌≤◌, ◌<◌}
+use Prim.Native.Nat.{ℕ, ◌≤◌}
 use native.Mathlib.Omega.{arith}
 use lib.Dec.{leb}
 use lib.ListN.{length}
-use borrow.Author.Tests.{le-leb, lt-leb, leb-true}
-use Rattle.refusals.specs.Refusals.{refused, given}
+use borrow.Author.Tests.{le-leb, leb-true}
+use Rattle.refusals.specs.Refusals.{refused, given, Answer, reply}
+use Rattle.refusals.proofs.Distinct.{never_both}
 use Rattle.epochs.specs.Search.{repeats}
-use Rattle.epochs.specs.Collator.{fresh, as_made, made}
+use Rattle.epochs.specs.Collator.{fresh, rostering, as_made, made}
+use Rattle.epochs.specs.Fed.{Made}
 use Rattle.epochs.specs.Epoch.{Seated}
 use Rattle.epochs.specs.declared.collating.Collator.{Collator}
-use Rattle.epochs.specs.declared.collating.Made.{Made}
-
-module _ (roster : List ℕ) {c : Collator} where
-  pub made_empty : length roster < 1 → c ≡ fresh [] → record { collator = c; number = 41 } ≡ made roster
-  unfolding made
-  made_empty h e = rw (e, lt-leb 1 (length roster) h)
-
-  pub made_long : 8 < length roster → c ≡ fresh [] → record { collator = c; number = 41 } ≡ made roster
-  unfolding made
-  made_long h e = let some : 1 ≤ length roster = omega arith in rw (e, le-leb 1 (length roster) some, lt-leb (length roster) 8 h)
-
-  module _ (some : 1 ≤ length roster) (few : length roster ≤ 8) where
-    pub made_twice : repeats roster ≡ true → c ≡ fresh [] → record { collator = c; number = 42 } ≡ made roster
-    unfolding made
-    made_twice t e = rw (e, le-leb 1 (length roster) some, le-leb (length roster) 8 few, t)
-
-    pub made_whole : repeats roster ≡ false → c ≡ fresh roster → record { collator = c; number = 0 } ≡ made roster
-    unfolding made
-    made_whole t e = rw (e, le-leb 1 (length roster) some, le-leb (length roster) 8 few, t)
 
 -- ---- an accepted roster
 
@@ -58,13 +41,31 @@ accepted roster = by (leb 1 (length roster)) (leb (length roster) 8) (repeats ro
 pub seated : (roster : List ℕ) → (made roster).number ≡ 0 → Seated roster
 seated roster ok = let is = accepted roster ok in record { few = is.few; once = is.once }
 
+-- by what the code answers
+pub made_as : (roster : List ℕ) {a : Answer Collator} → reply (rostering roster) ≡ a → as_made a ≡ made roster
+unfolding made
+made_as roster e = sym (ap as_made e)
+
+-- a refusal is 41 or 42
+pub refused_some : (roster : List ℕ) {n : ℕ} → reply (rostering roster) ≡ refused n → n ≡ 0 → ⊥
+refused_some roster {n} = by (leb 1 (length roster) && leb (length roster) 8) (not (repeats roster))
+  where
+    by : (a b : Bool) → cond a (cond b (given (fresh roster)) (refused 42)) (refused 41) ≡ refused n → n ≡ 0 → ⊥
+    by true true e z = never_both refl e
+    by true false e z = let same : 42 ≡ n = cc in omega arith
+    by false b e z = let same : 41 ≡ n = cc in omega arith
+
 -- ---- a collator in which each listed sender has its seat
 
 pub nobody : Seated []
 unfolding repeats
 nobody = record { few = omega arith; once = refl }
 
+pub made_whole : (roster : List ℕ) → 1 ≤ length roster → Seated roster → made roster ≡ record { collator = fresh roster; number = 0 }
+unfolding made
+made_whole roster some is = rw (le-leb 1 (length roster) some, le-leb (length roster) 8 is.few, is.once)
+
 pub made_seated : (roster : List ℕ) → Seated roster → (made roster).collator ≡ fresh roster
 unfolding made
 made_seated [] is = refl
-made_seated (x ∷ xs) is = ap (λ (m : Made). m.collator) (sym (made_whole (x ∷ xs) (omega arith) is.few is.once refl))
+made_seated (x ∷ xs) is = ap (λ (m : Made). m.collator) (made_whole (x ∷ xs) (omega arith) is)

@@ -7,17 +7,17 @@ use Rattle.frames.specs.Frame.{Content}
 use Rattle.packets.specs.declared.packet.Packet.{Packet}
 use Rattle.packets.proofs.Recognitions.{formed, n_small, time_small}
 use Rattle.groups.specs.Group.{stepped}
-use Rattle.groups.specs.declared.grouping.Group.{Group}
-use Rattle.groups.specs.declared.grouping.Ended.{Ended}
-use Rattle.groups.specs.declared.grouping.Ended.TheVariants.{Not, Whole}
+use Rattle.groups.specs.declared.grouping.Part.{Part}
+use Rattle.std.specs.Prelude.{Option}
+use Rattle.std.specs.Prelude.{ℕ, Option, Some, None}
 use Rattle.groups.specs.declared.grouping.Stepped.{Stepped}
 use Rattle.groups.proofs.StepCases.{step_cases}
 use Rattle.epochs.specs.Collator.{idle, outcome, fed_frame}
 use Rattle.epochs.specs.declared.collating.Collator.{Collator}
 use Rattle.epochs.specs.declared.collating.Report.{Report}
-use Rattle.epochs.specs.declared.collating.Fed.{Fed}
-use Rattle.epochs.specs.declared.collating.Happened.{Happened}
-use Rattle.epochs.specs.declared.collating.Happened.TheVariants as H
+use Rattle.epochs.specs.Fed.{Fed}
+use Rattle.epochs.specs.Happened.{Happened}
+use Rattle.epochs.specs.Happened as H
 use Rattle.epochs.proofs.Feeding.{by_placing}
 
 pub record Small (e : Report) : Type 0 where
@@ -35,11 +35,11 @@ SmallIn (H.Epoch e) = Small e
 
 -- ---- the sum
 
-abbrev Within : Ended → Type 0
-Within Not = Unit {0}
-Within (Whole total) = total < 65536
+abbrev Within : Option ℕ → Type 0
+Within None = Unit {0}
+Within (Some total) = total < 65536
 
-stepped_within : (group : Group) (p : Packet) → p.observations ≤ 15 → Within (stepped group p).ended
+stepped_within : (group : Option Part) (p : Packet) → p.observations ≤ 15 → Within (stepped group p).ended
 stepped_within group p few = step_cases (λ (s : Stepped). Within s.ended) p (λ total h. h (omega arith)) (λ come total c h. tt) group
 
 -- ---- the report
@@ -50,6 +50,6 @@ report_small c x bytes s = by_placing c x (λ (f : Fed). SmallIn f.happened) (λ
     ended p (time_small x.kind x.payload own bytes) (n_small x.kind x.payload own bytes)
     (stepped run p).ended (stepped_within run p (formed x.kind x.payload own).few)
   where
-    ended : (p : Packet) → (p.key.tow < 2 ^ 32) × (p.key.wn < 65536) → p.key.n ≤ 15 → (e : Ended) → Within e → SmallIn (outcome x.sender p e)
-    ended p time n Not w = tt
-    ended p time n (Whole total) w = record { sender = s; wn = time.1; tow = time.0; n = n; observations = w }
+    ended : (p : Packet) → (p.key.tow < 2 ^ 32) × (p.key.wn < 65536) → p.key.n ≤ 15 → (e : Option ℕ) → Within e → SmallIn (outcome x.sender p e)
+    ended p time n None w = tt
+    ended p time n (Some total) w = record { sender = s; wn = time.1; tow = time.0; n = n; observations = w }

@@ -1,27 +1,26 @@
 -- The search of a roster: a sender's seat lies in the roster, names it, and is the only one where no sender is named twice.
-use mathlib.Core.Path.{◌≡◌, refl, sym, ap, ap₂, ◌∙◌, subst}
+use mathlib.Core.Path.{◌≡◌, refl, sym, ap, ap₂, ◌∙◌}
 use mathlib.Core.Bool.{Bool, true, false, cond, true≢false, false≢true}
-use mathlib.Core.List.{List, [], ◌∷◌, ◌++◌, map, append-nil}
+use mathlib.Core.List.{List, [], ◌∷◌, ◌++◌, map}
 use Prim.Native.Nat.{ℕ, zero, suc, ◌+◌, min, ◌≤◌, ◌<◌}
 use native.Mathlib.Nat.{zero-add, min-eq_left}
 use native.Mathlib.Omega.{arith}
 use native.Mathlib.Numerals.{add-one}
 use lib.Dec.{eqb, leb}
-use lib.ListN.{length, get_or, set, take, drop, replicate, length-append, drop_of_length-le}
-use lib.Seq.{drop-cons, take_all, paste, paste-suc}
+use lib.ListN.{length, get_or, set, take, drop, replicate, drop_of_length-le}
+use lib.Seq.{drop-cons, take_all}
 use borrow.Author.Tests.{eq-eqb, ne_eqb, eqb-true, eqb-false, leb-true, leb-false}
-use Rattle.epochs.specs.Search.{seat_of, is_at, names, repeats}
-use Rattle.epochs.specs.declared.seating.Seat.{Seat}
-use Rattle.epochs.specs.declared.seating.Seat.TheVariants.{At, Nowhere}
+use Rattle.epochs.specs.Search.{seat_of, names, repeats}
+use Rattle.std.specs.Prelude.{Option, Some, None, is_some}
 
 -- ---- the search, from a seat on
 
 module _ (xs : List ℕ) (sender i : ℕ) where
-  pub seat_none : length xs ≤ i → seat_of (drop i xs) sender i ≡ Nowhere
+  pub seat_none : length xs ≤ i → seat_of (drop i xs) sender i ≡ None
   unfolding seat_of
   seat_none h = rw (drop_of_length-le xs h)
 
-  pub seat_here : i < length xs → get_or xs i 0 ≡ sender → seat_of (drop i xs) sender i ≡ At i
+  pub seat_here : i < length xs → get_or xs i 0 ≡ sender → seat_of (drop i xs) sender i ≡ Some i
   unfolding seat_of
   seat_here h e = rw (drop-cons xs i 0 h, eq-eqb (get_or xs i 0) sender e)
 
@@ -30,13 +29,13 @@ module _ (xs : List ℕ) (sender i : ℕ) where
   seat_on h e = rw (drop-cons xs i 0 h, ne_eqb (get_or xs i 0) sender e, add-one)
 
 -- whether there is a seat does not depend on where counting begins
-any_start : (xs : List ℕ) (sender i j : ℕ) → is_at (seat_of xs sender i) ≡ is_at (seat_of xs sender j)
+any_start : (xs : List ℕ) (sender i j : ℕ) → is_some (seat_of xs sender i) ≡ is_some (seat_of xs sender j)
 unfolding seat_of
 any_start [] sender i j = refl
 any_start (x ∷ xs) sender i j = by (eqb x sender) (any_start xs sender (suc i) (suc j))
   where
-    by : (t : Bool) → is_at (seat_of xs sender (suc i)) ≡ is_at (seat_of xs sender (suc j))
-        → is_at (cond t (At i) (seat_of xs sender (suc i))) ≡ is_at (cond t (At j) (seat_of xs sender (suc j)))
+    by : (t : Bool) → is_some (seat_of xs sender (suc i)) ≡ is_some (seat_of xs sender (suc j))
+        → is_some (cond t (Some i) (seat_of xs sender (suc i))) ≡ is_some (cond t (Some j) (seat_of xs sender (suc j)))
     by true rest = refl
     by false rest = rest
 
@@ -46,7 +45,7 @@ pub names_on : (x : ℕ) (xs : List ℕ) (sender : ℕ) → names (x ∷ xs) sen
 unfolding names seat_of
 names_on x xs sender = by (eqb x sender)
   where
-    by : (t : Bool) → is_at (cond t (At 0) (seat_of xs sender 1)) ≡ cond t true (is_at (seat_of xs sender 0))
+    by : (t : Bool) → is_some (cond t (Some 0) (seat_of xs sender 1)) ≡ cond t true (is_some (seat_of xs sender 0))
     by true = refl
     by false = any_start xs sender 1 0
 
@@ -84,10 +83,12 @@ module _ (xs : List ℕ) (i : ℕ) where
   repeats_none h = rw (drop_of_length-le xs h)
 
   -- from a seat on the answer is that of its sender, looked for after it, and of the rest
-  pub repeats_on : {x : Seat} → i < length xs → x ≡ seat_of (drop (i + 1) xs) (get_or xs i 0) (i + 1)
-      → repeats (drop i xs) ≡ cond (is_at x) true (repeats (drop (i + 1) xs))
+  pub repeats_on : {x : Option ℕ} (t : Bool) → i < length xs → x ≡ seat_of (drop (i + 1) xs) (get_or xs i 0) (i + 1) → is_some x ≡ t
+      → repeats (drop i xs) ≡ cond t true (repeats (drop (i + 1) xs))
   unfolding repeats names
-  repeats_on h e = rw (e, drop-cons xs i 0 h, add-one, any_start (drop (suc i) xs) (get_or xs i 0) (suc i) 0)
+  repeats_on t h e q =
+      (rw (drop-cons xs i 0 h, add-one, any_start (drop (suc i) xs) (get_or xs i 0) 0 (suc i)))
+      ∙ ap (λ (t : Bool). cond t true (repeats (drop (i + 1) xs))) (ap is_some (sym e) ∙ q)
 
 -- zeros behind a roster read as what is past its end
 zeros : (n i : ℕ) → ◌≡◌ {A = ℕ} (get_or (replicate n 0) i 0) 0
@@ -112,69 +113,65 @@ take-eight n xs size = by (leb n 8) refl
         let h = leb-false n 8 e in
         take_all (min n 8) xs (omega arith) ∙ sym (take_all n xs (omega arith))
 
-module _ (roster : List ℕ) where
-  abbrev pub filled : ℕ → List ℕ
-  filled i = paste (replicate 8 0) 0 (roster ++ replicate 8 0) i
+none_listed : (n k : ℕ) → n ≤ k → ◌≡◌ {A = List ℕ} (replicate n 0) (take n (replicate k 0))
+none_listed zero k h = refl
+none_listed (suc n) zero h = absurd (omega arith)
+none_listed (suc n) (suc k) h = ap (λ (xs : List ℕ). 0 ∷ xs) (none_listed n k (omega arith))
 
-  pub filled_on : {all : List ℕ} {v : ℕ} (i : ℕ) → i < 8 → all ≡ filled i → v ≡ get_or roster i 0 → set all i v ≡ filled (i + 1)
-  filled_on i h e q =
-      let start : 0 + i ≡ i = omega arith in
-      let long : length (roster ++ replicate 8 0) ≡ length roster + 8 = length-append roster (replicate 8 0) in
-      let next : set (filled i) i (get_or (roster ++ replicate 8 0) i 0) ≡ filled (suc i)
-      = subst (λ (k : ℕ). set (filled i) k (get_or (roster ++ replicate 8 0) i 0) ≡ filled (suc i)) start (paste-suc (replicate 8 0) 0 (roster ++ replicate 8 0) i 0 (omega arith) (omega arith)) in
-      ap₂ (λ (l : List ℕ) (x : ℕ). set l i x) e (q ∙ sym (with_zeros roster 8 i)) ∙ next ∙ ap filled (sym (add-one i))
-
-  pub filled_end : filled 8 ≡ take 8 (roster ++ replicate 8 0)
-  filled_end = append-nil (take 8 (roster ++ replicate 8 0))
+-- of n seats those that a roster leaves have no sender
+pub seats_left : (xs : List ℕ) (n k : ℕ) → length xs ≤ n → n ≤ k → xs ++ drop (length xs) (replicate n 0) ≡ take n (xs ++ replicate k 0)
+seats_left [] n k h g = none_listed n k g
+seats_left (x ∷ xs) zero k h g = absurd (omega arith)
+seats_left (x ∷ xs) (suc n) k h g = ap (λ (ys : List ℕ). x ∷ ys) (seats_left xs n k (omega arith) (omega arith))
 
 -- ---- a seat that was found
 
-pub same_seat : {i j : ℕ} → At i ≡ At j → i ≡ j
+pub same_seat : {i j : ℕ} → Some i ≡ Some j → i ≡ j
 same_seat e = cc
 
 -- it lies in the roster
-pub seat_below : (xs : List ℕ) (sender i : ℕ) {j : ℕ} → seat_of xs sender i ≡ At j → (i ≤ j) × (j < i + length xs)
+pub seat_below : (xs : List ℕ) (sender i : ℕ) {j : ℕ} → seat_of xs sender i ≡ Some j → (i ≤ j) × (j < i + length xs)
 unfolding seat_of
 seat_below [] sender i e = let z : ◌≡◌ {A = ℕ} 0 1 = cc in absurd (omega arith)
 seat_below (x ∷ xs) sender i {j} e = by (eqb x sender) e (λ f. seat_below xs sender (suc i) f)
   where
-    by : (t : Bool) → cond t (At i) (seat_of xs sender (suc i)) ≡ At j → (seat_of xs sender (suc i) ≡ At j → (suc i ≤ j) × (j < suc i + length xs)) → (i ≤ j) × (j < i + length (x ∷ xs))
+    by : (t : Bool) → cond t (Some i) (seat_of xs sender (suc i)) ≡ Some j → (seat_of xs sender (suc i) ≡ Some j → (suc i ≤ j) × (j < suc i + length xs)) → (i ≤ j) × (j < i + length (x ∷ xs))
     by true f rest = let g : i ≡ j = same_seat f in (omega arith, omega arith)
     by false f rest = let h = rest f in (omega arith, omega arith)
 
 -- the roster names the sender at its seat
-seat_names : (xs : List ℕ) (sender i j : ℕ) → seat_of xs sender i ≡ At (i + j) → get_or xs j 0 ≡ sender
+seat_names : (xs : List ℕ) (sender i j : ℕ) → seat_of xs sender i ≡ Some (i + j) → get_or xs j 0 ≡ sender
 unfolding seat_of
 seat_names [] sender i j e = let z : ◌≡◌ {A = ℕ} 0 1 = cc in absurd (omega arith)
 seat_names (x ∷ xs) sender i j e = by (eqb x sender) refl j e (λ k f. seat_names xs sender (suc i) k f)
   where
-    by : (t : Bool) → eqb x sender ≡ t → (j : ℕ) → cond t (At i) (seat_of xs sender (suc i)) ≡ At (i + j)
-        → ((k : ℕ) → seat_of xs sender (suc i) ≡ At (suc i + k) → get_or xs k 0 ≡ sender) → get_or (x ∷ xs) j 0 ≡ sender
+    by : (t : Bool) → eqb x sender ≡ t → (j : ℕ) → cond t (Some i) (seat_of xs sender (suc i)) ≡ Some (i + j)
+        → ((k : ℕ) → seat_of xs sender (suc i) ≡ Some (suc i + k) → get_or xs k 0 ≡ sender) → get_or (x ∷ xs) j 0 ≡ sender
     by true q zero f rest = eqb-true x sender q
     by true q (suc k) f rest = let z : i ≡ i + suc k = same_seat f in absurd (omega arith)
     by false q zero f rest = let h = seat_below xs sender (suc i) f in absurd (omega arith)
-    by false q (suc k) f rest = let z : i + suc k ≡ suc i + k = omega arith in rest k (f ∙ ap At z)
+    by false q (suc k) f rest = let z : i + suc k ≡ suc i + k = omega arith in rest k (f ∙ ap Some z)
 
-pub seat_named : (xs : List ℕ) (sender : ℕ) {j : ℕ} → seat_of xs sender 0 ≡ At j → get_or xs j 0 ≡ sender
-seat_named xs sender {j} e = seat_names xs sender 0 j (e ∙ ap At (sym (zero-add j)))
+pub seat_named : (xs : List ℕ) (sender : ℕ) {j : ℕ} → seat_of xs sender 0 ≡ Some j → get_or xs j 0 ≡ sender
+seat_named xs sender {j} e = seat_names xs sender 0 j (e ∙ ap Some (sym (zero-add j)))
 
 -- a sender is named exactly when it has a seat
 module _ (xs : List ℕ) (sender : ℕ) where
-  pub seat_listed : names xs sender ≡ true → (j : ℕ) × (seat_of xs sender 0 ≡ At j)
+  pub seat_listed : names xs sender ≡ true → (j : ℕ) × (seat_of xs sender 0 ≡ Some j)
   unfolding names
   seat_listed n = by (seat_of xs sender 0) refl
     where
-      by : (x : Seat) → seat_of xs sender 0 ≡ x → (j : ℕ) × (seat_of xs sender 0 ≡ At j)
-      by Nowhere e = absurd (false≢true (ap is_at (sym e) ∙ n))
-      by (At j) e = (j, e)
+      by : (x : Option ℕ) → seat_of xs sender 0 ≡ x → (j : ℕ) × (seat_of xs sender 0 ≡ Some j)
+      by None e = absurd (false≢true (ap is_some (sym e) ∙ n))
+      by (Some j) e = (j, e)
 
-  pub seat_at : {j : ℕ} → seat_of xs sender 0 ≡ At j → names xs sender ≡ true
+  pub seat_at : {j : ℕ} → seat_of xs sender 0 ≡ Some j → names xs sender ≡ true
   unfolding names
-  seat_at e = ap is_at e
+  seat_at e = ap is_some e
 
-  pub seat_nowhere : seat_of xs sender 0 ≡ Nowhere → names xs sender ≡ false
+  pub seat_nowhere : seat_of xs sender 0 ≡ None → names xs sender ≡ false
   unfolding names
-  seat_nowhere e = ap is_at e
+  seat_nowhere e = ap is_some e
 
 -- where no sender is named twice, two seats have two senders
 apart : (xs : List ℕ) (i j : ℕ) → repeats xs ≡ false → i < length xs → j < length xs → get_or xs i 0 ≡ get_or xs j 0 → i ≡ j
@@ -185,11 +182,11 @@ apart (x ∷ xs) (suc i) zero once h k e = absurd (false≢true (sym (once_on x 
 apart (x ∷ xs) (suc i) (suc j) once h k e = ap suc (apart xs i j (once_on x xs once).1 (omega arith) (omega arith) e)
 
 -- and each seat is found
-pub seat_own : (xs : List ℕ) (j : ℕ) → repeats xs ≡ false → j < length xs → seat_of xs (get_or xs j 0) 0 ≡ At j
+pub seat_own : (xs : List ℕ) (j : ℕ) → repeats xs ≡ false → j < length xs → seat_of xs (get_or xs j 0) 0 ≡ Some j
 seat_own xs j once h =
     let found = seat_listed xs (get_or xs j 0) (names_at xs j h) in
     let within = seat_below xs (get_or xs j 0) 0 found.1 in
-    found.1 ∙ ap At (apart xs found.0 j once (omega arith) h (seat_named xs (get_or xs j 0) found.1))
+    found.1 ∙ ap Some (apart xs found.0 j once (omega arith) h (seat_named xs (get_or xs j 0) found.1))
 
 -- ---- a value for each sender of a roster
 

@@ -13,17 +13,17 @@ use Rattle.refusals.specs.Refusals.{refused, given, Answer, mapped, reply}
 use Rattle.frames.specs.Frame.{Content}
 use Rattle.packets.specs.declared.packet.Packet.{Packet}
 use Rattle.groups.specs.Group.{left_open, stepping, left_of}
-use Rattle.groups.specs.declared.grouping.Group.{Group}
+use Rattle.groups.specs.declared.grouping.Part.{Part}
 use Rattle.groups.specs.declared.grouping.Stepped.{Stepped}
 use Rattle.epochs.specs.Search.{seat_of, names, repeats}
 use Rattle.epochs.specs.Collator.{idle, came_to, for_place, roster_of, fed_frame, fresh}
 use Rattle.epochs.specs.Epoch.{own_packet, kept, packets_of, of_sender, after}
-use Rattle.epochs.specs.declared.seating.Seat.TheVariants.{At}
+use Rattle.std.specs.Prelude.{Some, Option}
 use Rattle.epochs.specs.declared.collating.Place.{Place}
 use Rattle.epochs.specs.declared.collating.Collator.{Collator}
-use Rattle.epochs.specs.declared.collating.Happened.{Happened}
-use Rattle.epochs.specs.declared.collating.Happened.TheVariants as H
-use Rattle.epochs.specs.declared.collating.Fed.{Fed}
+use Rattle.epochs.specs.Happened.{Happened}
+use Rattle.epochs.specs.Happened as H
+use Rattle.epochs.specs.Fed.{Fed}
 use Rattle.epochs.proofs.Searches.{seat_below, seat_named, seat_listed, map-others, map-seat, map_at}
 use Rattle.epochs.proofs.Placings.{at, placed_listed, placed_unlisted}
 use Rattle.epochs.proofs.Feeding.{moved_by, fed_refused, fed_for}
@@ -54,7 +54,7 @@ comes_to sender past (given p) = came_to sender p (reply (stepping (left_open pa
 
 -- the places alone count
 pub state_ext : (roster : List ℕ) (a b : ℕ → List Packet) → ((s : ℕ) → left_open (a s) ≡ left_open (b s)) → state_of roster a ≡ state_of roster b
-state_ext roster a b e = ap (λ (group : ℕ → Group). record { places = take 8 (map (λ (s : ℕ). record { group = group s }) roster ++ replicate 8 idle); roster = take 8 (roster ++ replicate 8 0); count = length roster }) (λ i s. e s i)
+state_ext roster a b e = ap (λ (group : ℕ → Option Part). record { places = take 8 (map (λ (s : ℕ). record { group = group s }) roster ++ replicate 8 idle); roster = take 8 (roster ++ replicate 8 0); count = length roster }) (λ i s. e s i)
 
 -- the frame's own sender, and the others
 heard_own : (x : Content) (past : ℕ → List Packet) → heard_by x past x.sender ≡ kept (own_packet x) (past x.sender)
@@ -98,7 +98,7 @@ module _ (roster : List ℕ) (few : length roster ≤ 8) where
 
     -- ---- a frame of a listed sender
 
-    module _ (i : ℕ) (e : seat_of roster x.sender 0 ≡ At i) where
+    module _ (i : ℕ) (e : seat_of roster x.sender 0 ≡ Some i) where
       below : i < length roster
       below = omega (arith, (seat_below roster x.sender 0 e).1)
 

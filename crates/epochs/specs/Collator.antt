@@ -1,33 +1,27 @@
 -- The collator step by step: a frame's own place takes its packet. What a packet is stands in `packets` and what a step does in `groups`; nothing
 -- here looks inside either.
-use Rattle.std.specs.Prelude.{ℕ, ◌&&◌, not, List, [], ◌∷◌, ◌++◌, leb, length, get_or, set, take, replicate}
+use Rattle.std.specs.Prelude.{ℕ, ◌&&◌, not, List, [], ◌∷◌, ◌++◌, leb, length, get_or, set, take, replicate, Option, Some, None, Result, Ok, Err}
 use Rattle.refusals.specs.Refusals.{refused, given, Answer, Call, reply}
+use Rattle.refusals.specs.Numbers.{number_of}
+use Rattle.refusals.specs.declared.Refusal.{Refusal}
 use Rattle.frames.specs.Frame.{Content}
 use Rattle.packets.specs.Packet.{packet_in, shape, numbering}
 use Rattle.packets.specs.declared.packet.Packet.{Packet}
-use Rattle.groups.specs.declared.grouping.Group.TheVariants.{Idle}
-use Rattle.groups.specs.declared.grouping.Ended.{Ended}
-use Rattle.groups.specs.declared.grouping.Ended.TheVariants.{Not, Whole}
 use Rattle.groups.specs.declared.grouping.Stepped.{Stepped}
 use Rattle.groups.specs.Group.{stepping}
 use Rattle.epochs.specs.Search.{seat_of, names, repeats}
-use Rattle.epochs.specs.declared.seating.Seat.{Seat}
-use Rattle.epochs.specs.declared.seating.Seat.TheVariants.{At, Nowhere}
-use Rattle.epochs.specs.declared.recognising.Recognised.{Recognised}
-use Rattle.epochs.specs.declared.recognising.Recognised.TheVariants as R
 use Rattle.epochs.specs.declared.collating.Place.{Place}
 use Rattle.epochs.specs.declared.collating.Collator.{Collator}
 use Rattle.epochs.specs.declared.collating.Report.{Report}
-use Rattle.epochs.specs.declared.collating.Happened.{Happened}
-use Rattle.epochs.specs.declared.collating.Happened.TheVariants as H
-use Rattle.epochs.specs.declared.collating.Fed.{Fed}
-use Rattle.epochs.specs.declared.collating.Made.{Made}
+use Rattle.epochs.specs.Happened.{Happened}
+use Rattle.epochs.specs.Happened as H
+use Rattle.epochs.specs.Fed.{Fed, Made}
 
 -- ---- a frame, by the roster and the frame alone
 
-abbrev pub seat_number : Seat → ℕ
-seat_number Nowhere = 0
-seat_number (At i) = i
+abbrev pub seat_number : Option ℕ → ℕ
+seat_number None = 0
+seat_number (Some i) = i
 
 -- what passes its tests is a packet for its sender's place
 abbrev pub own_place : List ℕ → Content → ℕ × Packet
@@ -41,23 +35,25 @@ placing roster x =
 unfoldable pub for_place : List ℕ → Content → Answer (ℕ × Packet)
 for_place roster x = reply (placing roster x)
 
-abbrev pub recognised_answer : Recognised → Answer (ℕ × Packet)
-recognised_answer (R.For i p) = given (i, p)
-recognised_answer (R.Refused n) = refused n
-
 -- ---- the collator
 
 abbrev pub idle : Place
-idle = record { group = Idle }
+idle = record { group = None }
 
 -- an epoch of the sender that ends with this packet
 abbrev pub report_of : ℕ → Packet → ℕ → Report
 report_of sender p total = record { sender = sender; wn = p.key.wn; tow = p.key.tow; n = p.key.n; observations = total }
 
 -- what a step comes to: nothing yet, or an epoch
-abbrev pub outcome : ℕ → Packet → Ended → Happened
-outcome sender p Not = H.Taken
-outcome sender p (Whole total) = H.Epoch (report_of sender p total)
+abbrev pub outcome : ℕ → Packet → Option ℕ → Happened
+outcome sender p None = H.Taken
+outcome sender p (Some total) = H.Epoch (report_of sender p total)
+
+-- what the code says of it
+abbrev pub happened_of : Result (Option Report) Refusal → Happened
+happened_of (Ok None) = H.Taken
+happened_of (Ok (Some e)) = H.Epoch e
+happened_of (Err e) = H.Refused (number_of e)
 
 -- and a packet, by its place's answer
 abbrev pub came_to : ℕ → Packet → Answer Stepped → Happened

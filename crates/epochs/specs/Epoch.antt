@@ -13,8 +13,8 @@ use Rattle.epochs.specs.Search.{names, repeats}
 use Rattle.epochs.specs.Collator.{fed_frame}
 use Rattle.epochs.specs.declared.collating.Collator.{Collator}
 use Rattle.epochs.specs.declared.collating.Report.{Report}
-use Rattle.epochs.specs.declared.collating.Happened.{Happened}
-use Rattle.epochs.specs.declared.collating.Happened.TheVariants as H
+use Rattle.epochs.specs.Happened.{Happened}
+use Rattle.epochs.specs.Happened as H
 
 -- ---- the packets of frames
 

@@ -1,20 +1,22 @@
 // The collator: a place for each listed sender.
-ghost use Rattle.std.specs.Prelude.{◌≡◌, ◌++◌, get_or, take, replicate};
+ghost use Rattle.std.specs.Prelude.{◌≡◌, ◌≤◌, ◌++◌, [], length, take, replicate, Ok, OnErr};
+ghost use Rattle.refusals.specs.Refusals.{reply};
+ghost use Rattle.refusals.specs.Numbers.{answer_of};
 ghost use Rattle.epochs.specs.Search.{repeats};
-ghost use Rattle.epochs.specs.Collator.{idle, outcome, fed_frame, made};
+ghost use Rattle.epochs.specs.Collator.{idle, outcome, happened_of, rostering, fed_frame, made};
 
-use crate::recognising::{Recognised, recognise};
-use crate::seating::{Seat, search};
-use groups::{Answered, Ended, Group};
+use crate::seating::{Roster, search};
+use groups::Part;
 use packets::Packet;
+use refusals::Refusal;
 
 // A listed sender's place: idle, or an open group.
 #[derive(Clone, Copy)]
 pub struct Place {
-    pub group: Group,
+    pub group: Option<Part>,
 }
 
-// The senders are the first count of the roster, and place i is that of sender i.
+// The senders are the first count of the roster, and place i is that of sender i. The three are the form that the scope names.
 #[derive(Clone, Copy)]
 pub struct Collator {
     pub places: [Place; 8],
@@ -32,24 +34,11 @@ pub struct Report {
     pub observations: u16,
 }
 
+// A collator after a frame, and what came of it.
 #[derive(Clone, Copy)]
-pub enum Happened {
-    Refused(u8),
-    Taken,
-    Epoch(Report),
-}
-
-#[derive(Clone, Copy)]
-pub struct Fed {
+pub struct FedCollator {
     pub collator: Collator,
-    pub happened: Happened,
-}
-
-// number is 0, or 41 or 42 with a collator that lists nobody.
-#[derive(Clone, Copy)]
-pub struct Made {
-    pub collator: Collator,
-    pub number: u8,
+    pub happened: Result<Option<Report>, Refusal>,
 }
 
 // The places of senders that have sent nothing.
@@ -57,7 +46,7 @@ fn fresh(roster: [u16; 8], count: usize) -> Collator
     ensures { result ≡ record { places = replicate 8 idle; roster = roster; count = count } }
 {
     Collator {
-        places: [Place { group: Group::Idle }; 8],
+        places: [Place { group: None }; 8],
         roster,
         count,
     }
@@ -67,121 +56,98 @@ fn fresh(roster: [u16; 8], count: usize) -> Collator
 fn repeated(roster: &[u16]) -> bool
     ensures { result ≡ repeats roster.now }
 {
-    let mut i = 0;
-    while i < roster.len() {
-        let next = i + 1;
-        let later = search(roster, next, roster[i]);
-        let Seat::Nowhere = later else {
+    for i in 0..roster.len() {
+        if search(roster, i + 1, roster[i]).is_some() {
             return true;
-        };
-        i = next;
+        }
     }
     false
 }
 
-// The sender that a roster names at a place; past its end 0.
-fn sender_at(roster: &[u16], i: usize) -> u16
-    ensures { result ≡ get_or roster.now i 0 }
-{
-    if i < roster.len() {
-        return roster[i];
-    }
-    0
-}
-
-// The first eight senders of a roster, and 0 in the seats that are left.
+// The senders of a roster, and 0 in the seats that are left.
 fn seats(roster: &[u16]) -> [u16; 8]
+    requires { length roster.now ≤ 8 }
     ensures { result ≡ take 8 (roster.now ++ replicate 8 0) }
 {
     let mut all = [0u16; 8];
-    let mut i = 0;
-    while i < 8 {
-        all[i] = sender_at(roster, i);
-        i += 1;
-    }
+    all[..roster.len()].copy_from_slice(roster);
     all
 }
 
-// What a step of a sender's place comes to.
-pub fn outcome(sender: u16, packet: Packet, ended: Ended) -> Happened
-    ensures { result ≡ outcome sender packet ended }
+// The epoch that a packet ended, if it did.
+pub fn outcome(sender: u16, packet: Packet, ended: Option<u16>) -> Option<Report>
+    ensures { happened_of (Ok result) ≡ outcome sender packet ended }
 {
-    match ended {
-        Ended::Not => Happened::Taken,
-        Ended::Whole(total) => {
-            let key = packet.key;
-            Happened::Epoch(Report {
-                sender,
-                wn: key.wn,
-                tow: key.tow,
-                n: key.n,
-                observations: total,
-            })
-        }
-    }
+    let total = ended?;
+    Some(Report {
+        sender,
+        wn: packet.key.wn,
+        tow: packet.key.tow,
+        n: packet.key.n,
+        observations: total,
+    })
 }
 
 impl Collator {
+    // It lists nobody.
+    pub fn empty() -> Collator
+        ensures { result ≡ (made []).collator }
+    {
+        fresh([0u16; 8], 0)
+    }
+
     // 41 for a roster that is empty or longer than 8, then 42 for a sender twice.
-    pub fn made(roster: &[u16]) -> Made
-        ensures { result ≡ made roster.now }
+    pub fn made(roster: &[u16]) -> Result<Collator, Refusal>
+        ensures { answer_of result ≡ reply (rostering roster.now) }
     {
         let n = roster.len();
-        if n < 1 {
-            return Made {
-                collator: fresh([0u16; 8], 0),
-                number: 41,
-            };
-        }
-        if 8 < n {
-            return Made {
-                collator: fresh([0u16; 8], 0),
-                number: 41,
-            };
+        if n < 1 || 8 < n {
+            return Err(Refusal::RosterLength);
         }
         if repeated(roster) {
-            return Made {
-                collator: fresh([0u16; 8], 0),
-                number: 42,
-            };
+            return Err(Refusal::RosterRepeats);
         }
-        Made {
-            collator: fresh(seats(roster), n),
-            number: 0,
+        Ok(fresh(seats(roster), n))
+    }
+
+    pub fn listed(&self) -> Roster
+        ensures senders { result.senders ≡ self.now.roster }
+        ensures count { result.count ≡ self.now.count }
+    {
+        Roster {
+            senders: self.roster,
+            count: self.count,
         }
     }
 
     // The frame's own place takes it; a refusal, 46, 22, 43, 44, 45 or 47, leaves the collator as it was.
-    pub fn feed(mut self, kind: u16, sender: u16, payload: &[u8]) -> Fed
-        ensures { result ≡ fed_frame self (record { kind = kind; sender = sender; payload = payload.now }) }
+    pub fn feed(
+        &mut self,
+        kind: u16,
+        sender: u16,
+        payload: &[u8],
+    ) -> Result<Option<Report>, Refusal>
+        ensures value { happened_of result ≡ (fed_frame self.old (record { kind = kind; sender = sender; payload = payload.now })).happened }
+        ensures self_after { self.new ≡ (fed_frame self.old (record { kind = kind; sender = sender; payload = payload.now })).collator }
+        ensures unchanged { OnErr result (self.new ≡ self.old) }
     {
-        let roster = self.roster;
-        let found = recognise(roster, self.count, kind, sender, payload);
-        match found {
-            Recognised::Refused(number) => Fed {
-                collator: self,
-                happened: Happened::Refused(number),
-            },
-            Recognised::For(at, packet) => {
-                let place = self.places[at];
-                let before = place.group;
-                let step = groups::step(before, packet);
-                match step {
-                    Answered::Refused(number) => Fed {
-                        collator: self,
-                        happened: Happened::Refused(number),
-                    },
-                    Answered::To(next) => {
-                        let group = next.group;
-                        self.places[at] = Place { group };
-                        let ended = next.ended;
-                        Fed {
-                            collator: self,
-                            happened: outcome(sender, packet, ended),
-                        }
-                    }
-                }
-            }
+        let (at, packet) = self.listed().recognise(kind, sender, payload)?;
+        let stepped = groups::step(self.places[at].group, packet)?;
+        self.places[at] = Place {
+            group: stepped.group,
+        };
+        Ok(outcome(sender, packet, stepped.ended))
+    }
+
+    // The same with the collator taken by value and handed back.
+    pub fn fed(mut self, kind: u16, sender: u16, payload: &[u8]) -> FedCollator
+        ensures collator { result.collator ≡ (fed_frame self (record { kind = kind; sender = sender; payload = payload.now })).collator }
+        ensures happened { happened_of result.happened ≡ (fed_frame self (record { kind = kind; sender = sender; payload = payload.now })).happened }
+    {
+        let happened = self.feed(kind, sender, payload);
+        FedCollator {
+            collator: self,
+            happened,
         }
     }
 }

@@ -7,6 +7,5 @@ mod collating;
 mod recognising;
 mod seating;
 
-pub use collating::{Collator, Fed, Happened, Made, Place, Report, outcome};
-pub use recognising::{Recognised, recognise};
-pub use seating::{Seat, seat_of};
+pub use collating::{Collator, FedCollator, Place, Report, outcome};
+pub use seating::Roster;

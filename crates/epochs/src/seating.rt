@@ -1,42 +1,40 @@
-// The one search of a roster.
+// A roster, and the one search of it.
 ghost use Rattle.std.specs.Prelude.{◌≡◌, min, take, drop};
 ghost use Rattle.epochs.specs.Search.{seat_of};
+ghost use Rattle.epochs.specs.Listed.{listed};
 
-// The place of a sender on a roster.
+// Who is listed: the first count of eight seats.
 #[derive(Clone, Copy)]
-pub enum Seat {
-    At(usize),
-    Nowhere,
+pub struct Roster {
+    pub senders: [u16; 8],
+    pub count: usize,
 }
 
 // How many seats have a sender. A loop to here is not written out eight times, and so whoever recognises a frame is compiled into its callers.
 fn seats_listed(count: usize) -> usize
     ensures { result ≡ min count 8 }
 {
-    if count < 8 {
-        return count;
-    }
-    8
+    count.min(8)
 }
 
-// The first seat that lists a sender, from one on.
-pub(crate) fn search(roster: &[u16], from: usize, sender: u16) -> Seat
+// The first seat that lists a sender, from one on. No `position`: it would count from there, and `repeated` looks behind each sender.
+pub(crate) fn search(roster: &[u16], from: usize, sender: u16) -> Option<usize>
     ensures { result ≡ seat_of (drop from roster.now) sender from }
 {
-    let mut i = from;
-    while i < roster.len() {
+    for i in from..roster.len() {
         if roster[i] == sender {
-            return Seat::At(i);
+            return Some(i);
         }
-        i += 1;
     }
-    Seat::Nowhere
+    None
 }
 
-// The first seat that lists a sender, among the first count of the roster.
-pub fn seat_of(roster: [u16; 8], count: usize, sender: u16) -> Seat
-    ensures { result ≡ seat_of (take count roster) sender 0 }
-{
-    let end = seats_listed(count);
-    search(&roster[..end], 0, sender)
+impl Roster {
+    // The first seat that lists a sender.
+    pub fn seat_of(self, sender: u16) -> Option<usize>
+        ensures { result ≡ seat_of (listed self) sender 0 }
+    {
+        let end = seats_listed(self.count);
+        search(&self.senders[..end], 0, sender)
+    }
 }

@@ -1,20 +1,18 @@
 -- What a step answers, test by test.
-use Rattle.std.proofs.Common.{◌≡◌, true, false}
+use Rattle.std.proofs.Common.{◌≡◌, true, false, Option, Some, None}
 use Rattle.refusals.specs.Refusals.{refused, given, reply}
 use Rattle.wire.specs.Number.{flag_at}
 use Rattle.packets.specs.Packet.{same_key}
 use Rattle.packets.specs.declared.packet.Packet.{Packet}
 use Rattle.groups.specs.Group.{begun, added, stepped, stepping}
 use Rattle.groups.specs.declared.grouping.Part.{Part}
-use Rattle.groups.specs.declared.grouping.Group.{Group}
-use Rattle.groups.specs.declared.grouping.Group.TheVariants.{Idle, Open}
 
-module _ (p : Packet) {group : Group} where
-  pub at_idle : Idle ≡ group → given (begun p) ≡ reply (stepping group p)
+module _ (p : Packet) {group : Option Part} where
+  pub at_idle : None ≡ group → given (begun p) ≡ reply (stepping group p)
   unfolding stepped
   at_idle g = rw (← g)
 
-  module _ (part : Part) (g : Open part ≡ group) where
+  module _ (part : Part) (g : Some part ≡ group) where
     pub at_other : same_key part.key p.key ≡ false → given (begun p) ≡ reply (stepping group p)
     unfolding stepped
     at_other e = rw (← g, e)

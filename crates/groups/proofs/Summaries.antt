@@ -1,5 +1,5 @@
 -- What is open is a summary of the latest group: a step comes to the summary of the group that has its packet.
-use Rattle.std.proofs.Common.{◌≡◌, ℕ, ◌+◌, ◌%◌, ◌^◌, ◌<◌, ◌≤◌, Bool, true, false, cond, not, ◌&&◌, List, [], ◌∷◌, sym, refl, ap, ◌∙◌, subst, ap₂, true≢false, mod-eq_of_lt, arith, eq-eqb, ne_eqb}
+use Rattle.std.proofs.Common.{◌≡◌, ℕ, ◌+◌, ◌%◌, ◌^◌, ◌<◌, ◌≤◌, Bool, true, false, cond, not, ◌&&◌, List, [], ◌∷◌, sym, refl, ap, ◌∙◌, subst, ap₂, true≢false, mod-eq_of_lt, arith, eq-eqb, ne_eqb, Option, Some, None}
 use mathlib.Core.Bool.{false≢true}
 use lib.Bits.{bit_or, or_lt}
 use Rattle.refusals.specs.Refusals.{refused, given, Answer, reply}
@@ -10,9 +10,7 @@ use Rattle.packets.proofs.Keys.{same_key_lem}
 use Rattle.groups.specs.Group.{bit_of, all_come, open_with, whole_with, goes_on, begun, added, stepping, left_of, ended_of, left_open}
 use Rattle.groups.specs.InWords.{has, has_all, whole, belongs, gathered, group_at, observations_in}
 use Rattle.groups.specs.declared.grouping.Part.{Part}
-use Rattle.groups.specs.declared.grouping.Group.{Group}
-use Rattle.groups.specs.declared.grouping.Group.TheVariants.{Idle, Open}
-use Rattle.groups.specs.declared.grouping.Ended.TheVariants.{Not, Whole}
+use Rattle.std.specs.Prelude.{Some, None}
 use Rattle.groups.specs.declared.grouping.Stepped.{Stepped}
 use Rattle.groups.proofs.Answers.{at_idle, at_other, at_copy, at_new}
 use Rattle.groups.proofs.Shifts.{bit_small}
@@ -23,13 +21,13 @@ use Rattle.groups.proofs.Gathered.{Kept, OneKey, belonging, group_one, copy_has,
 abbrev pub part_of : Key → List Packet → Part
 part_of key g = record { key = key; come = weighed 2 key.n (has g); total = observations_in g }
 
-abbrev pub summary : List Packet → Group
-summary [] = Idle
-summary (p ∷ g) = cond (whole (p ∷ g)) Idle (Open (part_of p.key (p ∷ g)))
+abbrev pub summary : List Packet → Option Part
+summary [] = None
+summary (p ∷ g) = cond (whole (p ∷ g)) None (Some (part_of p.key (p ∷ g)))
 
 -- what a step to this group leaves and ends
 abbrev pub settled : List Packet → Stepped
-settled g = record { group = summary g; ended = cond (whole g) (Whole (observations_in g)) Not }
+settled g = record { group = summary g; ended = cond (whole g) (Some (observations_in g)) None }
 
 -- ---- the bits of a group
 
@@ -73,26 +71,26 @@ unfolding goes_on
 settles p g c t = ap₂ (goes_on p.key) c t ∙ rw (come_all (p ∷ g) p.key.n) (by (whole (p ∷ g)) (part_of p.key (p ∷ g)))
   where
     by : (t : Bool) (part : Part)
-        → cond t (whole_with part.total) (open_with part.key part.come part.total) ≡ record { group = cond t Idle (Open part); ended = cond t (Whole part.total) Not }
+        → cond t (whole_with part.total) (open_with part.key part.come part.total) ≡ record { group = cond t None (Some part); ended = cond t (Some part.total) None }
     by true part = refl
     by false part = refl
 
 -- ---- a copy leaves what was open and ends nothing
 
 -- a group that p belongs to is open
-stands : (p : Packet) (g : List Packet) → belongs g p ≡ true → Open (part_of p.key g) ≡ summary g
+stands : (p : Packet) (g : List Packet) → belongs g p ≡ true → Some (part_of p.key g) ≡ summary g
 stands p [] b = absurd (false≢true b)
 stands p (q ∷ g) b =
     let tests = (belongs_iff q g p).0 b in
-    rw tests.0 (ap (λ (k : Key). Open (part_of k (q ∷ g))) (sym tests.1))
+    rw tests.0 (ap (λ (k : Key). Some (part_of k (q ∷ g))) (sym tests.1))
 
 copy_part : (p : Packet) (g : List Packet) → has g p.counter ≡ true → (key : Key) → part_of key g ≡ part_of key (p ∷ g)
 copy_part p g e key =
     ap₂ (λ (f : ℕ → Bool) (sum : ℕ). record { key = key; come = weighed 2 key.n f; total = sum }) (sym (copy_has p g e)) (sym (copy_sum p g e))
 
-copied : (p : Packet) (g : List Packet) → OneKey g → belongs g p ≡ true → has g p.counter ≡ true → record { group = summary g; ended = Not } ≡ settled (p ∷ g)
+copied : (p : Packet) (g : List Packet) → OneKey g → belongs g p ≡ true → has g p.counter ≡ true → record { group = summary g; ended = None } ≡ settled (p ∷ g)
 copied p g one b e =
-    ap (λ (group : Group). record { group = group; ended = Not }) (sym (stands p g b) ∙ ap Open (copy_part p g e p.key))
+    ap (λ (group : Option Part). record { group = group; ended = None }) (sym (stands p g b) ∙ ap Some (copy_part p g e p.key))
     ∙ rw (copy_all p g e p.key.n ∙ (belonging g p one b).1)
 
 -- ---- a packet opens a group, or is added to one
@@ -122,8 +120,8 @@ module _ (p : Packet) (formed : Formed p) where
   opens (q ∷ g) b = by (whole (q ∷ g)) refl b
     where
       by : (w : Bool) → whole (q ∷ g) ≡ w → (not w && same_key q.key p.key) ≡ false → given (begun p) ≡ reply (stepping (summary (q ∷ g)) p)
-      by true e b = at_idle p (ap (λ (t : Bool). cond t Idle (Open (part_of q.key (q ∷ g)))) (sym e))
-      by false e b = at_other p (part_of q.key (q ∷ g)) (ap (λ (t : Bool). cond t Idle (Open (part_of q.key (q ∷ g)))) (sym e)) b
+      by true e b = at_idle p (ap (λ (t : Bool). cond t None (Some (part_of q.key (q ∷ g)))) (sym e))
+      by false e b = at_other p (part_of q.key (q ∷ g)) (ap (λ (t : Bool). cond t None (Some (part_of q.key (q ∷ g)))) (sym e)) b
 
   -- where it belongs to one, its bit tells whether its counter has come
   module _ (g : List Packet) (b : belongs g p ≡ true) where
@@ -151,7 +149,7 @@ module _ (p : Packet) (formed : Formed p) where
 
 -- ---- packet by packet
 
-abbrev after : Group → Answer Stepped → Stepped
+abbrev after : Option Part → Answer Stepped → Stepped
 after group a = record { group = left_of group a; ended = ended_of a }
 
 -- a step leaves the summary of the group with p, copy or not, and ends it where it is whole
@@ -172,5 +170,5 @@ pub left_open_lem : (past : List Packet) → AllFormed past → left_open past �
 unfolding left_open group_at
 left_open_lem [] all = refl
 left_open_lem (p ∷ past) all =
-    ap (λ (group : Group). left_of group (reply (stepping group p))) (left_open_lem past all.1)
+    ap (λ (group : Option Part). left_of group (reply (stepping group p))) (left_open_lem past all.1)
     ∙ ap (λ (s : Stepped). s.group) (steps_to p (group_at past) all.0 (group_one past all.1))

@@ -1,18 +1,12 @@
 -- A group of packets, step by step: what is open keeps which counters have come, a bit for each.
-use Rattle.std.specs.Prelude.{ℕ, ◌+◌, ◌%◌, ◌^◌, Bool, false, cond, not, ◌&&◌, List, [], ◌∷◌, ◌==◌, bit_or}
+use Rattle.std.specs.Prelude.{ℕ, ◌+◌, ◌%◌, ◌^◌, Bool, false, cond, not, ◌&&◌, List, [], ◌∷◌, ◌==◌, bit_or, Option, Some, None}
 use Rattle.refusals.specs.Refusals.{refused, given, Answer, Call, reply}
 use Rattle.wire.specs.Number.{flag_at}
 use Rattle.packets.specs.Packet.{same_key}
 use Rattle.packets.specs.declared.packet.Key.{Key}
 use Rattle.packets.specs.declared.packet.Packet.{Packet}
 use Rattle.groups.specs.declared.grouping.Part.{Part}
-use Rattle.groups.specs.declared.grouping.Group.{Group}
-use Rattle.groups.specs.declared.grouping.Group.TheVariants.{Idle, Open}
-use Rattle.groups.specs.declared.grouping.Ended.{Ended}
-use Rattle.groups.specs.declared.grouping.Ended.TheVariants.{Not, Whole}
 use Rattle.groups.specs.declared.grouping.Stepped.{Stepped}
-use Rattle.groups.specs.declared.grouping.Answered.{Answered}
-use Rattle.groups.specs.declared.grouping.Answered.TheVariants.{Refused, To}
 
 -- bit i stands for counter i
 abbrev pub bit_of : ℕ → ℕ
@@ -23,10 +17,10 @@ abbrev pub all_come : ℕ → ℕ → Bool
 all_come come n = come + 1 == 2 ^ n
 
 abbrev pub open_with : Key → ℕ → ℕ → Stepped
-open_with key come total = record { group = Open (record { key = key; come = come; total = total }); ended = Not }
+open_with key come total = record { group = Some (record { key = key; come = come; total = total }); ended = None }
 
 abbrev pub whole_with : ℕ → Stepped
-whole_with total = record { group = Idle; ended = Whole total }
+whole_with total = record { group = None; ended = Some total }
 
 -- whole where all have come
 unfoldable pub goes_on : Key → ℕ → ℕ → Stepped
@@ -41,36 +35,32 @@ abbrev pub added : Part → Packet → Stepped
 added part p = goes_on p.key (bit_or part.come (bit_of p.counter) % 65536) ((part.total + p.observations) % 65536)
 
 -- "one with another key drops the open epoch and opens its own, as any does at an idle place"
-unfoldable pub stepped : Group → Packet → Stepped
+unfoldable pub stepped : Option Part → Packet → Stepped
 unfolding goes_on
-stepped Idle p = begun p
-stepped (Open part) p = cond (same_key part.key p.key) (added part p) (begun p)
+stepped None p = begun p
+stepped (Some part) p = cond (same_key part.key p.key) (added part p) (begun p)
 
 -- "one whose counter has come already", with the open key
-abbrev pub has_come : Group → Packet → Bool
-has_come Idle p = false
-has_come (Open part) p = same_key part.key p.key && flag_at part.come p.counter
+abbrev pub has_come : Option Part → Packet → Bool
+has_come None p = false
+has_come (Some part) p = same_key part.key p.key && flag_at part.come p.counter
 
 -- 47
-abbrev pub stepping : Group → Packet → Call Stepped
+abbrev pub stepping : Option Part → Packet → Call Stepped
 stepping group p = record { tests = (not (has_come group p), 47) ∷ []; value = stepped group p }
-
-abbrev pub step_answer : Answered → Answer Stepped
-step_answer (Refused n) = refused n
-step_answer (To s) = given s
 
 -- ---- what a step leaves and ends; a refusal leaves what was open and ends nothing
 
-abbrev pub left_of : Group → Answer Stepped → Group
+abbrev pub left_of : Option Part → Answer Stepped → Option Part
 left_of group (refused n) = group
 left_of group (given s) = s.group
 
-abbrev pub ended_of : Answer Stepped → Ended
-ended_of (refused n) = Not
+abbrev pub ended_of : Answer Stepped → Option ℕ
+ended_of (refused n) = None
 ended_of (given s) = s.ended
 
 -- what packets leave open, the latest first
-unfoldable pub left_open : List Packet → Group
+unfoldable pub left_open : List Packet → Option Part
 unfolding stepped
-left_open [] = Idle
+left_open [] = None
 left_open (p ∷ past) = left_of (left_open past) (reply (stepping (left_open past) p))

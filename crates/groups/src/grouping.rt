@@ -1,9 +1,11 @@
 // A group of packets, and its step.
 ghost use Rattle.std.specs.Prelude.{◌≡◌};
+ghost use Rattle.refusals.specs.Numbers.{answer_of};
 ghost use Rattle.refusals.specs.Refusals.{reply};
-ghost use Rattle.groups.specs.Group.{bit_of, all_come, goes_on, begun, added, step_answer, stepping};
+ghost use Rattle.groups.specs.Group.{bit_of, all_come, goes_on, begun, added, stepping};
 
 use packets::{Key, Packet};
+use refusals::Refusal;
 
 // An open group: its key, which counters have come, a bit for each, and the observations so far.
 #[derive(Clone, Copy)]
@@ -13,29 +15,11 @@ pub struct Part {
     pub total: u16,
 }
 
-#[derive(Clone, Copy)]
-pub enum Group {
-    Idle,
-    Open(Part),
-}
-
-// Whether a packet ended an epoch, and with how many observations.
-#[derive(Clone, Copy)]
-pub enum Ended {
-    Not,
-    Whole(u16),
-}
-
+// What a packet leaves open, and the observations of the epoch that it ended, if it did.
 #[derive(Clone, Copy)]
 pub struct Stepped {
-    pub group: Group,
-    pub ended: Ended,
-}
-
-#[derive(Clone, Copy)]
-pub enum Answered {
-    Refused(u8),
-    To(Stepped),
+    pub group: Option<Part>,
+    pub ended: Option<u16>,
 }
 
 // The bit of a counter.
@@ -61,13 +45,13 @@ fn goes_on(key: Key, come: u16, total: u16) -> Stepped
 {
     if all_come(come, key.n) {
         return Stepped {
-            group: Group::Idle,
-            ended: Ended::Whole(total),
+            group: None,
+            ended: Some(total),
         };
     }
     Stepped {
-        group: Group::Open(Part { key, come, total }),
-        ended: Ended::Not,
+        group: Some(Part { key, come, total }),
+        ended: None,
     }
 }
 
@@ -78,7 +62,7 @@ fn begun(packet: Packet) -> Stepped
     goes_on(
         packet.key,
         bit_of(packet.counter),
-        packet.observations as u16,
+        u16::from(packet.observations),
     )
 }
 
@@ -89,24 +73,24 @@ fn added(part: Part, packet: Packet) -> Stepped
     goes_on(
         packet.key,
         part.come | bit_of(packet.counter),
-        std::num::wrapping_add_u16(part.total, packet.observations as u16),
+        part.total.wrapping_add(u16::from(packet.observations)),
     )
 }
 
 // 47 for a counter that has come already; another key drops what is open.
-pub fn step(group: Group, packet: Packet) -> Answered
-    ensures { step_answer result ≡ reply (stepping group packet) }
+pub fn step(group: Option<Part>, packet: Packet) -> Result<Stepped, Refusal>
+    ensures { answer_of result ≡ reply (stepping group packet) }
 {
     match group {
-        Group::Idle => Answered::To(begun(packet)),
-        Group::Open(part) => {
+        None => Ok(begun(packet)),
+        Some(part) => {
             if packets::same_key(part.key, packet.key) {
                 if wire::flag(part.come as u32, packet.counter as u32) {
-                    return Answered::Refused(47);
+                    return Err(Refusal::Copied);
                 }
-                return Answered::To(added(part, packet));
+                return Ok(added(part, packet));
             }
-            Answered::To(begun(packet))
+            Ok(begun(packet))
         }
     }
 }

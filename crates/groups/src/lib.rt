@@ -5,4 +5,4 @@
 
 mod grouping;
 
-pub use grouping::{Answered, Ended, Group, Part, Stepped, step};
+pub use grouping::{Part, Stepped, step};

@@ -3,8 +3,8 @@ use Rattle.std.specs.Prelude.{ℕ, List, [], ◌∷◌}
 use Rattle.frames.specs.declared.step.Frame.{Frame}
 use Rattle.frames.specs.declared.cursor.Counts.{Counts}
 use Rattle.epochs.specs.declared.collating.Report.{Report}
-use Rattle.epochs.specs.declared.collating.Happened.{Happened}
-use Rattle.epochs.specs.declared.collating.Happened.TheVariants.{Refused, Taken, Epoch}
+use Rattle.epochs.specs.Happened.{Happened}
+use Rattle.epochs.specs.Happened.{Refused, Taken, Epoch}
 use Rattle.text.specs.Line.{line}
 
 -- `F` offset type sender length payload-answer

@@ -1,13 +1,16 @@
 // The three lines of a listing: of a frame, of an epoch, of the totals, each put where it has room. Read specs/Lines.antt.
-// All are inner parts: total, and a line is whole or nothing.
+// All are inner parts: total, and a line is whole or nothing. buf and at stay apart: a struct of both would hold the buffer from line to line,
+// and say no more than the number that each hands back.
 #![tactic(auto)]
 
 ghost use Rattle.std.specs.Prelude.{◌≡◌, ◌+◌, ◌%◌, ◌^◌, length};
 ghost use Rattle.wire.specs.Number.{bytes_stored};
+ghost use Rattle.epochs.specs.Collator.{happened_of};
 ghost use Rattle.lines.specs.Lines.{frame_shown, totals_shown, epoch_part};
 
-use epochs::Happened;
+use epochs::Report;
 use frames::{Counts, Frame};
+use refusals::Refusal;
 
 // `F` offset type sender length payload-answer
 pub fn put_frame(buf: &mut [u8], at: usize, f: Frame, answer: u8) -> usize
@@ -28,29 +31,27 @@ pub fn put_frame(buf: &mut [u8], at: usize, f: Frame, answer: u8) -> usize
     )
 }
 
-// `E` sender wn tow n observations, where an epoch was reported
-pub fn put_epoch(buf: &mut [u8], at: usize, happened: Happened) -> usize
-    ensures value { result ≡ (at + length (epoch_part happened)) % 2 ^ 64 }
-    ensures buf_after { buf.new ≡ bytes_stored (epoch_part happened) buf.old at }
+// `E` sender wn tow n observations, where the frame that was fed ended an epoch
+#[tactic(auto, using(crate::proofs::Puts::nothing_stored))]
+pub fn put_epoch(buf: &mut [u8], at: usize, fed: Result<Option<Report>, Refusal>) -> usize
+    ensures value { result ≡ (at + length (epoch_part (happened_of fed))) % 2 ^ 64 }
+    ensures buf_after { buf.new ≡ bytes_stored (epoch_part (happened_of fed)) buf.old at }
 {
-    match happened {
-        Happened::Refused(_) => at,
-        Happened::Taken => at,
-        Happened::Epoch(e) => {
-            text::put_line(
-                buf,
-                at,
-                0x45,
-                [
-                    e.sender as u64,
-                    e.wn as u64,
-                    e.tow as u64,
-                    e.n as u64,
-                    e.observations as u64,
-                ],
-            )
-        }
-    }
+    let Ok(Some(epoch)) = fed else {
+        return at;
+    };
+    text::put_line(
+        buf,
+        at,
+        0x45,
+        [
+            epoch.sender as u64,
+            epoch.wn as u64,
+            epoch.tow as u64,
+            epoch.n as u64,
+            epoch.observations as u64,
+        ],
+    )
 }
 
 // `T` length, frame bytes, junk, bad, short

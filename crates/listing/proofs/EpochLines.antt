@@ -10,8 +10,8 @@ use Rattle.frames.specs.Reading.{closed_steps, frames_of}
 use Rattle.frames.specs.declared.step.Frame.{Frame}
 use Rattle.epochs.specs.Search.{names}
 use Rattle.epochs.specs.Epoch.{content_in, contents_of, after, CameTo}
-use Rattle.epochs.specs.declared.collating.Happened.{Happened}
-use Rattle.epochs.specs.declared.collating.Happened.TheVariants as H
+use Rattle.epochs.specs.Happened.{Happened}
+use Rattle.epochs.specs.Happened as H
 use Rattle.epochs.proofs.Feeding.{never_refused, never_taken}
 use Rattle.epochs.proofs.Collations.{came_to_lem}
 use Rattle.enlisting.specs.FirstEight.{obs_senders_in, roster_in}

@@ -2,6 +2,7 @@
 use mathlib.Core.Path.{◌≡◌, refl, ap, subst}
 use mathlib.Core.Bool.{Bool, true, false, cond, false≢true}
 use mathlib.Core.List.{List, [], ◌∷◌, ◌++◌, map}
+use Rattle.std.specs.Prelude.{Option, Some, None}
 use Prim.Native.Nat.{ℕ, suc, ◌+◌, ◌*◌, ◌^◌, ◌≤◌, ◌<◌}
 use native.Mathlib.Omega.{arith}
 use lib.Dec.{ltb, lit<}
@@ -17,16 +18,15 @@ use Rattle.frames.specs.declared.step.Step.TheVariants.{Finished, Junk, Short, B
 use Rattle.frames.proofs.Frames.{found_at, found_fits, found_numbers, payload_bytes}
 use Rattle.frames.proofs.Tiling.{closed_tiled, adds_up}
 use Rattle.payloads.specs.Payloads.{answer_for}
-use Rattle.payloads.specs.Checks.{tests_by}
-use Rattle.payloads.specs.Inner.{check_for, number_by}
+use Rattle.payloads.specs.Inner.{check_for, tests_found, number_by}
 use Rattle.payloads.specs.declared.check.Check.{Check}
-use Rattle.payloads.specs.declared.check.Check.TheVariants.{Unknown, Length, Ns, Fix, Obs, Log}
+use Rattle.payloads.specs.declared.check.Check.TheVariants.{Length, Ns, Fix, Obs, Log}
 use Rattle.payloads.proofs.Agreed.{numbered}
 use Rattle.epochs.specs.Collator.{fed_frame, made}
 use Rattle.epochs.specs.Epoch.{content_in, contents_of, outcomes}
 use Rattle.epochs.specs.declared.collating.Collator.{Collator}
-use Rattle.epochs.specs.declared.collating.Happened.{Happened}
-use Rattle.epochs.specs.declared.collating.Happened.TheVariants as H
+use Rattle.epochs.specs.Happened.{Happened}
+use Rattle.epochs.specs.Happened as H
 use Rattle.epochs.proofs.Reports.{SmallIn, report_small}
 use Rattle.text.specs.Line.{fields, line}
 use Rattle.text.proofs.Decimals.{few_digits}
@@ -70,15 +70,15 @@ number_small (t ∷ ts) e = by t.0 (ltb t.1 100) refl e (number_small ts)
     by passes false q e rest = absurd (false≢true e)
 
 small_answer : (kind : ℕ) (s : List ℕ) → answer_for kind s < 100
-small_answer kind s = subst (λ (n : ℕ). n < 100) (numbered kind s refl refl) (number_small (tests_by (check_for kind) s) (by (check_for kind)))
+small_answer kind s = subst (λ (n : ℕ). n < 100) (numbered kind s refl refl) (number_small (tests_found (check_for kind) s) (by (check_for kind)))
   where
-    by : (k : Check) → two_digits (tests_by k s) ≡ true
-    by Unknown = refl
-    by (Length n) = refl
-    by (Ns n at) = refl
-    by (Fix n at last) = refl
-    by Obs = refl
-    by Log = refl
+    by : (k : Option Check) → two_digits (tests_found k s) ≡ true
+    by None = refl
+    by (Some (Length n)) = refl
+    by (Some (Ns n at)) = refl
+    by (Some (Fix n at last)) = refl
+    by (Some Obs) = refl
+    by (Some Log) = refl
 
 -- ---- the lines of a frame
 

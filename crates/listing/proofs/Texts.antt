@@ -24,7 +24,7 @@ use Rattle.payloads.specs.Payloads.{answer_for}
 use Rattle.epochs.specs.Collator.{fed_frame, made}
 use Rattle.epochs.specs.Epoch.{content_in, contents_of}
 use Rattle.epochs.specs.declared.collating.Collator.{Collator}
-use Rattle.epochs.specs.declared.collating.Fed.{Fed}
+use Rattle.epochs.specs.Fed.{Fed}
 use Rattle.text.proofs.Pending.{Pending, pending_begun, pending_stored, pending_done, pending_last}
 use Rattle.enlisting.specs.Enlisting.{enlisted_to, new_outcomes}
 use Rattle.enlisting.proofs.Growing.{as_of_the_first}

@@ -8,7 +8,7 @@ use Rattle.frames.specs.declared.step.Frame.{Frame}
 use Rattle.payloads.specs.Payloads.{answer_for}
 use Rattle.epochs.specs.Collator.{made}
 use Rattle.epochs.specs.Epoch.{contents_of, outcomes}
-use Rattle.epochs.specs.declared.collating.Happened.{Happened}
+use Rattle.epochs.specs.Happened.{Happened}
 use Rattle.text.specs.Line.{line}
 use Rattle.enlisting.specs.FirstEight.{roster_in}
 use Rattle.lines.specs.Lines.{frame_shown, totals_shown, epoch_part}

@@ -1,14 +1,12 @@
 -- Which frames are packets: what a frame is by itself, and its tests. Later crates take packets as they are given and never unfold what is
 -- defined here, so a new edition or a wider key changes this crate alone.
 use Rattle.std.specs.Prelude.{ℕ, ◌/◌, ◌%◌, ◌≤◌, ◌<◌, Bool, ◌&&◌, not, List, [], ◌∷◌, ◌++◌, eqb, ltb}
-use Rattle.refusals.specs.Refusals.{refused, given, Answer, Tests, ordered}
+use Rattle.refusals.specs.Refusals.{Answer, Tests, ordered}
 use Rattle.observation.specs.Edition.{is_obs}
 use Rattle.observation.specs.Obs.{reading_obs, obs_in}
 use Rattle.observation.specs.declared.obs.Obs.{Obs}
 use Rattle.packets.specs.declared.packet.Key.{Key}
 use Rattle.packets.specs.declared.packet.Packet.{Packet}
-use Rattle.packets.specs.declared.packet.PacketRead.{PacketRead}
-use Rattle.packets.specs.declared.packet.PacketRead.TheVariants.{Record, Refused}
 
 -- packets of one epoch have the same tow, wn and n
 unfoldable pub same_key : Key → Key → Bool
@@ -39,10 +37,6 @@ read_packet kind s = ordered (shape kind s) (packet_in s)
 
 abbrev pub numbered : Packet → Answer Packet
 numbered p = ordered (numbering p) p
-
-abbrev pub packet_answer : PacketRead → Answer Packet
-packet_answer (Record p) = given p
-packet_answer (Refused n) = refused n
 
 -- what holds of every packet that is recognised. Not that n is at most 15, for which the payload must be of bytes
 pub record Formed (p : Packet) : Type 0 where

@@ -4,4 +4,4 @@
 
 mod packet;
 
-pub use packet::{Key, Packet, PacketRead, numbered, read_packet, same_key};
+pub use packet::{Key, Packet, numbered, read_packet, same_key};

@@ -1,11 +1,13 @@
 // A frame recognised as a packet, in two steps, since a collator looks for the frame's sender between them: its type and length, its numbers.
 ghost use Rattle.std.specs.Prelude.{◌≡◌};
-ghost use Rattle.packets.specs.Packet.{same_key, packet_of, read_packet, numbered, packet_answer};
+ghost use Rattle.packets.specs.Packet.{same_key, packet_of, read_packet, numbered};
+ghost use Rattle.refusals.specs.Numbers.{answer_of};
 
-use observation::{Obs, ObsRead};
+use observation::Obs;
+use refusals::Refusal;
 
 // What the packets of one epoch have in common.
-#[derive(Clone, Copy)]
+#[derive(Clone, Copy, PartialEq, Eq)]
 pub struct Key {
     pub tow: u32,
     pub wn: u16,
@@ -20,22 +22,13 @@ pub struct Packet {
     pub observations: u8,
 }
 
-#[derive(Clone, Copy)]
-pub enum PacketRead {
-    Record(Packet),
-    Refused(u8),
-}
-
+// By this name, since the crates above never look into a key.
+#[tactic(auto, unfolding(crate::specs::Packet::same_key))]
+// The definition of this name is what the crates above reason by, so that the function stays, though it is `==`.
 pub fn same_key(a: Key, b: Key) -> bool
     ensures { result ≡ same_key a b }
 {
-    if a.tow != b.tow {
-        return false;
-    }
-    if a.wn != b.wn {
-        return false;
-    }
-    a.n == b.n
+    a == b
 }
 
 // The upper four bits are n, the lower four the counter.
@@ -56,33 +49,27 @@ fn packet_of(o: Obs) -> Packet
 }
 
 // 46 for another type, then 22.
-pub fn read_packet(kind: u16, payload: &[u8]) -> PacketRead
-    ensures { packet_answer result ≡ read_packet kind payload.now }
+#[tactic(auto, unfolding(crate::specs::Packet::shape, crate::specs::Packet::packet_in, observation::specs::Obs::read_obs))]
+pub fn read_packet(kind: u16, payload: &[u8]) -> Result<Packet, Refusal>
+    ensures { answer_of result ≡ read_packet kind payload.now }
 {
-    if observation::is_obs(kind) {
-        let read = observation::read_obs(payload);
-        match read {
-            ObsRead::Refused(number) => {
-                return PacketRead::Refused(number);
-            }
-            ObsRead::Record(o) => {
-                return PacketRead::Record(packet_of(o));
-            }
-        }
+    if !observation::is_obs(kind) {
+        return Err(Refusal::NotObservations);
     }
-    PacketRead::Refused(46)
+    let obs = observation::read_obs(payload)?;
+    Ok(packet_of(obs))
 }
 
 // 44 where n is 0, then 45 where the counter is not below n.
-pub fn numbered(packet: Packet) -> PacketRead
-    ensures { packet_answer result ≡ numbered packet }
+#[tactic(auto, unfolding(crate::specs::Packet::numbering))]
+pub fn numbered(packet: Packet) -> Result<Packet, Refusal>
+    ensures { answer_of result ≡ numbered packet }
 {
-    let key = packet.key;
-    if key.n == 0 {
-        return PacketRead::Refused(44);
+    if packet.key.n == 0 {
+        return Err(Refusal::NoPackets);
     }
-    if key.n <= packet.counter {
-        return PacketRead::Refused(45);
+    if packet.counter >= packet.key.n {
+        return Err(Refusal::PastLast);
     }
-    PacketRead::Record(packet)
+    Ok(packet)
 }

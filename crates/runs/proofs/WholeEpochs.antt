@@ -1,6 +1,6 @@
 -- The step ends an epoch exactly when document 01 says that one ends: folded over packets from nothing on, it comes to a whole epoch with a
 -- packet and a total exactly when `EpochEnds`. The open part is the run that is still unfinished.
-use Rattle.std.proofs.Common.{◌≡◌, ℕ, zero, suc, ◌+◌, ◌%◌, ◌<◌, Bool, true, false, cond, eqb, ◌↔◌, List, [], ◌∷◌, sym, refl, ap, ◌∙◌, subst, true≢false, arith, eq-eqb, eqb-true}
+use Rattle.std.proofs.Common.{◌≡◌, ℕ, zero, suc, ◌+◌, ◌%◌, ◌<◌, Bool, true, false, cond, eqb, ◌↔◌, List, [], ◌∷◌, sym, refl, ap, ◌∙◌, subst, true≢false, arith, eq-eqb, eqb-true, Option, Some, None}
 use mathlib.Core.Bool.{and-eq-true_iff}
 use borrow.Author.Tests.{eqb-false}
 use Rattle.packets.specs.Packet.{same_key, Formed, AllFormed}
@@ -8,24 +8,22 @@ use Rattle.runs.specs.Run.{dropped, open_with, whole_with, goes_on, fits, summed
 use Rattle.runs.specs.InWords.{RunTo, EpochEnds}
 use Rattle.packets.specs.declared.packet.Key.{Key}
 use Rattle.packets.specs.declared.packet.Packet.{Packet}
-use Rattle.runs.specs.declared.running.Run.{Run}
-use Rattle.runs.specs.declared.running.Run.TheVariants.{Idle, Open}
-use Rattle.runs.specs.declared.running.Ended.TheVariants.{Whole}
+use Rattle.runs.specs.declared.running.Part.{Part}
 use Rattle.runs.specs.declared.running.Stepped.{Stepped}
 use Rattle.packets.proofs.Keys.{equal_key, same_key_lem}
 use Rattle.runs.proofs.StepCases.{not_whole}
 use Rattle.runs.proofs.Fronts.{unroll, run_head, first_of, next_of, same_run, run_small, run_low}
 
 -- what is open says this of the history: an open part is the run at its front; where nothing is, no run there is unfinished
-abbrev Holds : List Packet → Run → Type 0
-Holds past Idle = (key : Key) (j t : ℕ) → suc j < key.n → RunTo key j past t → ⊥
-Holds past (Open part) = (j : ℕ) × RunTo part.key j past part.total × (part.next ≡ suc j)
+abbrev Holds : List Packet → Option Part → Type 0
+Holds past None = (key : Key) (j t : ℕ) → suc j < key.n → RunTo key j past t → ⊥
+Holds past (Some part) = (j : ℕ) × RunTo part.key j past part.total × (part.next ≡ suc j)
 
 -- a step with p is right: what it leaves open holds, and it ends an epoch exactly when one ends
 abbrev Right : Packet → List Packet → Stepped → Type 0
-Right p past s = Holds (p ∷ past) s.run × ((t : ℕ) → (s.ended ≡ Whole t) ↔ EpochEnds p past t)
+Right p past s = Holds (p ∷ past) s.run × ((t : ℕ) → (s.ended ≡ Some t) ↔ EpochEnds p past t)
 
-same_whole : {t u : ℕ} → Whole t ≡ Whole u → t ≡ u
+same_whole : {t u : ℕ} → ◌≡◌ {A = Option ℕ} (Some t) (Some u) → t ≡ u
 same_whole e = cc
 
 module _ (p : Packet) (past : List Packet) (formed : Formed p) where
@@ -44,7 +42,7 @@ module _ (p : Packet) (past : List Packet) (formed : Formed p) where
             λ key j t h q. let a = run_head j q in let n = ap (λ (k : Key). k.n) a.0 in omega (arith, a.1),
             λ t. (
               λ w. record { last = last; run = subst (RunTo p.key p.counter (p ∷ past)) (same_whole w) r },
-              λ ends. ap Whole (same_run (p ∷ past) r ends.run).2,
+              λ ends. ap Some (same_run (p ∷ past) r ends.run).2,
             ),
           )
       by false e =
@@ -63,11 +61,11 @@ module _ (p : Packet) (past : List Packet) (formed : Formed p) where
     earlier zero r = absurd (later (run_head 0 r).1)
     earlier (suc i) r = let a = unroll r in (a.0, (i, a.2.0, refl, a.1, a.2.1))
 
-    right_later : (run : Run) → Holds past run → Right p past (continued run p)
+    right_later : (run : Option Part) → Holds past run → Right p past (continued run p)
     unfolding continued
-    right_later Idle h =
+    right_later None h =
         right_dropped (λ key j t below r. let a = (earlier j r).1 in h key a.0 a.1 (omega (arith, a.2)) a.4)
-    right_later (Open part) h = by (fits part p) refl
+    right_later (Some part) h = by (fits part p) refl
       where
         small : part.total + p.observations < 65536
         small = omega (arith, run_small h.0 past all h.1, run_low h.0 past all h.1, formed.few)
@@ -87,7 +85,7 @@ module _ (p : Packet) (past : List Packet) (formed : Formed p) where
             true≢false (sym ((and-eq-true_iff (same_key part.key p.key) (eqb part.next p.counter)).1 (key-test, counter-test)) ∙ e))
 
   -- every step from what holds is right
-  right_step : AllFormed past → (run : Run) → Holds past run → Right p past (stepped run p)
+  right_step : AllFormed past → (run : Option Part) → Holds past run → Right p past (stepped run p)
   unfolding stepped
   right_step all run h = by (eqb p.counter 0) refl
     where
@@ -101,5 +99,5 @@ holds [] all = λ key j t h r. unroll r
 holds (p ∷ past) all = (right_step p past all.0 all.1 (run_of past) (holds past all.1)).0
 
 -- a step comes to a whole epoch exactly when the packets end one
-pub whole_epoch : (p : Packet) (past : List Packet) (t : ℕ) → AllFormed (p ∷ past) → ((stepped (run_of past) p).ended ≡ Whole t) ↔ EpochEnds p past t
+pub whole_epoch : (p : Packet) (past : List Packet) (t : ℕ) → AllFormed (p ∷ past) → ((stepped (run_of past) p).ended ≡ Some t) ↔ EpochEnds p past t
 whole_epoch p past t all = (right_step p past all.0 all.1 (run_of past) (holds past all.1)).1 t

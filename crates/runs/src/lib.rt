@@ -5,4 +5,4 @@
 
 mod running;
 
-pub use running::{Ended, Part, Run, Stepped, step};
+pub use running::{Part, Stepped, step};

@@ -12,64 +12,29 @@ pub struct Part {
     pub total: u16,
 }
 
-#[derive(Clone, Copy)]
-pub enum Run {
-    Idle,
-    Open(Part),
-}
-
-// Whether a packet ended an epoch, and with how many observations.
-#[derive(Clone, Copy)]
-pub enum Ended {
-    Not,
-    Whole(u16),
-}
-
+// The run that a packet leaves open, and the observations of the epoch that it ended; each where there is one.
 #[derive(Clone, Copy)]
 pub struct Stepped {
-    pub run: Run,
-    pub ended: Ended,
+    pub run: Option<Part>,
+    pub ended: Option<u16>,
 }
 
 // The run that ends with this packet: whole where its counter is the last, else open for the next.
+#[tactic(auto, unfolding(crate::specs::Run::goes_on))]
 fn goes_on(packet: Packet, total: u16) -> Stepped
     ensures { result ≡ goes_on packet total }
 {
     let key = packet.key;
-    let next = std::num::wrapping_add_u8(packet.counter, 1);
+    let next = packet.counter.wrapping_add(1);
     if next == key.n {
         return Stepped {
-            run: Run::Idle,
-            ended: Ended::Whole(total),
+            run: None,
+            ended: Some(total),
         };
     }
     Stepped {
-        run: Run::Open(Part { key, next, total }),
-        ended: Ended::Not,
-    }
-}
-
-// Counter 0 begins a run; the next counter of the open run goes on; anything else leaves none open.
-pub fn step(run: Run, packet: Packet) -> Stepped
-    ensures { result ≡ stepped run packet }
-{
-    if packet.counter == 0 {
-        return goes_on(packet, packet.observations as u16);
-    }
-    match run {
-        Run::Idle => dropped(),
-        Run::Open(part) => {
-            if packets::same_key(part.key, packet.key) {
-                if part.next == packet.counter {
-                    return goes_on(
-                        packet,
-                        std::num::wrapping_add_u16(part.total, packet.observations as u16),
-                    );
-                }
-                return dropped();
-            }
-            dropped()
-        }
+        run: Some(Part { key, next, total }),
+        ended: None,
     }
 }
 
@@ -78,7 +43,24 @@ fn dropped() -> Stepped
     ensures { result ≡ dropped }
 {
     Stepped {
-        run: Run::Idle,
-        ended: Ended::Not,
+        run: None,
+        ended: None,
+    }
+}
+
+// Counter 0 begins a run; the next counter of the open run goes on; anything else leaves none open.
+#[tactic(auto, unfolding(crate::specs::Run::stepped, crate::specs::Run::continued))]
+pub fn step(run: Option<Part>, packet: Packet) -> Stepped
+    ensures { result ≡ stepped run packet }
+{
+    if packet.counter == 0 {
+        return goes_on(packet, u16::from(packet.observations));
+    }
+    match run {
+        Some(part) if packets::same_key(part.key, packet.key) && part.next == packet.counter => {
+            let total = part.total.wrapping_add(u16::from(packet.observations));
+            goes_on(packet, total)
+        }
+        _ => dropped(),
     }
 }

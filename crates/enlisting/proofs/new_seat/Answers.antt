@@ -1,23 +1,24 @@
 -- `enlisting::new_seat` meets its contract, in three ways.
-use mathlib.Core.Path.{sym, ap, ◌∙◌}
-use Rattle.epochs.specs.Search.{is_at, names}
+use Rattle.std.proofs.Common.{sym, ap, ◌∙◌}
+use Rattle.std.specs.Prelude.{is_some}
+use Rattle.epochs.specs.Search.{names}
 use Rattle.enlisting.proofs.Seating.{seat_had, seat_full, seat_free}
 use Rattle.enlisting.proofs.new_seat.Goals as goal
 
-pub returns-in_default : goal.returns-in_default
+pub returns-then-is_some : goal.returns-then-is_some
 unfolding names
-returns-in_default c =
-    let a = c.args in
-    sym (seat_had a.roster a.count a.sender (ap is_at (sym c.seat_of.ensures ∙ c.in_default.is)))
+returns-then-is_some c =
+    let r = c.args.roster in
+    sym (seat_had r.senders r.count c.args.sender (ap is_some (sym c.seat_of.ensures) ∙ sym c.is_some.ensures ∙ c.if-is_some.true))
 
-pub returns-then-count-ge8 : goal.returns-then-count-ge8
+pub returns-then-roster-ge8 : goal.returns-then-roster-ge8
 unfolding names
-returns-then-count-ge8 c =
-    let a = c.args in
-    sym (seat_full a.roster a.count a.sender (ap is_at (sym c.seat_of.ensures ∙ c.in-Nowhere.is)) c.if-count-ge8.true)
+returns-then-roster-ge8 c =
+    let r = c.args.roster in
+    sym (seat_full r.senders r.count c.args.sender (ap is_some (sym c.seat_of.ensures) ∙ sym c.is_some.ensures ∙ c.if-is_some.false) c.if-roster-ge8.true)
 
 pub returns : goal.returns
 unfolding names
 returns c =
-    let a = c.args in
-    sym (seat_free a.roster a.count a.sender (ap is_at (sym c.seat_of.ensures ∙ c.in-Nowhere.is)) c.if-count-ge8.false)
+    let r = c.args.roster in
+    sym (seat_free r.senders r.count c.args.sender (ap is_some (sym c.seat_of.ensures) ∙ sym c.is_some.ensures ∙ c.if-is_some.false) c.if-roster-ge8.false)

@@ -2,12 +2,12 @@
 -- make the end.
 use Rattle.std.proofs.Common.{length}
 use Rattle.frames.proofs.CursorLoops.{Walking, left}
-use Rattle.captures.specs.Capture.{collated}
+use Rattle.captures.specs.Capture.{going, collated}
 use Rattle.captures.proofs.Captures.{Going}
 use Rattle.captures.proofs.capturing.collate.Given as goal
 
 abbrev pub invariant-loop-frame : goal.invariant-loop-frame
-invariant-loop-frame l = Walking l.s (Going l.s (collated l.s l.roster) l.state) l.cursor
+invariant-loop-frame l = Walking l.s (Going l.s (collated l.s l.roster) (going l.state)) l.cursor
 
 abbrev pub decreases-loop-frame : goal.decreases-loop-frame
 decreases-loop-frame l = length (left l.s l.cursor)

@@ -1,20 +1,15 @@
 -- `epochs::collating::repeated` meets its contract. The loop's invariant: the answer is that of what is left.
-use mathlib.Core.Path.{refl, sym, ◌∙◌}
+use Rattle.std.proofs.Common.{true, false, sym, ◌∙◌, rules}
 use Rattle.epochs.proofs.Searches.{repeats_none, repeats_on}
 use Rattle.epochs.proofs.collating.repeated.Goals as goal
 
-pub loop-i-init : goal.loop-i-init
-loop-i-init c = refl
-
-pub returns-in_default : goal.returns-in_default
-returns-in_default c =
-    let s = c.args.roster.now in
-    sym (c.loop-i.invariant ∙ repeats_on s c.loop-i.i c.loop-i-test.true (sym c.in_default.is ∙ c.search-later.ensures))
+pub returns-then-is_some : goal.returns-then-is_some
+returns-then-is_some c =
+    sym (c.loop-i.invariant ∙ repeats_on c.args.roster.now c.loop-i.i true (search rules) c.search.ensures (sym c.is_some.ensures ∙ c.if-is_some.true))
 
 pub loop-i-preserved : goal.loop-i-preserved
 loop-i-preserved c =
-    let s = c.args.roster.now in
-    c.loop-i.invariant ∙ repeats_on s c.loop-i.i c.loop-i-test.true (sym c.in-Nowhere.is ∙ c.search-later.ensures)
+    c.loop-i.invariant ∙ repeats_on c.args.roster.now c.loop-i.i false (search rules) c.search.ensures (sym c.is_some.ensures ∙ c.if-is_some.false)
 
 pub returns : goal.returns
-returns c = sym (c.loop-i.invariant ∙ repeats_none c.args.roster.now c.loop-i.i c.loop-i-test.false)
+returns c = sym (c.loop-i.invariant ∙ repeats_none c.args.roster.now c.loop-i.i (search rules))

@@ -11,7 +11,7 @@ returns-then-s-gt65536 c = let both = let a = c.args in too_long a.s.now a.buf.n
 pub put_text-requires : goal.put_text-requires
 put_text-requires c =
     let s = c.args.s.now in
-    omega (arith, text_size s (λ i. (c.shared_slice_known-1.given i).fits) c.if-s-gt65536.false, c.if-s-gt65536.false)
+    omega (arith, text_size s (λ i. (c.type_inv.s i).fits) c.if-s-gt65536.false, c.if-s-gt65536.false)
 
 pub returns-then-fits : goal.returns-then-fits
 returns-then-fits c =

@@ -1,24 +1,29 @@
 -- `listing::listing::put_text` meets its contract.
-use mathlib.Core.Path.{sym, ap, ◌∙◌}
+use mathlib.Core.Path.{sym, ap₂, ◌∙◌}
 use native.Mathlib.Omega.{arith}
 use lib.Seq.{length-sets}
 use Rattle.frames.proofs.CursorLoops.{left_fewer, never_needs}
-use Rattle.epochs.specs.declared.collating.Made.{Made}
+use Rattle.epochs.specs.Fed.{Fed}
+use Rattle.epochs.specs.Happened.{Happened}
+use Rattle.epochs.specs.declared.collating.Collator.{Collator}
 use Rattle.listing.specs.Listing.{text_of}
 use Rattle.listing.proofs.Texts.{putting_begun, putting_on, putting_end}
 use Rattle.listing.proofs.listing.put_text.Goals as goal
 
 pub loop-frame-init : goal.loop-frame-init
 loop-frame-init c =
-    putting_begun c.args.s.now c.args.buf.now c.well_formed.0.0 c.requires (ap (λ (m : Made). m.collator) c.made-nobody.ensures) c.closed-cursor.ensures
+    putting_begun c.args.s.now c.args.buf.now c.well_formed.0.0 c.requires c.empty-collator.ensures c.closed-cursor.ensures
 
 pub loop-frame-smaller : goal.loop-frame-smaller
 loop-frame-smaller c =
-    left_fewer c.args.s.now c.well_formed.0.0 c.loop-frame.invariant.honest (sym c.next-next.ensures ∙ c.in-Frame.is)
+    left_fewer c.args.s.now c.well_formed.0.0 c.loop-frame.invariant.honest (sym c.next.ensures ∙ c.in-Frame.is)
 
 pub loop-frame-preserved : goal.loop-frame-preserved
 loop-frame-preserved c =
-    putting_on c.args.s.now c.args.buf.now c.well_formed.0.0 c.requires c.loop-frame.invariant (sym c.next-next.ensures ∙ c.in-Frame.is) c.payload-payload.ensures c.answer.ensures c.put_frame-at.ensures.value c.put_frame-at.ensures.buf_after c.enlist-seated.ensures c.feed-fed.ensures c.put_epoch-at.ensures.value c.put_epoch-at.ensures.buf_after
+    let fed = ap₂ {C = Fed} (λ (c : Collator) (h : Happened). record { collator = c; happened = h }) c.feed-fed.ensures.self_after c.feed-fed.ensures.value in
+    putting_on c.args.s.now c.args.buf.now c.well_formed.0.0 c.requires c.loop-frame.invariant (sym c.next.ensures ∙ c.in-Frame.is) c.payload-payload.ensures
+    (c.code-answer.ensures ∙ c.answer.ensures) c.put_frame-at.ensures.value c.put_frame-at.ensures.buf_after c.enlist.ensures fed
+    c.put_epoch-at.ensures.value c.put_epoch-at.ensures.buf_after
 
 pub shape_of-buf-in-End : goal.shape_of-buf-in-End
 shape_of-buf-in-End c =
@@ -27,7 +32,7 @@ shape_of-buf-in-End c =
 
 pub returns-in-End : goal.returns-in-End
 returns-in-End c =
-    let both = putting_end c.args.s.now c.args.buf.now c.well_formed.0.0 c.requires c.loop-frame.invariant (sym c.next-next.ensures ∙ c.in-End.is) c.counts.ensures c.put_totals.ensures.value c.put_totals.ensures.buf_after in record { value = both.0; buf_after = both.1 }
+    let both = putting_end c.args.s.now c.args.buf.now c.well_formed.0.0 c.requires c.loop-frame.invariant (sym c.next.ensures ∙ c.in-End.is) c.counts.ensures c.put_totals.ensures.value c.put_totals.ensures.buf_after in record { value = both.0; buf_after = both.1 }
 
 pub shape_of-buf-in-Needs : goal.shape_of-buf-in-Needs
 shape_of-buf-in-Needs c =
@@ -36,4 +41,4 @@ shape_of-buf-in-Needs c =
 
 pub returns-in-Needs : goal.returns-in-Needs
 returns-in-Needs c =
-    absurd (never_needs c.args.s.now c.well_formed.0.0 c.loop-frame.invariant.honest (sym c.next-next.ensures ∙ c.in-Needs.is))
+    absurd (never_needs c.args.s.now c.well_formed.0.0 c.loop-frame.invariant.honest (sym c.next.ensures ∙ c.in-Needs.is))
