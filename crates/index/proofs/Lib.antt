@@ -1,7 +1,5 @@
-pub mod Counts
 pub mod Onward
 pub mod Plans
-pub mod TurnCases
 pub mod Filled
-pub mod Turns
+pub mod Counts
 pub mod Seeking

@@ -1,19 +1,17 @@
 -- An index beside a capture (document 02, P5): a list of entries, one for each frame of open reading so far; the position that reading reached,
 -- how many entries are held, and how many frames of each type that has a reading.
-use Rattle.std.specs.Prelude.{ℕ, suc, ◌+◌, Bool, true, cond, ◌&&◌, List, [], ◌∷◌, ◌++◌, map, length, take, drop, replicate, ◌==◌, nat_le, slice_index, slice_set}
-use Rattle.refusals.specs.Refusals.{Answer, given, refused, leaves, zero_or, Call, reply}
+use Rattle.std.specs.Prelude.{ℕ, suc, ◌+◌, Bool, true, cond, ◌&&◌, List, [], ◌∷◌, ◌++◌, map, length, take, drop, replicate, ◌==◌, nat_le, slice_index, slice_set, Option, Some, None, Result}
+use Rattle.refusals.specs.Refusals.{Answer, leaves, mapped, Call, reply}
 use Rattle.frames.specs.Reading.{steps, frames_of, counts_of, sum_of}
 use Rattle.frames.specs.Cursors.{plus}
 use Rattle.payloads.specs.Payloads.{known_for}
 use Rattle.payloads.specs.Places.{message_count, place_for}
 use Rattle.frames.specs.declared.step.Frame.{Frame}
 use Rattle.index.specs.declared.entry.Entry.{Entry}
-use Rattle.index.specs.declared.planning.Index.{Index}
-use Rattle.index.specs.declared.planning.Indexed.{Indexed}
-use Rattle.index.specs.declared.asking.Sought.{Sought}
-use Rattle.index.specs.declared.asking.Sought.TheVariants as F
-use Rattle.index.specs.declared.counting.Counted.{Counted}
-use Rattle.index.specs.declared.counting.Counted.TheVariants as C
+use Rattle.index.specs.declared.index.Index.{Index}
+use Rattle.index.specs.declared.asking.Found.{Found}
+use Rattle.refusals.specs.declared.Refusal.{Refusal}
+use Rattle.refusals.specs.Numbers.{answer_of}
 
 -- ---- what it holds
 
@@ -71,9 +69,9 @@ unfoldable pub extend_in : Index → List ℕ → ℕ → Answer Index
 unfolding extended
 extend_in x s most = reply (extending x s most)
 
--- what a call hands back, and leaves in the list
-abbrev pub extended_by : Index → List ℕ → ℕ → Indexed
-extended_by x s most = let a = extend_in x s most in record { answer = zero_or a; index = leaves (λ new old. new) a x }
+-- what a call leaves of the index, and in the list
+abbrev pub index_after : Index → List ℕ → ℕ → Index
+index_after x s most = leaves (λ new old. new) (extend_in x s most) x
 
 abbrev pub entries_after : Index → List ℕ → List Entry → List Entry
 entries_after x s list = leaves (λ new. written x.held (entries_from s x.reached)) (extend_in x s (length list)) list
@@ -102,10 +100,12 @@ unfoldable pub first_in : Index → List Entry → ℕ → ℕ → ℕ → Answe
 unfolding seek
 first_in x list kind sender offset = reply (asking x list kind sender offset)
 
-abbrev pub sought_answer : Sought → Answer Hit
-sought_answer (F.At i e) = given (at i e)
-sought_answer F.Nowhere = given nowhere
-sought_answer (F.Refused n) = refused n
+abbrev pub hit_of : Option Found → Hit
+hit_of None = nowhere
+hit_of (Some f) = at f.place f.entry
+
+abbrev pub sought_answer : Result (Option Found) Refusal → Answer Hit
+sought_answer r = mapped hit_of (answer_of r)
 
 -- ---- asking for a count: the kept total, or 21
 
@@ -114,7 +114,3 @@ counting x kind = record { tests = (known_for kind, 21) ∷ []; value = slice_in
 
 unfoldable pub count_in : Index → ℕ → Answer ℕ
 count_in x kind = reply (counting x kind)
-
-abbrev pub count_answer : Counted → Answer ℕ
-count_answer (C.Frames n) = given n
-count_answer (C.Refused n) = refused n

@@ -1,69 +1,56 @@
-// The first frame of a type and sender at or after an offset, from the entries held.
-ghost use Rattle.std.specs.Prelude.{◌≡◌, if◌then◌else◌, nat_le};
-ghost use Rattle.index.specs.Index.{hits, sought_answer, first_in};
-ghost use Rattle.index.specs.Inner.{none, told_by};
+// What is asked of an index: the first frame of a type and sender at or after an offset, and how many frames of a type there are.
+ghost use Rattle.std.specs.Prelude.{◌≡◌};
+ghost use Rattle.std.specs.List.{position};
+ghost use Rattle.refusals.specs.Numbers.{answer_of};
+ghost use Rattle.index.specs.Index.{hits, sought_answer, first_in, count_in};
 
-use crate::entry::{Entry, hits};
-use crate::planning::Index;
+use crate::entry::Entry;
+use crate::index::Index;
+use refusals::Refusal;
 
-// Its place in the list with its entry; that there is none; or a refusal's number.
+// An entry and its place in the list.
 #[derive(Clone, Copy)]
-pub enum Sought {
-    At(usize, Entry),
-    Nowhere,
-    Refused(u8),
+pub struct Found {
+    pub place: usize,
+    pub entry: Entry,
 }
 
-// How many entries are looked through: those held, and none where the list is shorter.
-fn looked_through(held: usize, most: usize) -> usize
-    ensures { result ≡ (if nat_le held most then held else 0) }
+// Where the first hit stands.
+fn first_hit(entries: &[Entry], kind: u16, sender: u16, offset: u64) -> Option<usize>
+    ensures { result ≡ position (hits kind sender offset) entries.now }
 {
-    if held <= most {
-        return held;
-    }
-    0
+    entries.iter().position(|e| e.hits(kind, sender, offset))
 }
 
-// No frame's: what a look begins with.
-pub(crate) fn none() -> Entry
-    ensures { result ≡ none }
+// The first hit among the entries held. 51 where the list is shorter than the frames held.
+pub fn first(
+    index: &Index,
+    entries: &[Entry],
+    kind: u16,
+    sender: u16,
+    offset: u64,
+) -> Result<Option<Found>, Refusal>
+    ensures { sought_answer result ≡ first_in index.now entries.now kind sender offset }
 {
-    Entry {
-        offset: 0,
-        kind: 0,
-        sender: 0,
-        length: 0,
+    if entries.len() < index.held {
+        return Err(Refusal::ListTooShort);
+    }
+    let held = &entries[..index.held];
+    match first_hit(held, kind, sender, offset) {
+        Some(place) => Ok(Some(Found {
+            place,
+            entry: held[place],
+        })),
+        None => Ok(None),
     }
 }
 
-// What a look that came to `at`, and last saw that entry, tells.
-fn told(held: usize, most: usize, at: usize, entry: Entry) -> Sought
-    ensures { result ≡ told_by held most at entry }
+// The kept total of a type's frames; 21 for a type without a reading.
+pub fn count(index: &Index, kind: u16) -> Result<u64, Refusal>
+    ensures { answer_of result ≡ count_in index.now kind }
 {
-    if most < held {
-        return Sought::Refused(51);
+    match payloads::place_of(kind) {
+        Some(place) => Ok(index.counts[place]),
+        None => Err(Refusal::UnknownType),
     }
-    if at < held {
-        return Sought::At(at, entry);
-    }
-    Sought::Nowhere
-}
-
-// Forward to the first hit. 51 where the list is shorter than the frames held.
-pub fn first(index: Index, entries: &[Entry], kind: u16, sender: u16, offset: u64) -> Sought
-    ensures { sought_answer result ≡ first_in index entries.now kind sender offset }
-{
-    let held = index.held;
-    let most = entries.len();
-    let end = looked_through(held, most);
-    let mut at = 0;
-    let mut entry = none();
-    while at < end {
-        entry = entries[at];
-        if hits(entry, kind, sender, offset) {
-            break;
-        }
-        at += 1;
-    }
-    told(held, most, at, entry)
 }

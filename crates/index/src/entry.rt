@@ -12,25 +12,22 @@ pub struct Entry {
     pub length: u8,
 }
 
-pub(crate) fn entry_of(f: frames::Frame) -> Entry
-    ensures { result ≡ entry_of f }
-{
-    Entry {
-        offset: f.at as u64,
-        kind: f.kind,
-        sender: f.sender,
-        length: f.length,
-    }
-}
-
-// Whether an entry is one of that type and sender, at or after an offset.
-pub(crate) fn hits(e: Entry, kind: u16, sender: u16, offset: u64) -> bool
-    ensures { result ≡ hits kind sender offset e }
-{
-    if e.kind == kind {
-        if e.sender == sender {
-            return offset <= e.offset;
+impl Entry {
+    pub(crate) fn of(f: frames::Frame) -> Entry
+        ensures { result ≡ entry_of f }
+    {
+        Entry {
+            offset: f.at as u64,
+            kind: f.kind,
+            sender: f.sender,
+            length: f.length,
         }
     }
-    false
+
+    // Whether it is one of that type and sender, at or after an offset.
+    pub(crate) fn hits(self, kind: u16, sender: u16, offset: u64) -> bool
+        ensures { result ≡ hits kind sender offset self }
+    {
+        self.kind == kind && self.sender == sender && offset <= self.offset
+    }
 }

@@ -10,7 +10,7 @@ use Rattle.lent_rows.specs.Lent.{first_rows_stored}
 use Rattle.payloads.specs.Places.{message_count}
 use Rattle.index.specs.Index.{empty, extended, written, entries_from, extending, Hit, at, nowhere, asking, counting}
 use Rattle.index.specs.declared.entry.Entry.{Entry}
-use Rattle.index.specs.declared.planning.Index.{Index}
+use Rattle.index.specs.declared.index.Index.{Index}
 
 -- ---- where the parts stand
 

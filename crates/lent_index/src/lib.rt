@@ -1,8 +1,8 @@
 // An index in lent bytes, for callers that C and Rust link. The entries are `index`'s own. Read specs/Bytes.antt.
 #![tactic(auto)]
 
-mod asking;
 mod keeping;
+mod lent;
 
-pub use asking::{count_in, hand_place};
-pub use keeping::{extendable, index_in, make, settle};
+pub use keeping::index_in;
+pub use lent::{count, extend, first, make};

@@ -10,7 +10,7 @@ loop-i-init c = (omega arith, refl, λ j h. absurd (omega arith))
 
 pub loop-i-preserved : goal.loop-i-preserved
 loop-i-preserved c =
-    one_filled (count_at c.args.s.now) c.loop-i.counts c.loop-i.i c.loop-i.invariant c.loop-i-test.true c.read_u64.ensures
+    one_filled (count_at c.args.s.now) c.loop-i.counts c.loop-i.i c.loop-i.invariant c.loop-i-test.true c.read.ensures
 
 pub returns : goal.returns
 returns c = all_filled (count_at c.args.s.now) c.loop-i.counts c.loop-i.i c.loop-i.invariant c.loop-i-test.false

@@ -15,15 +15,15 @@ loop-i-init c = (omega arith, rows_none _ _ _ _)
 pub loop-i-preserved : goal.loop-i-preserved
 loop-i-preserved c =
     let a = c.args in
-    (omega arith, rows_more count_fields (count_row a.counts) a.s.now counts_at c.loop-i.i c.loop-i.invariant.1 c.store_u64.ensures)
+    (omega arith, rows_more count_fields (count_row a.counts.now) a.s.now counts_at c.loop-i.i c.loop-i.invariant.1 c.store.ensures)
 
 pub shape_of-s : goal.shape_of-s
 shape_of-s c =
     let a = c.args in
-    ap length c.loop-i.invariant.1 ∙ length-stored count_fields (count_row a.counts) a.s.now counts_at c.loop-i.i
+    ap length c.loop-i.invariant.1 ∙ length-stored count_fields (count_row a.counts.now) a.s.now counts_at c.loop-i.i
 
 pub returns : goal.returns
 returns c =
     let a = c.args in
     let end : c.loop-i.i ≡ message_count = omega arith in
-    c.loop-i.invariant.1 ∙ ap (λ (n : ℕ). first_rows_stored count_fields (count_row a.counts) n a.s.now counts_at) end
+    c.loop-i.invariant.1 ∙ ap (λ (n : ℕ). first_rows_stored count_fields (count_row a.counts.now) n a.s.now counts_at) end

@@ -8,6 +8,6 @@ use Rattle.lent_index.proofs.keeping.put_index.Goals as goal
 
 pub returns : goal.returns
 returns c =
-    let x = c.args.index in
+    let x = c.args.index.now in
     c.put_counts.ensures
-    ∙ ap (counts_stored x.counts) (c.store_u64-2.ensures ∙ ap (λ (t : List ℕ). value_stored u64 x.held t 8) c.store_u64.ensures)
+    ∙ ap (counts_stored x.counts) (c.store-2.ensures ∙ ap (λ (t : List ℕ). value_stored u64 x.held t 8) c.store.ensures)

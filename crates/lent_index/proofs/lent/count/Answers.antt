@@ -1,0 +1,16 @@
+-- `lent_index::lent::count` meets its contract.
+use mathlib.Core.Path.{sym, ap, ◌∙◌}
+use Rattle.std.proofs.Common.{rules, ◌≡◌}
+use Rattle.std.specs.Prelude.{Err}
+use Rattle.refusals.specs.Numbers.{answer_of}
+use Rattle.lent_index.proofs.Calls.{count_short, count_lent}
+use Rattle.lent_index.proofs.lent.count.Goals as goal
+
+pub returns-in_err-index : goal.returns-in_err-index
+returns-in_err-index c =
+    let a = c.args in
+    let same : c.from_residual.result ≡ Err c.in_err-index.field-0.0 = search rules in
+    ap answer_of same ∙ count_short a.bytes.now a.kind (sym (ap answer_of c.in_err-index.was) ∙ c.lent.ensures)
+
+pub returns : goal.returns
+returns c = let a = c.args in c.count.ensures ∙ count_lent a.bytes.now a.kind (sym (ap answer_of c.in_ok-index.was) ∙ c.lent.ensures)
