@@ -21,5 +21,5 @@ pub fn sbp_frame_crc(header: &[u8], payload: &[u8]) -> u16
 pub fn sbp_answer(kind: u16, payload: &[u8]) -> u8
     ensures { result ≡ answer_for kind payload.now }
 {
-    payloads::answer(kind, payload)
+    refusals::code(payloads::answer(kind, payload))
 }

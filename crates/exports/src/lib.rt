@@ -8,6 +8,7 @@
 
 mod answering;
 mod beating;
+mod bits;
 mod collating;
 mod flagging;
 mod indexing;

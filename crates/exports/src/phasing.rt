@@ -17,5 +17,12 @@ pub fn sbp_phase_parts(phase: i64, l_i: &mut i32, l_f: &mut u8) -> u8
     ensures l_i_after { l_i.new ≡ cycles_after phase l_i.old }
     ensures l_f_after { l_f.new ≡ parts_after phase l_f.old }
 {
-    phases::hand_parts(phase, l_i, l_f)
+    match phases::phase_parts(phase) {
+        Ok(parts) => {
+            *l_i = parts.l_i;
+            *l_f = parts.l_f;
+            0
+        }
+        Err(e) => e.number(),
+    }
 }

@@ -9,7 +9,10 @@ pub fn sbp_next(capture: &[u8], at: usize, opened: bool, found: &mut [u8]) -> u8
     ensures value { result ≡ next_answer capture.now at opened (length found.old) }
     ensures found_after { found.new ≡ next_stored capture.now at opened found.old }
 {
-    frame_rows::next_row(capture, at, opened, found)
+    match frame_rows::next_row(capture, at, opened, found) {
+        Ok(next) => next as u8,
+        Err(e) => e.number(),
+    }
 }
 
 // 0 and the row at the start of counts; 32 where that has no room.
@@ -17,5 +20,5 @@ pub fn sbp_totals(capture: &[u8], counts: &mut [u8]) -> u8
     ensures value { result ≡ totals_answer capture.now (length counts.old) }
     ensures counts_after { counts.new ≡ totals_stored capture.now counts.old }
 {
-    frame_rows::totals_row(capture, counts)
+    refusals::code(frame_rows::totals_row(capture, counts))
 }

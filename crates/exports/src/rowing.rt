@@ -8,7 +8,7 @@ pub fn sbp_read(kind: u16, payload: &[u8], row: &mut [u64]) -> u8
     ensures value { result ≡ zero_or (read_row kind payload.now (length row.old)) }
     ensures row_after { row.new ≡ row_after kind payload.now row.old }
 {
-    row_reader::read_row(kind, payload, row)
+    refusals::code(row_reader::read_row(kind, payload, row))
 }
 
 // 0 and eight numbers at the start of row; 21 for a type that is not OBS, 22, 25, then 32.
@@ -16,5 +16,5 @@ pub fn sbp_observation(kind: u16, payload: &[u8], index: usize, row: &mut [u64])
     ensures value { result ≡ zero_or (read_one kind payload.now index (length row.old)) }
     ensures row_after { row.new ≡ row_after_one kind payload.now index row.old }
 {
-    row_reader::read_observation_row(kind, payload, index, row)
+    refusals::code(row_reader::read_observation_row(kind, payload, index, row))
 }

@@ -9,6 +9,5 @@ pub fn sbp_list(capture: &[u8], text: &mut [u8], size: &mut u64) -> u8
     ensures text_after { text.new ≡ with_listing capture.now text.old }
     ensures size_after { size.new ≡ size_after capture.now (length text.old) size.old }
 {
-    let written = listing::list(capture, text);
-    frame_writer::hand_on(written, size)
+    frame_writer::hand_on(listing::list(capture, text), size)
 }

@@ -22,7 +22,8 @@ pub fn sbp_write(
     ensures out_after { out.new ≡ row_written kind (writer_from own sender) row.now out.old }
     ensures size_after { size.new ≡ size_left (write_row kind row.now (length out.old)) size.old }
 {
-    row_writer::write_row(out, kind, senders::writer_from(own, sender), row, size)
+    let written = row_writer::write_row(out, kind, senders::writer_from(own, sender), row);
+    frame_writer::hand_on(written, size)
 }
 
 // An OBS, from its header's three numbers and eight for each observation: 21, 22, 23, 31, 32.
@@ -39,14 +40,14 @@ pub fn sbp_write_obs(
     ensures out_after { out.new ≡ obs_row_written kind (writer_from own sender) head.now rows.now out.old }
     ensures size_after { size.new ≡ size_left (write_obs_row kind head.now rows.now (length out.old)) size.old }
 {
-    row_writer::write_obs_row(
+    let written = row_writer::write_obs_row(
         out,
         kind,
         senders::writer_from(own, sender),
         head,
         rows,
-        size,
-    )
+    );
+    frame_writer::hand_on(written, size)
 }
 
 // A LOG: 23 for a zero in the text, 31 for a text and zeros over 254 bytes, then 32.
@@ -80,5 +81,6 @@ pub fn sbp_write_frame(
     ensures out_after { out.new ≡ with_frame kind (writer_from own sender) payload.now out.old }
     ensures size_after { size.new ≡ size_left (planned (length payload.now) (length out.old)) size.old }
 {
-    row_writer::send_frame(out, kind, senders::writer_from(own, sender), payload, size)
+    let written = frame_writer::write_frame(out, kind, senders::writer_from(own, sender), payload);
+    frame_writer::hand_on(written, size)
 }

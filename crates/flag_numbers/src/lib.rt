@@ -1,4 +1,4 @@
-// A message's flags by its type, as numbers. Read specs/Flagged.antt: 21 for a type that has no such flag, else the flag by its own table.
+// A message's flags by its type. Read specs/Flagged.antt: a type that has no such flag is refused, else it is the flag by its own table.
 #![tactic(auto)]
 
 mod flagging;

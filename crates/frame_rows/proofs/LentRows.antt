@@ -1,10 +1,10 @@
--- A row stored at the start of a lent buffer, or 32 where it has no room; and what `sbp_next` says of a reading.
+-- A row stored at the start of a lent buffer that has room; and what `sbp_next` says of a reading.
 use mathlib.Core.Path.{◌≡◌, refl, ap, ◌∙◌}
 use mathlib.Core.Bool.{Bool}
 use mathlib.Core.List.{List}
 use Prim.Native.Nat.{ℕ, ◌^◌, ◌≤◌, ◌<◌}
 use lib.ListN.{length}
-use borrow.Author.Tests.{le-leb, lt-leb}
+use borrow.Author.Tests.{le-leb}
 use Rattle.refusals.specs.Refusals.{ordered, leaves, as_number, room_for}
 use Rattle.layouts.specs.Field.{Field, Row, size, row_stored}
 use Rattle.frames.specs.Reading.{steps, frames_of}
@@ -20,9 +20,6 @@ module _ {A : Type 0} (fs : List Field) (number : A → ℕ) (values : A → Row
   Out m t =
       let answer = ordered (room_for (size fs) (length buf)) x in
       (m ≡ as_number number answer) × (t ≡ leaves (λ y. at_front fs (values y)) answer buf)
-
-  pub row_32 : length buf < size fs → Out 32 buf
-  row_32 h = rw (lt-leb (size fs) (length buf) h) (refl, refl)
 
   pub row_put : {m : ℕ} {w : Row fs} {t : List ℕ} → size fs ≤ length buf → m ≡ number x → w ≡ values x → t ≡ row_stored fs w buf 0 → Out m t
   row_put h p q e = rw (le-leb (size fs) (length buf) h) (p, e ∙ ap (λ (w : Row fs). row_stored fs w buf 0) q ∙ stored_front fs (values x) buf h)

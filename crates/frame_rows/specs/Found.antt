@@ -8,6 +8,8 @@ use Rattle.frames.specs.declared.cursor.Cursor.{Cursor}
 use Rattle.frames.specs.declared.cursor.Next as Next
 use Rattle.lent_rows.specs.Lent.{at_front}
 use Rattle.frame_rows.specs.declared.reading.FoundRow.{FoundRow}
+use Rattle.frame_rows.specs.declared.reading.Found.{Found}
+use Rattle.frame_rows.specs.declared.reading.Found.TheVariants.{Frame, End, Needs}
 
 -- at, next, needed, junk, bad, short, kind, sender, length
 abbrev pub found_fields : List Field
@@ -40,6 +42,12 @@ abbrev pub number_in : Next.Next → ℕ
 number_in (Next.TheVariants.Frame f c) = 0
 number_in (Next.TheVariants.End c) = 1
 number_in (Next.TheVariants.Needs n c) = 2
+
+-- the same of what `next_row` gives
+abbrev pub found_number : Found → ℕ
+found_number Frame = 0
+found_number End = 1
+found_number Needs = 2
 
 -- 32
 abbrev pub finding : List ℕ → ℕ → Bool → ℕ → Call Next.Next

@@ -7,4 +7,4 @@ mod reading;
 mod sizes;
 
 pub use counting::totals_row;
-pub use reading::{FoundRow, next_row};
+pub use reading::{Found, FoundRow, next_row};

@@ -1,12 +1,16 @@
 // The next frame of a capture, as a row of numbers in a lent buffer.
-ghost use Rattle.std.specs.Prelude.{◌≡◌, cond, eqb, length};
+ghost use Rattle.std.specs.Prelude.{◌≡◌, length};
+ghost use Rattle.refusals.specs.Refusals.{as_number};
+ghost use Rattle.refusals.specs.Numbers.{answer_of};
 ghost use Rattle.layouts.specs.Field.{row_stored};
 ghost use Rattle.frames.specs.Cursors.{reached_in};
 ghost use Rattle.frames.specs.declared.cursor.Next.{Next};
-ghost use Rattle.frame_rows.specs.Found.{found_fields, found_values, found_in, next_answer, next_stored};
+ghost use Rattle.frame_rows.specs.Found.{found_fields, found_values, found_in, found_number, number_in, next_answer, next_stored};
 
 use crate::sizes::FOUND_SIZE;
 use frames::{Cursor, Reached};
+use refusals::Refusal;
+use wire::InBytes;
 
 // Where a frame was found or the reading stands, where to go on, the bytes needed from there, those passed over on the way, and the frame's
 // type, sender and payload length.
@@ -23,23 +27,32 @@ pub struct FoundRow {
     pub length: u8,
 }
 
-// Where a frame was found, or else the reading stands.
-fn place(r: Reached) -> usize
-    ensures { result ≡ cond (eqb r.number 0) r.frame.at r.cursor.at }
-{
-    if r.number == 0 {
-        return r.frame.at;
-    }
-    r.cursor.at
+// What came next.
+#[derive(Clone, Copy, Debug, PartialEq, Eq)]
+pub enum Found {
+    Frame = 0,
+    End = 1,
+    Needs = 2,
 }
 
-// Of an answer in numbers: where there is no frame its numbers are 0, and so are the bytes needed where none are.
+// Of an answer in numbers.
+fn found_of(r: Reached) -> Found
+    ensures { (n : Next) → r ≡ reached_in n → found_number result ≡ number_in n }
+{
+    match r.number {
+        0 => Found::Frame,
+        1 => Found::End,
+        _ => Found::Needs,
+    }
+}
+
+// The row of the same: where there is no frame its numbers are 0, and so are the bytes needed where none are.
 fn row_of(r: Reached) -> FoundRow
     ensures { (n : Next) → r ≡ reached_in n → result ≡ found_in n }
 {
-    let at = place(r);
     let f = r.frame;
     let c = r.cursor;
+    let at = if r.number == 0 { f.at } else { c.at };
     FoundRow {
         at: at as u64,
         next: c.at as u64,
@@ -56,25 +69,26 @@ fn row_of(r: Reached) -> FoundRow
 fn put_found(buf: &mut [u8], f: FoundRow)
     ensures { buf.new ≡ row_stored found_fields (found_values f) buf.old 0 }
 {
-    wire::store_u64(buf, 0, f.at);
-    wire::store_u64(buf, 8, f.next);
-    wire::store_u64(buf, 16, f.needed);
-    wire::store_u64(buf, 24, f.junk);
-    wire::store_u64(buf, 32, f.bad);
-    wire::store_u64(buf, 40, f.short);
-    wire::store_u16(buf, 48, f.kind);
-    wire::store_u16(buf, 50, f.sender);
-    wire::store_u8(buf, 52, f.length);
+    f.at.store(buf, 0);
+    f.next.store(buf, 8);
+    f.needed.store(buf, 16);
+    f.junk.store(buf, 24);
+    f.bad.store(buf, 32);
+    f.short.store(buf, 40);
+    f.kind.store(buf, 48);
+    f.sender.store(buf, 50);
+    f.length.store(buf, 52);
 }
 
-// The next frame from a position on, in closed reading or, where opened says so, in open: 0, 1 or 2, and its row at the start of found; 32
-// where that has no room.
-pub fn next_row(capture: &[u8], at: usize, opened: bool, found: &mut [u8]) -> u8
-    ensures value { result ≡ next_answer capture.now at opened (length found.old) }
+// The next frame from a position on, in closed reading or, where opened says so, in open, and its row at the start of found; 32 where that has no
+// room.
+#[tactic(auto, unfolding(crate::specs::Found::next_from))]
+pub fn next_row(capture: &[u8], at: usize, opened: bool, found: &mut [u8]) -> Result<Found, Refusal>
+    ensures value { as_number found_number (answer_of result) ≡ next_answer capture.now at opened (length found.old) }
     ensures found_after { found.new ≡ next_stored capture.now at opened found.old }
 {
     if found.len() < FOUND_SIZE {
-        return 32;
+        return Err(Refusal::NoRoom);
     }
     let start = Cursor {
         at,
@@ -86,5 +100,5 @@ pub fn next_row(capture: &[u8], at: usize, opened: bool, found: &mut [u8]) -> u8
     };
     let reached = start.reach(capture);
     put_found(found, row_of(reached));
-    reached.number
+    Ok(found_of(reached))
 }

@@ -13,8 +13,7 @@ use Rattle.layouts.proofs.Fields.{length-row}
 use Rattle.wire.specs.Tabulated.{tabulated}
 use Rattle.epochs.specs.Collator.{idle}
 use Rattle.groups.specs.declared.grouping.Part.{Part}
-use Rattle.groups.specs.declared.grouping.Group.{Group}
-use Rattle.groups.specs.declared.grouping.Group.TheVariants.{Idle, Open}
+use Rattle.std.specs.Prelude.{Option, Some, None}
 use Rattle.epochs.specs.declared.collating.Place.{Place}
 use Rattle.epochs.specs.declared.collating.Collator.{Collator}
 use Rattle.places.specs.State.{count_fields, seat_fields, slot, slot_fields, seats_at, places_at, state_size, seat_at, slot_at, place_of, slot_for, slot_of, place_in, place_stored, senders_in, seat_in, seats_in, state_in, count_stored, seat_row, seats_stored, place_row, collator_stored}
@@ -31,24 +30,24 @@ pub record SmallPart (x : Part) : Type 0 where
   pub come : x.come < 65536
   pub total : x.total < 65536
 
-abbrev pub SmallGroup : Group → Type 0
-SmallGroup Idle = Unit {0}
-SmallGroup (Open part) = SmallPart part
+abbrev pub SmallGroup : Option Part → Type 0
+SmallGroup None = Unit {0}
+SmallGroup (Some part) = SmallPart part
 
 abbrev pub Small : Place → Type 0
 Small place = SmallGroup place.group
 
-held : (g : Group) → SmallGroup g → HeldRow slot_fields (slot.row (slot_for g))
-held Idle h = search rules
-held (Open part) h = search rules
+held : (g : Option Part) → SmallGroup g → HeldRow slot_fields (slot.row (slot_for g))
+held None h = search rules
+held (Some part) h = search rules
 
-settled : (g : Group) → SettledRow slot_fields (slot.row (slot_for g))
+settled : (g : Option Part) → SettledRow slot_fields (slot.row (slot_for g))
 settled g = search rules
 
 -- a place comes back from its numbers
-back : (g : Group) → place_of (slot_for g) ≡ record { group = g }
-back Idle = refl
-back (Open part) = refl
+back : (g : Option Part) → place_of (slot_for g) ≡ record { group = g }
+back None = refl
+back (Some part) = refl
 
 -- ---- one place stored
 
@@ -131,7 +130,7 @@ module _ (c : Collator) (h : Held c) (s : List ℕ) (long : state_size ≤ lengt
 
   place_back : (j : ℕ) → j < 8 → place_in (collator_stored c s) j ≡ get_or c.places j idle
   place_back j b =
-      let group : ℕ → Group = λ k. (get_or c.places k idle).group in
+      let group : ℕ → Option Part = λ k. (get_or c.places k idle).group in
       ap (λ (v : Row slot_fields). place_of (slot.make v))
       (rows_own slot_fields (place_row c.places) (seats_stored c.roster (count_stored c.count s)) places_at 8 (omega (arith, seated_long))
       (λ k d. (held (group k) (h.small k d), settled (group k))) j b)

@@ -1,5 +1,5 @@
 -- A collator in 113 bytes: how many senders are listed, the eight seats of the roster, the eight places.
-use Rattle.std.specs.Prelude.{ℕ, ◌+◌, ◌*◌, refl, cond, List, [], ◌∷◌, eqb, get_or}
+use Rattle.std.specs.Prelude.{ℕ, ◌+◌, ◌*◌, refl, cond, List, [], ◌∷◌, eqb, get_or, Option, Some, None}
 use Rattle.wire.specs.Number.{number_at}
 use Rattle.wire.specs.Value.{u8, u16, u32}
 use Rattle.layouts.specs.Field.{Field, any, Row, size, row_stored}
@@ -7,12 +7,10 @@ use Rattle.layouts.specs.Description.{Part}
 use Rattle.layouts.specs.Together.{taken_at, put_at}
 use Rattle.wire.specs.Tabulated.{tabulated}
 use Rattle.epochs.specs.Collator.{idle}
-use Rattle.groups.specs.declared.grouping.Group.{Group}
-use Rattle.groups.specs.declared.grouping.Group.TheVariants.{Idle, Open}
+use Rattle.groups.specs.declared.grouping.Part as groups
 use Rattle.epochs.specs.declared.collating.Place.{Place}
 use Rattle.epochs.specs.declared.collating.Collator.{Collator}
 use Rattle.lent_rows.specs.Lent.{first_rows_stored}
-use Rattle.places.specs.declared.placing.Slot.{Slot}
 
 -- ---- where the parts stand
 
@@ -22,7 +20,15 @@ count_fields = any u8 ∷ []
 abbrev pub seat_fields : List Field
 seat_fields = any u16 ∷ []
 
--- a place as numbers
+-- a place as numbers; opened is 0 for one that is idle
+pub record Slot : Type 0 where
+  pub opened : ℕ
+  pub tow : ℕ
+  pub wn : ℕ
+  pub n : ℕ
+  pub come : ℕ
+  pub total : ℕ
+
 abbrev pub slot : Part Slot
 slot = record {
   fields = any u8 ∷ any u32 ∷ any u16 ∷ any u8 ∷ any u16 ∷ any u16 ∷ [];
@@ -57,11 +63,11 @@ slot_at i = places_at + i * size slot_fields
 abbrev pub place_of : Slot → Place
 place_of x =
     cond (eqb x.opened 0) idle
-    (record { group = Open (record { key = record { tow = x.tow; wn = x.wn; n = x.n }; come = x.come; total = x.total }) })
+    (record { group = Some (record { key = record { tow = x.tow; wn = x.wn; n = x.n }; come = x.come; total = x.total }) })
 
-abbrev pub slot_for : Group → Slot
-slot_for Idle = record { opened = 0; tow = 0; wn = 0; n = 0; come = 0; total = 0 }
-slot_for (Open part) = record { opened = 1; tow = part.key.tow; wn = part.key.wn; n = part.key.n; come = part.come; total = part.total }
+abbrev pub slot_for : Option groups.Part → Slot
+slot_for None = record { opened = 0; tow = 0; wn = 0; n = 0; come = 0; total = 0 }
+slot_for (Some part) = record { opened = 1; tow = part.key.tow; wn = part.key.wn; n = part.key.n; come = part.come; total = part.total }
 
 abbrev pub slot_of : Place → Slot
 slot_of place = slot_for place.group

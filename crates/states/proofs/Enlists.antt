@@ -1,4 +1,4 @@
--- A sender enlisted in the bytes of a collator: the ways through it, and that the bytes then stand for the collator with that sender enlisted.
+-- A sender enlisted in the bytes of a collator: with room for a state, and that the bytes then stand for the collator with that sender enlisted.
 use mathlib.Core.Path.{◌≡◌, refl, sym, ap, ◌∙◌}
 use mathlib.Core.Bool.{Bool, true, false, cond}
 use mathlib.Core.List.{List, []}
@@ -6,16 +6,14 @@ use Prim.Native.Nat.{ℕ, ◌+◌, ◌≤◌, ◌<◌}
 use native.Mathlib.Omega.{arith}
 use lib.Dec.{ltb}
 use lib.ListN.{length, set}
-use borrow.Author.Tests.{le-leb, lt-leb, ltb-true, ltb-false}
+use borrow.Author.Tests.{le-leb, ltb-true, ltb-false}
 use Rattle.layouts.specs.Field.{Row, size, decode, row_stored}
 use Rattle.layouts.proofs.Fields.{length-row}
 use Rattle.wire.specs.Tabulated.{tabulated}
 use Rattle.observation.specs.Edition.{is_obs}
 use Rattle.epochs.specs.Collator.{made}
-use Rattle.epochs.specs.declared.seating.Seat.{Seat}
-use Rattle.epochs.specs.declared.seating.Seat.TheVariants.{At, Nowhere}
+use Rattle.std.specs.Prelude.{Option, Some, None}
 use Rattle.epochs.specs.declared.collating.Collator.{Collator}
-use Rattle.epochs.specs.declared.collating.Made.{Made}
 use Rattle.epochs.proofs.Making.{nobody, made_seated}
 use Rattle.enlisting.specs.Enlisting.{seated_in, enlisted_to}
 use Rattle.enlisting.proofs.Seating.{seat_eight}
@@ -26,37 +24,18 @@ use Rattle.wire.proofs.Tables.{tabulated_set, tabulated_same}
 use Rattle.places.proofs.States.{state_stored, length-collator}
 use Rattle.states.proofs.Makes.{fresh_held}
 
--- ---- the two ways through `enlist`
-
-module _ (s : List ℕ) (kind sender : ℕ) where
-  pub enlists : {t : List ℕ} → is_obs kind ≡ true → t ≡ joined_in s sender → t ≡ enlisted_in s kind sender
-  unfolding enlisted_in
-  enlists e q = rw e q
-
-  pub enlists_none : is_obs kind ≡ false → s ≡ enlisted_in s kind sender
-  unfolding enlisted_in
-  enlists_none e = rw e
-
--- ---- 32, or not
+-- ---- with room
 
 module _ (s : List ℕ) where
-  pub grows_32 : length s < state_size → (32 ≡ growing_answer (length s)) × (s ≡ growing_stored s)
-  unfolding growing_in
-  grows_32 h = rw (lt-leb state_size (length s) h) (refl, refl)
+  module _ {c : Collator} (e : c ≡ (made []).collator) where
+    pub grows_few : c.count ≤ 8
+    grows_few = omega (arith, ap (λ (c : Collator). c.count) e, ap (λ (c : Collator). c.count) (made_seated [] nobody))
 
-  module _ {m : Made} (e : m ≡ made []) where
-    pub grows_few : m.collator.count ≤ 8
-    grows_few = omega (arith, ap (λ (m : Made). m.collator.count) e, ap (λ (c : Collator). c.count) (made_seated [] nobody))
-
-    pub grows_put : {t : List ℕ} → state_size ≤ length s → t ≡ collator_stored m.collator s → (0 ≡ growing_answer (length s)) × (t ≡ growing_stored s)
+    pub grows_put : {t : List ℕ} → state_size ≤ length s → t ≡ collator_stored c s → (0 ≡ growing_answer (length s)) × (t ≡ growing_stored s)
     unfolding growing_in
-    grows_put h q = rw (le-leb state_size (length s) h) (refl, q ∙ ap (λ (m : Made). collator_stored m.collator s) e)
+    grows_put h q = rw (le-leb state_size (length s) h) (refl, q ∙ ap (λ (c : Collator). collator_stored c s) e)
 
 module _ (s : List ℕ) (kind sender : ℕ) where
-  pub enlist_32 : length s < state_size → (32 ≡ enlist_answer s kind sender) × (s ≡ enlist_stored s kind sender)
-  unfolding enlist_in
-  enlist_32 h = rw (lt-leb state_size (length s) h) (refl, refl)
-
   pub enlist_put : {t : List ℕ} → state_size ≤ length s → t ≡ enlisted_in s kind sender → (0 ≡ enlist_answer s kind sender) × (t ≡ enlist_stored s kind sender)
   unfolding enlist_in
   enlist_put h q = rw (le-leb state_size (length s) h) (refl, q)
@@ -67,12 +46,12 @@ module _ (s : List ℕ) (kind sender : ℕ) where
 pub grown_state : (s : List ℕ) → state_size ≤ length s → state_in (growing_stored s) ≡ (made []).collator
 grown_state s long =
     let none = made_seated [] nobody in
-    ap state_in (sym (grows_put s {m = made []} refl long refl).1 ∙ ap (λ (c : Collator). collator_stored c s) none)
+    ap state_in (sym (grows_put s {c = (made []).collator} refl long refl).1 ∙ ap (λ (c : Collator). collator_stored c s) none)
     ∙ state_stored _ (fresh_held [] (omega arith) (λ i. omega arith)) s long
     ∙ sym none
 
 pub length-grown : (s : List ℕ) → state_size ≤ length s → length (growing_stored s) ≡ length s
-length-grown s long = ap length (sym (grows_put s {m = made []} refl long refl).1) ∙ length-collator (made []).collator s
+length-grown s long = ap length (sym (grows_put s {c = (made []).collator} refl long refl).1) ∙ length-collator (made []).collator s
 
 module _ (s : List ℕ) (long : state_size ≤ length s) (i sender : ℕ) where
   -- the bytes with the sender in its seat, before it is counted
@@ -125,7 +104,7 @@ module _ (s : List ℕ) (long : state_size ≤ length s) (i sender : ℕ) where
         (decode_after count_fields (i + 1, tt) seated 0 counted_room slot_fields (slot_at j) (omega arith)
         ∙ decode_after seat_fields (sender, tt) s (seat_at i) room slot_fields (slot_at j) (omega arith))
 
-    state_taken : sender < 65536 → state_in (seat_taken s i sender) ≡ seated_in (At i) (state_in s) sender
+    state_taken : sender < 65536 → state_in (seat_taken s i sender) ≡ seated_in (Some i) (state_in s) sender
     state_taken h =
         let t = seat_taken s i sender in
         let places : tabulated (place_in t) 8 ≡ tabulated (place_in s) 8 = tabulated_same (place_in t) (place_in s) 8 (λ j b. place_same j) in
@@ -134,13 +113,13 @@ module _ (s : List ℕ) (long : state_size ≤ length s) (i sender : ℕ) where
         λ k. record { places = places k; roster = seats k; count = count_taken k }
 
 module _ (s : List ℕ) (long : state_size ≤ length s) (sender : ℕ) where
-  joined_state : sender < 65536 → (x : Seat) → new_seat_in s sender ≡ x → state_in (seated_by x s sender) ≡ seated_in x (state_in s) sender
-  joined_state h Nowhere e = refl
-  joined_state h (At i) e = state_taken s long i sender (seat_eight (seats_in s) (senders_in s) sender e) h
+  joined_state : sender < 65536 → (x : Option ℕ) → new_seat_in s sender ≡ x → state_in (seated_by x s sender) ≡ seated_in x (state_in s) sender
+  joined_state h None e = refl
+  joined_state h (Some i) e = state_taken s long i sender (seat_eight (seats_in s) (senders_in s) sender e) h
 
-  length-joined : (x : Seat) → length (seated_by x s sender) ≡ length s
-  length-joined Nowhere = refl
-  length-joined (At i) = length_taken s long i sender
+  length-joined : (x : Option ℕ) → length (seated_by x s sender) ≡ length s
+  length-joined None = refl
+  length-joined (Some i) = length_taken s long i sender
 
 module _ (s : List ℕ) (long : state_size ≤ length s) (kind sender : ℕ) where
   stored_enlisted : enlisted_in s kind sender ≡ enlist_stored s kind sender
@@ -151,7 +130,7 @@ module _ (s : List ℕ) (long : state_size ≤ length s) (kind sender : ℕ) whe
   unfolding enlisted_in enlisted_to
   enlisted_state h = ap state_in (sym stored_enlisted) ∙ by (is_obs kind)
     where
-      seat : Seat
+      seat : Option ℕ
       seat = new_seat_in s sender
 
       by : (t : Bool) → state_in (cond t (seated_by seat s sender) s) ≡ cond t (seated_in seat (state_in s) sender) (state_in s)

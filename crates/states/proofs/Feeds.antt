@@ -15,14 +15,15 @@ use Rattle.packets.specs.declared.packet.Packet.{Packet}
 use Rattle.packets.proofs.Recognitions.{formed, n_small, time_small}
 use Rattle.groups.specs.Group.{stepped, stepping}
 use Rattle.groups.specs.declared.grouping.Stepped.{Stepped}
-use Rattle.groups.specs.declared.grouping.Group.{Group}
+use Rattle.groups.specs.declared.grouping.Part.{Part}
+use Rattle.std.specs.Prelude.{Option}
 use Rattle.groups.proofs.StepCases.{step_cases}
 use Rattle.epochs.specs.Collator.{for_place, idle, came_to, Move, move_to, feeding, moved, roster_of, fed_frame}
 use Rattle.epochs.specs.declared.collating.Place.{Place}
 use Rattle.epochs.specs.declared.collating.Report.{Report}
-use Rattle.epochs.specs.declared.collating.Fed.{Fed}
-use Rattle.epochs.specs.declared.collating.Happened.{Happened}
-use Rattle.epochs.specs.declared.collating.Happened.TheVariants as H
+use Rattle.epochs.specs.Fed.{Fed}
+use Rattle.epochs.specs.Happened.{Happened}
+use Rattle.epochs.specs.Happened as H
 use Rattle.epochs.proofs.Placings.{placed, placed_below}
 use Rattle.epochs.proofs.Feeding.{replied_refused, replied_for, replied_moves}
 use Rattle.epochs.proofs.Reports.{SmallIn, Small, report_small}
@@ -93,7 +94,7 @@ pub record SmallPacket (p : Packet) : Type 0 where
   pub n : p.key.n < 256
   pub observations : p.observations < 65536
 
-pub stepped_small : (p : Packet) → SmallPacket p → (group : Group) → SmallGroup (stepped group p).group
+pub stepped_small : (p : Packet) → SmallPacket p → (group : Option Part) → SmallGroup (stepped group p).group
 stepped_small p small =
     step_cases (λ (s : Stepped). SmallGroup s.group) p (λ total h. tt)
     (λ come total c h. record { tow = small.tow; wn = small.wn; n = small.n; come = c; total = h small.observations })

@@ -8,12 +8,13 @@ use lib.Dec.{leb}
 use lib.ListN.{length, get_or, replicate, length-append, get_or-replicate}
 use lib.Seq.{length-take-le, get_or-take}
 use borrow.Author.Tests.{le-leb, lt-leb}
-use Rattle.refusals.specs.Refusals.{refused, given, Answer, ordered, leaves, zero_or, room_for}
+use Rattle.refusals.specs.Refusals.{refused, given, Answer, ordered, reply, leaves, zero_or, room_for}
+use Rattle.refusals.proofs.Distinct.{same_given}
 use Rattle.refusals.proofs.Joined.{ordered_joined, and_then}
 use Rattle.epochs.specs.Search.{repeats}
 use Rattle.epochs.specs.Collator.{idle, fresh, rostering, as_made, made}
 use Rattle.epochs.specs.declared.collating.Collator.{Collator}
-use Rattle.epochs.specs.declared.collating.Made.{Made}
+use Rattle.epochs.specs.Fed.{Made}
 use Rattle.epochs.proofs.Making.{accepted}
 use Rattle.epochs.proofs.Searches.{with_zeros}
 use Rattle.places.specs.State.{state_size, state_in, collator_stored}
@@ -46,32 +47,27 @@ module _ (roster s : List ℕ) where
       ap (λ (a : Answer Collator). and_then a (ordered (room_for state_size (length s)) (fresh roster))) (sym e)
       ∙ sym (ordered_joined (fresh roster) (fresh roster) (room_for state_size (length s)) (rostering roster).tests)
 
-  module _ {m : Made} (e : m ≡ made roster) where
-    pub made_refused : (m.number ≡ 0 → ⊥) → Out m.number s
+  pub made_refused : {n : ℕ} → reply (rostering roster) ≡ refused n → Out n s
+  made_refused e = came (steps e)
+
+  module _ {c : Collator} (e : reply (rostering roster) ≡ given c) where
+    none : (made roster).number ≡ 0
     unfolding made
-    made_refused h = by (ordered (rostering roster).tests (fresh roster)) refl
-      where
-        by : (a : Answer Collator) → ordered (rostering roster).tests (fresh roster) ≡ a → Out m.number s
-        by (given c) q = absurd (h (ap (λ (m : Made). m.number) (e ∙ ap as_made q)))
-        by (refused n) q = let out = came (steps q) in (ap (λ (m : Made). m.number) (e ∙ ap as_made q) ∙ out.0, out.1)
+    none = ap (λ (a : Answer Collator). (as_made a).number) e
 
-    module _ (zero : m.number ≡ 0) where
-      none : (made roster).number ≡ 0
-      none = ap (λ (m : Made). m.number) (sym e) ∙ zero
+    whole : c ≡ fresh roster
+    whole = same_given e (passes roster none)
 
-      whole : m.collator ≡ fresh roster
-      whole = ap (λ (m : Made). m.collator) (e ∙ (accepted roster none).whole)
+    pub made_short : length s < state_size → Out 32 s
+    made_short h = came {a = refused 32} (rw (← steps e, lt-leb state_size (length s) h))
 
-      pub made_short : length s < state_size → Out 32 s
-      made_short h = came {a = refused 32} (rw (← steps (passes roster none), lt-leb state_size (length s) h))
+    pub made_few : c.count ≤ 8
+    made_few = omega (arith, ap (λ (c : Collator). c.count) whole, (accepted roster none).few)
 
-      pub made_few : m.collator.count ≤ 8
-      made_few = omega (arith, ap (λ (c : Collator). c.count) whole, (accepted roster none).few)
-
-      pub made_put : {t : List ℕ} → state_size ≤ length s → t ≡ collator_stored m.collator s → Out 0 t
-      made_put h q =
-          let out = came {a = given (fresh roster)} (rw (← steps (passes roster none), le-leb state_size (length s) h)) in
-          (out.0, q ∙ ap (λ (c : Collator). collator_stored c s) whole ∙ out.1)
+    pub made_put : {t : List ℕ} → state_size ≤ length s → t ≡ collator_stored c s → Out 0 t
+    made_put h q =
+        let out = came {a = given (fresh roster)} (rw (← steps e, le-leb state_size (length s) h)) in
+        (out.0, q ∙ ap (λ (c : Collator). collator_stored c s) whole ∙ out.1)
 
 -- ---- tied to the collator
 
@@ -92,7 +88,7 @@ pub makes : (roster s : List ℕ) → (made roster).number ≡ 0 → ((i : ℕ) 
     → state_in (made_stored roster s) ≡ (made roster).collator
 makes roster s zero senders long =
     let whole : (made roster).collator ≡ fresh roster = ap (λ (m : Made). m.collator) (accepted roster zero).whole in
-    ap state_in (sym (made_put roster s {m = made roster} refl zero long refl).1 ∙ ap (λ (c : Collator). collator_stored c s) whole)
+    ap state_in (sym (made_put roster s (passes roster zero) long refl).1)
     ∙ state_stored (fresh roster) (fresh_held roster (accepted roster zero).few senders) s long
     ∙ sym whole
 

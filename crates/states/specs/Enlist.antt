@@ -1,11 +1,9 @@
 -- What `grow` and `enlist` answer and leave in the bytes of a collator, whose roster takes senders as they come.
-use Rattle.std.specs.Prelude.{ℕ, ◌+◌, cond, List, [], length}
+use Rattle.std.specs.Prelude.{ℕ, ◌+◌, cond, List, [], length, Option, Some, None}
 use Rattle.refusals.specs.Refusals.{Answer, leaves, zero_or, room_for, Call, reply}
 use Rattle.layouts.specs.Field.{row_stored}
 use Rattle.observation.specs.Edition.{is_obs}
 use Rattle.epochs.specs.Collator.{made}
-use Rattle.epochs.specs.declared.seating.Seat.{Seat}
-use Rattle.epochs.specs.declared.seating.Seat.TheVariants.{At, Nowhere}
 use Rattle.epochs.specs.declared.collating.Collator.{Collator}
 use Rattle.enlisting.specs.Enlisting.{new_seat}
 use Rattle.places.specs.State.{state_size, seat_fields, seat_at, senders_in, seats_in, count_stored, collator_stored}
@@ -30,12 +28,12 @@ growing_stored s = leaves collator_stored (growing_in (length s)) s
 unfoldable pub seat_taken : List ℕ → ℕ → ℕ → List ℕ
 seat_taken s i sender = count_stored (i + 1) (row_stored seat_fields (sender, tt) s (seat_at i))
 
-abbrev pub seated_by : Seat → List ℕ → ℕ → List ℕ
-seated_by Nowhere s sender = s
-seated_by (At i) s sender = seat_taken s i sender
+abbrev pub seated_by : Option ℕ → List ℕ → ℕ → List ℕ
+seated_by None s sender = s
+seated_by (Some i) s sender = seat_taken s i sender
 
 -- the seat that a sender takes, by the collator's own rule
-abbrev pub new_seat_in : List ℕ → ℕ → Seat
+abbrev pub new_seat_in : List ℕ → ℕ → Option ℕ
 new_seat_in s sender = new_seat (seats_in s) (senders_in s) sender
 
 abbrev pub joined_in : List ℕ → ℕ → List ℕ

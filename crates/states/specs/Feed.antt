@@ -1,5 +1,5 @@
 -- What `make` and `feed` answer and leave in the bytes that they are lent, step by step.
-use Rattle.std.specs.Prelude.{ℕ, List, [], ◌∷◌, ◌++◌, length}
+use Rattle.std.specs.Prelude.{ℕ, Bool, false, true, List, [], ◌∷◌, ◌++◌, length}
 use Rattle.refusals.specs.Refusals.{Answer, leaves, as_number, zero_or, room_for, Call, reply}
 use Rattle.wire.specs.Value.{u8, u16, u32}
 use Rattle.layouts.specs.Field.{Field, any, Row, size}
@@ -10,8 +10,8 @@ use Rattle.groups.specs.declared.grouping.Stepped.{Stepped}
 use Rattle.epochs.specs.Collator.{Move, feeding, fresh, rostering}
 use Rattle.epochs.specs.declared.collating.Collator.{Collator}
 use Rattle.epochs.specs.declared.collating.Report.{Report}
-use Rattle.epochs.specs.declared.collating.Happened.{Happened}
-use Rattle.epochs.specs.declared.collating.Happened.TheVariants as H
+use Rattle.epochs.specs.Happened.{Happened}
+use Rattle.epochs.specs.Happened as H
 use Rattle.lent_rows.specs.Lent.{at_front}
 use Rattle.places.specs.State.{state_size, place_in, place_stored, state_in, collator_stored}
 
@@ -48,6 +48,11 @@ abbrev pub happened_number : Happened → ℕ
 happened_number (H.Refused n) = n
 happened_number H.Taken = 0
 happened_number (H.Epoch e) = 1
+
+-- the same number of what `feed` gives: whether there is an epoch
+abbrev pub epoch_number : Bool → ℕ
+epoch_number false = 0
+epoch_number true = 1
 
 -- only an epoch is reported
 abbrev pub happened_stored : Happened → List ℕ → List ℕ

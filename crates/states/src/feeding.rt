@@ -1,17 +1,20 @@
 // A frame fed to a collator in lent bytes. The roster is read, and then the frame's own place alone is read, stepped and stored.
-ghost use Rattle.std.specs.Prelude.{◌≡◌, ◌<◌, ◌≤◌, length};
+ghost use Rattle.std.specs.Prelude.{◌≡◌, ◌<◌, ◌≤◌, length, Ok};
 ghost use Rattle.wire.specs.Number.{number_at};
+ghost use Rattle.refusals.specs.Refusals.{as_number};
+ghost use Rattle.refusals.specs.Numbers.{answer_of};
 ghost use Rattle.layouts.specs.Field.{row_stored};
-ghost use Rattle.epochs.specs.Collator.{recognised_answer, for_place, roster_of, came_to};
-ghost use Rattle.places.specs.State.{state_size, seat_in, seats_in, state_in};
-ghost use Rattle.states.specs.Feed.{report_fields, report_size, report_row, happened_number, happened_stored, step_in, place_left, fed_in};
+ghost use Rattle.epochs.specs.Collator.{came_to, happened_of};
+ghost use Rattle.places.specs.State.{state_size, senders_in, seat_in, seats_in};
+ghost use Rattle.states.specs.Feed.{report_fields, report_size, report_row, epoch_number, happened_number, happened_stored, step_in, place_left, fed_in};
 
 use crate::sizes::{REPORT_SIZE, STATE_SIZE};
-use epochs::{Happened, Place, Recognised, Report};
-use groups::Answered;
+use epochs::{Place, Report, Roster};
 use packets::Packet;
 use places::sizes::{SEAT_SIZE, SEATS_AT};
 use places::{place_in, put_place};
+use refusals::Refusal;
+use wire::InBytes;
 
 fn byte_in(s: &[u8], at: usize) -> u8
     requires { at < length s.now }
@@ -30,7 +33,7 @@ fn seat_in(s: &[u8], i: usize) -> u16
 }
 
 // The state's length was tested. With a test for each byte this was too long to be compiled into its callers, and feeding took twice as long.
-pub(crate) fn seats_in(s: &[u8]) -> [u16; 8]
+fn seats_in(s: &[u8]) -> [u16; 8]
     requires { state_size ≤ length s.now }
     ensures { result ≡ seats_in s.now }
 {
@@ -46,80 +49,73 @@ pub(crate) fn seats_in(s: &[u8]) -> [u16; 8]
     ]
 }
 
-// What the frame is to the collator.
-fn recognise_in(s: &[u8], kind: u16, sender: u16, payload: &[u8]) -> Recognised
+pub(crate) fn roster_in(s: &[u8]) -> Roster
     requires { state_size ≤ length s.now }
-    ensures { recognised_answer result ≡ for_place (roster_of (state_in s.now)) (record { kind = kind; sender = sender; payload = payload.now }) }
+    ensures { result ≡ record { senders = seats_in s.now; count = senders_in s.now } }
 {
-    let roster = seats_in(s);
-    let count = wire::read_u8(s, 0) as usize;
-    epochs::recognise(roster, count, kind, sender, payload)
+    Roster {
+        senders: seats_in(s),
+        count: usize::from(byte_in(s, 0)),
+    }
 }
 
-// Place i takes a packet.
-fn take(s: &mut [u8], i: usize, sender: u16, packet: Packet) -> Happened
+// Place i takes a packet, which may end an epoch.
+fn take(s: &mut [u8], i: usize, sender: u16, packet: Packet) -> Result<Option<Report>, Refusal>
     requires { i < 8 }
-    ensures value { result ≡ came_to sender packet (step_in s.old i packet) }
+    ensures value { happened_of result ≡ came_to sender packet (step_in s.old i packet) }
     ensures s_after { s.new ≡ place_left s.old i (step_in s.old i packet) }
 {
     let place = place_in(s, i);
-    let before = place.group;
-    let step = groups::step(before, packet);
-    match step {
-        Answered::Refused(number) => Happened::Refused(number),
-        Answered::To(next) => {
-            let group = next.group;
-            put_place(s, i, Place { group });
-            let ended = next.ended;
-            epochs::outcome(sender, packet, ended)
-        }
-    }
+    let stepped = groups::step(place.group, packet)?;
+    put_place(
+        s,
+        i,
+        Place {
+            group: stepped.group,
+        },
+    );
+    Ok(epochs::outcome(sender, packet, stepped.ended))
 }
 
 fn put_report(buf: &mut [u8], e: Report)
     ensures { buf.new ≡ row_stored report_fields (report_row e) buf.old 0 }
 {
-    wire::store_u16(buf, 0, e.sender);
-    wire::store_u16(buf, 2, e.wn);
-    wire::store_u32(buf, 4, e.tow);
-    wire::store_u8(buf, 8, e.n);
-    wire::store_u16(buf, 9, e.observations);
+    e.sender.store(buf, 0);
+    e.wn.store(buf, 2);
+    e.tow.store(buf, 4);
+    e.n.store(buf, 8);
+    e.observations.store(buf, 9);
 }
 
-// 0 taken, or 1 with an epoch's report, or a refusal's number.
-fn put_happened(buf: &mut [u8], happened: Happened) -> u8
+// Whether there is an epoch, whose row is then at the start of buf.
+fn put_epoch(buf: &mut [u8], epoch: Option<Report>) -> bool
     requires { report_size ≤ length buf.old }
-    ensures value { result ≡ happened_number happened }
-    ensures buf_after { buf.new ≡ happened_stored happened buf.old }
+    ensures value { epoch_number result ≡ happened_number (happened_of (Ok epoch)) }
+    ensures buf_after { buf.new ≡ happened_stored (happened_of (Ok epoch)) buf.old }
 {
-    match happened {
-        Happened::Refused(number) => number,
-        Happened::Taken => 0,
-        Happened::Epoch(report) => {
-            put_report(buf, report);
-            1
-        }
-    }
+    let Some(report) = epoch else {
+        return false;
+    };
+    put_report(buf, report);
+    true
 }
 
-// 32 where state or report is too short, then 46, 22, 43, 44, 45, 47; 0 taken; 1 an epoch, whose row is at the start of report.
-pub fn feed(state: &mut [u8], kind: u16, sender: u16, payload: &[u8], report: &mut [u8]) -> u8
-    ensures value { result ≡ (fed_in state.old (record { kind = kind; sender = sender; payload = payload.now }) report.old).answer }
+// Whether the frame ended an epoch, whose row is then at the start of report; 32 where state or report is too short, then 46, 22, 43, 44, 45, 47.
+pub fn feed(
+    state: &mut [u8],
+    kind: u16,
+    sender: u16,
+    payload: &[u8],
+    report: &mut [u8],
+) -> Result<bool, Refusal>
+    ensures value { as_number epoch_number (answer_of result) ≡ (fed_in state.old (record { kind = kind; sender = sender; payload = payload.now }) report.old).answer }
     ensures state_after { state.new ≡ (fed_in state.old (record { kind = kind; sender = sender; payload = payload.now }) report.old).state }
     ensures report_after { report.new ≡ (fed_in state.old (record { kind = kind; sender = sender; payload = payload.now }) report.old).report }
 {
-    if state.len() < STATE_SIZE {
-        return 32;
+    if state.len() < STATE_SIZE || report.len() < REPORT_SIZE {
+        return Err(Refusal::NoRoom);
     }
-    if report.len() < REPORT_SIZE {
-        return 32;
-    }
-    let recognised = recognise_in(state, kind, sender, payload);
-    match recognised {
-        Recognised::Refused(number) => number,
-        Recognised::For(i, packet) => {
-            let happened = take(state, i, sender, packet);
-            put_happened(report, happened)
-        }
-    }
+    let (i, packet) = roster_in(state).recognise(kind, sender, payload)?;
+    let epoch = take(state, i, sender, packet)?;
+    Ok(put_epoch(report, epoch))
 }

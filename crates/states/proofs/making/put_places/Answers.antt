@@ -2,28 +2,18 @@
 use mathlib.Core.Path.{◌≡◌, ap, ◌∙◌}
 use Prim.Native.Nat.{ℕ, ◌%◌}
 use native.Mathlib.Nat.{mod-eq_of_lt}
-use native.Mathlib.Omega.{arith}
-use lib.ListN.{length, get_or}
+use lib.ListN.{get_or}
 use Rattle.epochs.specs.Collator.{idle}
-use Rattle.lent_rows.specs.Lent.{first_rows_stored}
 use Rattle.places.specs.State.{slot_fields, places_at, place_stored, place_row}
-use Rattle.lent_rows.proofs.Tables.{rows_none, rows_more, length-stored}
+use Rattle.lent_rows.proofs.Tables.{rows_none, rows_more}
 use Rattle.states.proofs.making.put_places.Goals as goal
 
 pub loop-i-init : goal.loop-i-init
-loop-i-init c = (omega arith, rows_none _ _ _ _)
+loop-i-init c = rows_none _ _ _ _
 
 pub loop-i-preserved : goal.loop-i-preserved
 loop-i-preserved c =
     let a = c.args in
-    let own : c.loop-i.i % 8 ≡ c.loop-i.i = mod-eq_of_lt (omega arith) in (
-      omega arith,
-      rows_more slot_fields (place_row a.places) a.s.now places_at c.loop-i.i c.loop-i.invariant.1
-          (c.put_place.ensures ∙ ap (λ (i : ℕ). place_stored c.loop-i.s i (get_or a.places c.loop-i.i idle)) own),
-    )
-
-pub shape_of-s : goal.shape_of-s
-shape_of-s c = let a = c.args in ap length c.loop-i.invariant.1 ∙ length-stored slot_fields (place_row a.places) a.s.now places_at c.loop-i.i
-
-pub returns : goal.returns
-returns c = let a = c.args in let end : c.loop-i.i ≡ 8 = omega arith in c.loop-i.invariant.1 ∙ ap (λ (n : ℕ). first_rows_stored slot_fields (place_row a.places) n a.s.now places_at) end
+    let own : c.loop-i.i % 8 ≡ c.loop-i.i = mod-eq_of_lt c.loop-i-test.true in
+    rows_more slot_fields (place_row a.places) a.s.now places_at c.loop-i.i c.loop-i.invariant
+    (c.put_place.ensures ∙ ap (λ (i : ℕ). place_stored c.loop-i.s i (get_or a.places c.loop-i.i idle)) own)
