@@ -1,17 +1,17 @@
 // A payload read as its record, which is written by its message's own writer.
 use crate::walking;
-use frame_writer::Written;
-use logs::Log;
-use observation::Obs;
-use payloads::{Message, Reading};
+use atmosphere::{GroupDelay, Iono, SvConfigurationGps};
+use base_positions::{BasePosEcef, BasePosLlh};
+use baselines::{BaselineEcef, BaselineHeading, BaselineNed, VelEcef, VelNed};
+use frame_writer::{FixedMessage, write_message};
+use gps_orbits::EphemerisGps;
+use orbits::{EphemerisGlo, EphemerisSbas};
+use payloads::Message;
+use positions::{PosEcef, PosLlh};
+use refusals::Refusal;
 use senders::Writer;
-
-pub fn write(buf: &mut [u8], kind: u16, payload: &[u8]) -> Written {
-    match readings::read(kind, payload) {
-        Reading::Record(m) => by_own(buf, m, payload),
-        Reading::Refused(n) => Written::Refused(n),
-    }
-}
+use system::{Heartbeat, ReadByIndexDone, ReadByIndexReq, SettingsSave, Startup};
+use time_and_dops::{Dops, GpsTime};
 
 // Given no sender: the raw frame beside it goes out under the same number, SETTINGS_SAVE and READ_BY_INDEX_REQ as 0x42.
 pub fn recorder() -> Writer {
@@ -19,40 +19,41 @@ pub fn recorder() -> Writer {
 }
 
 // The observations of an OBS and the text of a LOG stay in the payload.
-fn by_own(buf: &mut [u8], m: Message, payload: &[u8]) -> Written {
-    let by = recorder();
-    match m {
-        Message::GpsTime(r) => time_and_dops::write_gps_time(buf, by, r),
-        Message::Dops(r) => time_and_dops::write_dops(buf, by, r),
-        Message::PosEcef(r) => positions::write_pos_ecef(buf, by, r),
-        Message::PosLlh(r) => positions::write_pos_llh(buf, by, r),
-        Message::BaselineEcef(r) => baselines::write_baseline_ecef(buf, by, r),
-        Message::VelEcef(r) => baselines::write_vel_ecef(buf, by, r),
-        Message::BaselineNed(r) => baselines::write_baseline_ned(buf, by, r),
-        Message::VelNed(r) => baselines::write_vel_ned(buf, by, r),
-        Message::BaselineHeading(r) => baselines::write_baseline_heading(buf, by, r),
-        Message::BasePosLlh(r) => base_positions::write_base_pos_llh(buf, by, r),
-        Message::BasePosEcef(r) => base_positions::write_base_pos_ecef(buf, by, r),
-        Message::EphemerisGps(r) => gps_orbits::write_ephemeris_gps(buf, by, r),
-        Message::EphemerisSbas(r) => orbits::write_ephemeris_sbas(buf, by, r),
-        Message::EphemerisGlo(r) => orbits::write_ephemeris_glo(buf, by, r),
-        Message::Iono(r) => atmosphere::write_iono(buf, by, r),
-        Message::SvConfigurationGps(r) => atmosphere::write_sv_configuration_gps(buf, by, r),
-        Message::GroupDelay(r) => atmosphere::write_group_delay(buf, by, r),
-        Message::Obs(r) => with_observations(buf, r, payload),
-        Message::Log(r) => with_text(buf, r, payload),
-        Message::SettingsSave => system::write_settings_save(buf, by),
-        Message::ReadByIndexDone => system::write_read_by_index_done(buf, by),
-        Message::ReadByIndexReq(r) => system::write_read_by_index_req(buf, by, r),
-        Message::Startup(r) => system::write_startup(buf, by, r),
-        Message::Heartbeat(r) => system::write_heartbeat(buf, by, r),
+pub fn write(buf: &mut [u8], kind: u16, payload: &[u8]) -> Result<usize, Refusal> {
+    match readings::read(kind, payload)? {
+        Message::GpsTime(r) => by_own::<GpsTime>(buf, r),
+        Message::Dops(r) => by_own::<Dops>(buf, r),
+        Message::PosEcef(r) => by_own::<PosEcef>(buf, r),
+        Message::PosLlh(r) => by_own::<PosLlh>(buf, r),
+        Message::BaselineEcef(r) => by_own::<BaselineEcef>(buf, r),
+        Message::VelEcef(r) => by_own::<VelEcef>(buf, r),
+        Message::BaselineNed(r) => by_own::<BaselineNed>(buf, r),
+        Message::VelNed(r) => by_own::<VelNed>(buf, r),
+        Message::BaselineHeading(r) => by_own::<BaselineHeading>(buf, r),
+        Message::BasePosLlh(r) => by_own::<BasePosLlh>(buf, r),
+        Message::BasePosEcef(r) => by_own::<BasePosEcef>(buf, r),
+        Message::EphemerisGps(r) => by_own::<EphemerisGps>(buf, r),
+        Message::EphemerisSbas(r) => by_own::<EphemerisSbas>(buf, r),
+        Message::EphemerisGlo(r) => by_own::<EphemerisGlo>(buf, r),
+        Message::Iono(r) => by_own::<Iono>(buf, r),
+        Message::SvConfigurationGps(r) => by_own::<SvConfigurationGps>(buf, r),
+        Message::GroupDelay(r) => by_own::<GroupDelay>(buf, r),
+        Message::Obs(r) => obs_writer::write_obs(buf, recorder(), r, walking::entries(payload)),
+        Message::Log(r) => logs::write_log(
+            buf,
+            recorder(),
+            r.level,
+            logs::log_text(payload),
+            r.padding,
+        ),
+        Message::SettingsSave => by_own::<SettingsSave>(buf, ()),
+        Message::ReadByIndexDone => by_own::<ReadByIndexDone>(buf, ()),
+        Message::ReadByIndexReq(r) => by_own::<ReadByIndexReq>(buf, r),
+        Message::Startup(r) => by_own::<Startup>(buf, r),
+        Message::Heartbeat(r) => by_own::<Heartbeat>(buf, r),
     }
 }
 
-fn with_observations(buf: &mut [u8], r: Obs, payload: &[u8]) -> Written {
-    obs_writer::write_obs(buf, recorder(), r, walking::entries(payload))
-}
-
-fn with_text(buf: &mut [u8], r: Log, payload: &[u8]) -> Written {
-    logs::write_log(buf, recorder(), r.level, logs::log_text(payload), r.padding)
+fn by_own<M: FixedMessage>(buf: &mut [u8], r: M::Record) -> Result<usize, Refusal> {
+    write_message::<M>(buf, recorder(), r)
 }

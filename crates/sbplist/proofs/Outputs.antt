@@ -1,6 +1,6 @@
 -- What the program puts into its text is document 01's whole output.
 use Rattle.std.proofs.Common.{◌≡◌, ℕ, ◌<◌, ◌≤◌, true, leb, List, [], ◌∷◌, ◌++◌, length, take, drop, sym, ap, ◌∙◌, inl, inr, true≢false, arith, length-append, le-leb, leb-false, leb-true}
-use lib.Seq.{sets, sets-eq, length-sets, take-append_seam}
+use lib.Seq.{take-append_seam}
 use borrow.Author.Tests.{lt-leb}
 use Rattle.wire.specs.Number.{Bytes}
 use Rattle.refusals.specs.Refusals.{refused, given, Answer, leaves, FirstFails}
@@ -47,12 +47,12 @@ module _ (s : List ℕ) where
       by (inr (e, inl f)) = absurd (true≢false (sym (fits e) ∙ f.0))
       by (inr (e, inr f)) = absurd f.1
 
-  pub puts_refusal : (buf : List ℕ) → Bytes s → {n : ℕ} {same : List ℕ} → longest_text ≤ length buf → list_answer s (length buf) ≡ refused n → same ≡ with_listing s buf → Put s 5 (sets same 0 refusal)
+  pub puts_refusal : (buf : List ℕ) → Bytes s → (same : List ℕ) {n : ℕ} {head : List ℕ} → longest_text ≤ length buf → list_answer s (length buf) ≡ refused n
+      → head ≡ refusal → Put s 5 (head ++ drop 5 same)
   unfolding digits_of line
-  puts_refusal buf bytes {n} {same} h r e =
+  puts_refusal buf bytes same {head = head} h r e =
       let long = refused_when bytes h r in
       let shown : output s ≡ refusal = rw (lt-leb (length s) most_listed long) in
-      let as_it_was : same ≡ buf = e ∙ ap (λ (a : Answer ℕ). leaves (starting_with (text_of s)) a buf) r in
-      let room = length-sets same 0 refusal ∙ ap length as_it_was in
-      let stored = sets-eq refusal same 0 (omega (arith, h, ap length as_it_was)) in
-      (ap length (sym shown), (ap (take 5) stored ∙ take-append_seam refusal (drop 5 same) ∙ sym shown, omega (arith, h, room)))
+      let text : head ++ drop 5 same ≡ refusal ++ drop 5 same = ap (λ (front : List ℕ). front ++ drop 5 same) e in
+      let size = ap length text ∙ length-append refusal (drop 5 same) in
+      (ap length (sym shown), (ap (take 5) text ∙ take-append_seam refusal (drop 5 same) ∙ sym shown, omega (arith, size)))

@@ -1,18 +1,18 @@
 // Whole captures collated: two with the same frames for each sender, in order, and shuffled between senders, with noise and an unlisted sender.
-use crate::print;
 use senders::Writer;
 use std::io::Stdout;
+use wire::InBytes;
 
 // A frame without observations takes 15 bytes.
 pub fn run(out: Stdout) {
     let mut ordered = [0u8; 90];
     put_all(&mut ordered, [0, 15, 30], [45, 60, 75]);
-    counted(out, b"ordered", &ordered);
+    counted(out, "ordered", &ordered);
     // three bytes of noise before, five between
     let mut shuffled = [0u8; 113];
     put_all(&mut shuffled, [18, 48, 98], [3, 68, 83]);
     put(&mut shuffled, 33, 77, 10, 0x21);
-    counted(out, b"shuffled", &shuffled);
+    counted(out, "shuffled", &shuffled);
 }
 
 // The base's and the rover's frames at their places: an epoch of two, and of the base one of one, of the rover half of one.
@@ -28,26 +28,23 @@ fn put_all(buf: &mut [u8], base: [usize; 3], rover: [usize; 3]) {
 // An OBS frame at buf[at..], where it fits: its time, n and counter.
 fn put(buf: &mut [u8], at: usize, sender: u16, tow: u32, n_obs: u8) {
     let mut payload = [0u8; 7];
-    wire::store_u32(&mut payload, 0, tow);
-    wire::store_u16(&mut payload, 4, 1900);
-    wire::store_u8(&mut payload, 6, n_obs);
-    if at <= buf.len() {
-        frame_writer::write_frame(
-            &mut buf[at..],
-            0x0049,
-            Writer::made(0x42).named(sender),
-            &payload,
-        );
+    tow.store(&mut payload, 0);
+    1900u16.store(&mut payload, 4);
+    n_obs.store(&mut payload, 6);
+    if let Some(rest) = buf.get_mut(at..) {
+        let _ = frame_writer::write_frame(rest, 0x0049, Writer::made(0x42).named(sender), &payload);
     }
 }
 
-// The roster's answer, and how many epochs each of its senders has.
-fn counted(out: Stdout, name: &[u8], s: &[u8]) {
-    print::word(out, name);
-    let c = captures::collate(s, &[1228, 0]);
-    print::number(out, c.number as u64);
-    let reports = c.reports;
-    print::number(out, reports[0] as u64);
-    print::number(out, reports[1] as u64);
-    print::end(out);
+// 0 and how many epochs each sender of the roster has, or the refusal.
+fn counted(out: Stdout, name: &str, s: &[u8]) {
+    let _ = match captures::collate(s, &[1228, 0]) {
+        Ok(c) => {
+            let reports = c.reports;
+            let base = reports[0];
+            let rover = reports[1];
+            println!(out; "{name} 0 {base} {rover}")
+        }
+        Err(e) => println!(out; "{name} {} 0 0", e.number()),
+    };
 }

@@ -1,12 +1,13 @@
 // The published values: the CRC of nothing, of its check text and of the example frame of 003, section 4; that frame read open and closed, with the
 // fields that 003 gives a table of, which are written again; and read with a last byte that differs.
+use crate::hex::Hex;
 use crate::payload::front;
-use crate::print;
 use crate::readings::show;
-use baselines::{EcefVector, EcefVectorRead};
-use frame_writer::Written;
+use baselines::{BaselineEcef, EcefVector};
+use frame_writer::{read_message, write_message};
 use frames::Step;
 use senders::Writer;
+use std::io;
 use std::io::Stdout;
 
 // The example frame of 003, section 4.
@@ -17,61 +18,48 @@ const EXAMPLE: [u8; 28] = [
 
 pub fn run(out: Stdout) {
     let example = EXAMPLE;
-    sum_of(out, b"crc nothing", b"");
-    sum_of(out, b"crc 123456789", b"123456789");
+    sum_of(out, "nothing", b"");
+    sum_of(out, "123456789", b"123456789");
     // type through payload; the frame ends with 43 94
-    sum_of(out, b"crc example-frame", &example[1..26]);
-    show(out, b"example", &example);
+    sum_of(out, "example-frame", &example[1..26]);
+    show(out, "example", &example);
     fields(out, &example);
-    damaged(out);
-}
-
-fn sum_of(out: Stdout, name: &[u8], s: &[u8]) {
-    print::word(out, name);
-    print::sum(out, crc::crc(0, s));
-    print::end(out);
-}
-
-// A CRC that differs: bad, and on at 1.
-fn damaged(out: Stdout) {
+    // a CRC that differs: bad, and on at 1
     let mut wrong = EXAMPLE;
     wrong[27] = 0x95;
-    show(out, b"example-damaged", &wrong);
+    show(out, "example-damaged", &wrong);
+}
+
+fn sum_of(out: Stdout, name: &str, s: &[u8]) {
+    let sum = crc::crc(0, s);
+    let _ = println!(out; "crc {name} {sum:04x}");
 }
 
 // The one message that is read and written here as a record: of all the linked functions have the rows, which are proved to be the records.
 fn fields(out: Stdout, s: &[u8]) {
     if let Step::Found(f) = frames::step_at(s, 0) {
-        baseline(out, frames::payload(s, f));
+        let _ = match read_message::<BaselineEcef>(frames::payload(s, f)) {
+            Ok(r) => again(out, r),
+            Err(e) => println!(out; "baseline-ecef refused {}", e.number()),
+        };
     }
 }
 
-fn baseline(out: Stdout, payload: &[u8]) {
-    print::word(out, b"baseline-ecef");
-    match baselines::read_baseline_ecef(payload) {
-        EcefVectorRead::Record(r) => again(out, r),
-        EcefVectorRead::Refused(n) => print::refused(out, n),
-    }
-    print::end(out);
-}
-
-fn again(out: Stdout, r: EcefVector) {
-    print::number(out, r.tow as u64);
-    print::signed_32(out, r.x);
-    print::signed_32(out, r.y);
-    print::signed_32(out, r.z);
-    print::number(out, r.accuracy as u64);
-    print::number(out, r.n_sats as u64);
-    print::number(out, r.flags as u64);
+// The fields, then the frame or the refusal.
+fn again(out: Stdout, r: EcefVector) -> io::Result<()> {
+    let EcefVector {
+        tow,
+        x,
+        y,
+        z,
+        accuracy,
+        n_sats,
+        flags,
+    } = r;
+    print!(out; "baseline-ecef {tow} {x} {y} {z} {accuracy} {n_sats} {flags}")?;
     let mut buf = [0u8; 28];
-    let w = baselines::write_baseline_ecef(&mut buf, Writer::made(0x0201), r);
-    written(out, &buf, w);
-}
-
-// The frame, or the refusal.
-fn written(out: Stdout, buf: &[u8], w: Written) {
-    match w {
-        Written::Bytes(n) => print::bytes(out, front(buf, n)),
-        Written::Refused(n) => print::refused(out, n),
+    match write_message::<BaselineEcef>(&mut buf, Writer::made(0x0201), r) {
+        Ok(n) => println!(out; " {}", Hex(front(&buf, n))),
+        Err(e) => println!(out; " refused {}", e.number()),
     }
 }

@@ -1,13 +1,14 @@
 // A capture read frame by frame, open and closed, with counts that a cursor carries from frame to frame: what is linked begins them anew at each.
-use crate::print;
+use crate::hex::Hex;
 use frames::{Counts, Cursor, Frame, Next};
+use std::fmt;
 use std::io::Stdout;
 
 // Noise, a frame, noise, and a byte that begins a frame.
 pub fn run(out: Stdout) {
     show(
         out,
-        b"noise-around",
+        "noise-around",
         &[
             0x01, 0x55, 0x00, 0x00, 0x00, 0x00, 0x00, 0x00, 0x00, 0x02, 0x03, 0x55,
         ],
@@ -15,59 +16,46 @@ pub fn run(out: Stdout) {
 }
 
 // Each frame with its payload, then the counts; open, then closed.
-pub fn show(out: Stdout, name: &[u8], s: &[u8]) {
-    print::word(out, b"open ");
-    print::word(out, name);
+pub fn show(out: Stdout, name: &str, s: &[u8]) {
+    let _ = print!(out; "open {name}");
     walk(out, Cursor::opened(), s);
-    print::word(out, b"closed ");
-    print::word(out, name);
+    let _ = print!(out; "closed {name}");
     walk(out, Cursor::closed(), s);
-    print::word(out, b"totals ");
-    print::word(out, name);
-    counts(out, frames::totals(s));
-    print::end(out);
+    let _ = println!(out; "totals {name} {}", Told(frames::totals(s)));
 }
 
 // A reading of one frame at most, and how it ends.
 fn walk(out: Stdout, start: Cursor, s: &[u8]) {
-    let next = start.next(s);
+    let mut next = start.next(s);
     if let Next::Frame(f, after) = next {
         frame(out, f, s);
-        stop(out, after.next(s));
-    } else {
-        stop(out, next);
+        next = after.next(s);
     }
-}
-
-fn stop(out: Stdout, next: Next) {
-    match next {
-        Next::Frame(_, _) => print::word(out, b" more"),
-        Next::End(after) => {
-            print::word(out, b" end");
-            counts(out, after.counts());
-        }
-        Next::Needs(n, after) => {
-            print::word(out, b" needs");
-            print::number(out, n as u64);
-            counts(out, after.counts());
-        }
-    }
-    print::end(out);
+    let _ = match next {
+        Next::Frame(_, _) => println!(out; " more"),
+        Next::End(after) => println!(out; " end {}", Told(after.counts())),
+        Next::Needs(n, after) => println!(out; " needs {n} {}", Told(after.counts())),
+    };
 }
 
 fn frame(out: Stdout, f: Frame, s: &[u8]) {
-    print::word(out, b" frame");
-    print::number(out, f.at as u64);
-    print::number(out, f.kind as u64);
-    print::number(out, f.sender as u64);
-    print::number(out, f.length as u64);
-    print::bytes(out, frames::payload(s, f));
+    let payload = Hex(frames::payload(s, f));
+    let Frame {
+        at,
+        kind,
+        sender,
+        length,
+    } = f;
+    let _ = print!(out; " frame {at} {kind} {sender} {length} {payload}");
 }
 
 // Frame bytes, junk, bad, short.
-fn counts(out: Stdout, c: Counts) {
-    print::number(out, c.framed as u64);
-    print::number(out, c.junk as u64);
-    print::number(out, c.bad as u64);
-    print::number(out, c.short as u64);
+#[derive(Clone, Copy)]
+struct Told(Counts);
+
+impl fmt::Display for Told {
+    fn fmt<W: fmt::Write>(&self, f: &mut fmt::Formatter<W>) -> fmt::Result {
+        let c = self.0;
+        write!(f, "{} {} {} {}", c.framed, c.junk, c.bad, c.short)
+    }
 }

@@ -1,7 +1,8 @@
 // The observation reader: payloads asked for one observation after the other, and some past the last.
 use crate::payload::{front, mixed};
-use crate::print;
-use observation::{Observation, ObservationRead};
+use observation::Observation;
+use refusals::Refusal;
+use std::fmt;
 use std::io::Stdout;
 
 pub fn run(out: Stdout) {
@@ -16,40 +17,29 @@ pub fn run(out: Stdout) {
 }
 
 fn walk(out: Stdout, kind: u16, payload: &[u8]) {
-    print::word(out, b"walk");
-    print::number(out, payload.len() as u64);
-    let mut at = ask(out, kind, payload, 0);
-    at = ask(out, kind, payload, at);
-    at = ask(out, kind, payload, at);
-    at = ask(out, kind, payload, at);
-    ask(out, kind, payload, at);
-    print::end(out);
-}
-
-fn ask(out: Stdout, kind: u16, payload: &[u8], at: usize) -> usize {
-    let step = obs_reader::step_from(kind, payload, at);
-    let answer = step.answer;
-    say(out, answer);
-    print::word(out, b" at");
-    print::number(out, step.at as u64);
-    step.at
+    let _ = print!(out; "walk {}", payload.len());
+    let mut at = 0;
+    for _ in 0..5 {
+        let step = obs_reader::step_from(kind, payload, at);
+        at = step.at;
+        let _ = print!(out; " {} at {at}", Answered(step.answer));
+    }
+    let _ = println!(out;);
 }
 
 // An observation's fields, or the refusal.
-fn say(out: Stdout, answer: ObservationRead) {
-    match answer {
-        ObservationRead::Record(o) => fields(out, o),
-        ObservationRead::Refused(n) => print::refused(out, n),
-    }
-}
+#[derive(Clone, Copy)]
+struct Answered(Result<Observation, Refusal>);
 
-fn fields(out: Stdout, o: Observation) {
-    print::number(out, o.p as u64);
-    print::signed_32(out, o.l_i);
-    print::number(out, o.l_f as u64);
-    print::number(out, o.cn0 as u64);
-    print::number(out, o.lock as u64);
-    print::number(out, o.sat as u64);
-    print::number(out, o.code as u64);
-    print::number(out, o.reserved as u64);
+impl fmt::Display for Answered {
+    fn fmt<W: fmt::Write>(&self, f: &mut fmt::Formatter<W>) -> fmt::Result {
+        match self.0 {
+            Ok(o) => write!(
+                f,
+                "{} {} {} {} {} {} {} {}",
+                o.p, o.l_i, o.l_f, o.cn0, o.lock, o.sat, o.code, o.reserved
+            ),
+            Err(e) => write!(f, "refused {}", e.number()),
+        }
+    }
 }
