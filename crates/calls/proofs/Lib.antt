@@ -1,2 +1,2 @@
-pub mod Variants
+pub mod Results
 pub mod Giving

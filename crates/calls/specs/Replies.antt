@@ -1,27 +1,49 @@
 -- What a call hands back and what it leaves of what it is lent, both read off one call: a refusal hands back its number and leaves all as it was.
-use Rattle.std.specs.Prelude.{List, ◌++◌, ℕ, drop}
+use Rattle.std.specs.Prelude.{List, ◌++◌, ℕ, drop, eqb, ltb, cond, Result, Ok, Err}
 use Rattle.refusals.specs.Refusals.{Answer, given, refused, Call, reply, leaves, as_number, zero_or}
-use Rattle.frame_writer.specs.declared.write.Written.{Written}
-use Rattle.index.specs.Index.{Hit, at, nowhere}
-use Rattle.index.specs.declared.asking.Sought.{Sought}
+use Rattle.refusals.specs.declared.Refusal.{Refusal}
+use Rattle.refusals.specs.declared.Refusal.TheVariants.{CaptureTooLong, UnknownType, WrongLength, OutOfRange, NoObservation, TooLong, NoRoom, PhaseOutOfRange, RosterLength, RosterRepeats, NotListed, NoPackets, PastLast, NotObservations, Copied, ListTooShort, CaptureTooShort}
 
--- ---- in Rattle: an enum of what was asked for and a refusal
+-- ---- in Rattle: what was asked for, or a refusal
 
-abbrev pub variant_of : {E A : Type 0} → (A → E) → (ℕ → E) → Answer A → E
-variant_of record_of refusal (given x) = record_of x
-variant_of record_of refusal (refused n) = refusal n
+-- the refusal of a number; of a number that is none's, the last
+abbrev pub refusal_of : ℕ → Refusal
+refusal_of n =
+    cond (eqb n 11) CaptureTooLong
+    (cond (eqb n 21) UnknownType
+    (cond (eqb n 22) WrongLength
+    (cond (eqb n 23) OutOfRange
+    (cond (eqb n 25) NoObservation
+    (cond (eqb n 31) TooLong
+    (cond (eqb n 32) NoRoom
+    (cond (eqb n 33) PhaseOutOfRange
+    (cond (eqb n 41) RosterLength
+    (cond (eqb n 42) RosterRepeats
+    (cond (eqb n 43) NotListed
+    (cond (eqb n 44) NoPackets
+    (cond (eqb n 45) PastLast
+    (cond (eqb n 46) NotObservations
+    (cond (eqb n 47) Copied
+    (cond (eqb n 51) ListTooShort CaptureTooShort)))))))))))))))
 
-abbrev pub hands_back : {A E : Type 0} → (A → E) → (ℕ → E) → Call A → E × Unit {0}
-hands_back record_of refusal c = (variant_of record_of refusal (reply c), tt)
+abbrev pub result_of : {A : Type 0} → Answer A → Result A Refusal
+result_of (given x) = Ok x
+result_of (refused n) = Err (refusal_of n)
+
+abbrev pub hands_back : {A : Type 0} → Call A → Result A Refusal × Unit {0}
+hands_back c = (result_of (reply c), tt)
+
+-- by a number: below 11, of what is given; else of a refusal
+abbrev pub told_by : {A : Type 0} → (ℕ → A) → ℕ → Result A Refusal
+told_by of n = cond (ltb n 11) (Ok (of n)) (Err (refusal_of n))
+
+-- where nothing is asked for but that it is done
+abbrev pub done_or : ℕ → Result (Unit {0}) Refusal
+done_or = told_by (λ n. tt)
 
 -- how many bytes were written, and the buffer with them at its start and the bytes after them as they were
-abbrev pub puts : Call ℕ → List ℕ → List ℕ → Written × (List ℕ × Unit {0})
-puts c bytes buf = (variant_of Written.Bytes Written.Refused (reply c), (leaves (λ n was. bytes ++ drop n was) (reply c) buf, tt))
-
--- an entry found and its place, or that there is none
-abbrev pub sought_of : Hit → Sought
-sought_of (at i e) = Sought.At i e
-sought_of nowhere = Sought.Nowhere
+abbrev pub puts : Call ℕ → List ℕ → List ℕ → Result ℕ Refusal × (List ℕ × Unit {0})
+puts c bytes buf = (result_of (reply c), (leaves (λ n was. bytes ++ drop n was) (reply c) buf, tt))
 
 -- ---- for C and Rust: a number
 

@@ -13,8 +13,9 @@ use Rattle.epochs.specs.Collator.{for_place}
 use Rattle.listing.specs.Listing.{list_answer}
 use Rattle.calls.proofs.Giving as by
 use Rattle.capture_calls.specs.CaptureCalls as calls
+use Rattle.capture_calls.proofs.Captured as captured
 
-ruleset givings = (by.plain, by.written_stored, by.reader, by.asked, by.stepped, by.phase_parts, by.packet_read, by.place_step, by.recognised)
+ruleset givings = (by.plain, by.stored, by.answered, by.answered_stored, captured.reader, captured.stepped, captured.fed, captured.fed_by_value, captured.outcome, captured.collated)
 
 module _ {M : Type 1} {𝓤 : Ura M} (𝓛 : Logic 𝓤) (mem : Memory → SProp 𝓤) (run : Routine → Fun 𝓤) where
   pub frames : calls.Frames 𝓛 mem run

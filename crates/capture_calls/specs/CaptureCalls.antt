@@ -1,5 +1,5 @@
 -- Captures read, collated and listed, observations stepped through, phases and flags: each call by its own contract.
-use Rattle.std.specs.Prelude.{true, false, List, ◌++◌, ℕ, ◌+◌, ◌%◌, length, take, drop}
+use Rattle.std.specs.Prelude.{true, false, Option, Some, None, Result, Ok, Err, List, [], ◌++◌, ℕ, ◌+◌, ◌%◌, length, take, drop}
 use seplogic.Ra.Ura.{Ura}
 use base.Logic.{SProp}
 use prog.Memory.{Memory}
@@ -8,6 +8,7 @@ use types.Logic.{Logic}
 use contract.Monad.{Fun}
 use Rattle.wire.specs.Number.{flag_at}
 use Rattle.refusals.specs.Refusals.{reply}
+use Rattle.refusals.specs.declared.Refusal.{Refusal}
 use Rattle.crc.specs.Crc.{crc_from}
 use Rattle.frames.specs.Step.{step_at}
 use Rattle.frames.specs.Reading.{closed_steps, counts_of}
@@ -15,20 +16,20 @@ use Rattle.frames.specs.Cursors.{next_of, reached_in}
 use Rattle.flags.specs.Flags.{chosen}
 use Rattle.flags.specs.declared.flags.Fix.TheVariants.{SinglePoint, Float, Fixed, Reserved}
 use Rattle.phases.specs.Phase.{phase_of, reading_phase}
-use Rattle.phases.specs.declared.phase.PhaseParts.TheVariants as PhaseParts
 use Rattle.observation.specs.Obs.{one_of_frame}
-use Rattle.observation.specs.declared.entry.ObservationRead.TheVariants as ObservationRead
 use Rattle.obs_reader.specs.Reader.{moved_by, asked}
 use Rattle.packets.specs.Packet.{packet_in, shape, numbering}
-use Rattle.packets.specs.declared.packet.PacketRead.TheVariants as PacketRead
-use Rattle.epochs.specs.declared.recognising.Recognised.TheVariants as Recognised
 use Rattle.groups.specs.Group.{stepping}
-use Rattle.groups.specs.declared.grouping.Answered.TheVariants as Answered
-use Rattle.epochs.specs.Collator.{placing, outcome, fed_frame, made}
+use Rattle.epochs.specs.Collator.{rostering, placing, outcome, fed_frame, made}
+use Rattle.epochs.specs.Listed.{listed}
+use Rattle.epochs.specs.Happened.{Happened}
+use Rattle.epochs.specs.declared.collating.Report.{Report}
 use Rattle.captures.specs.Capture.{collated}
+use Rattle.captures.specs.Collated as Collated
+use Rattle.captures.specs.declared.capturing.Collated as code
 use Rattle.enlisting.specs.Enlisting.{new_seat, enlisted_to}
 use Rattle.listing.specs.Listing.{text_of, listing}
-use Rattle.calls.specs.Replies.{variant_of, hands_back, puts}
+use Rattle.calls.specs.Replies.{refusal_of, result_of, told_by, hands_back, puts}
 use Rattle.calls.specs.Gives.{Gives, GivesAs}
 use Rattle.crc.specs.contracts as crc
 use Rattle.frames.specs.contracts as frames
@@ -42,6 +43,21 @@ use Rattle.epochs.specs.contracts as epochs
 use Rattle.captures.specs.contracts as captures
 use Rattle.enlisting.specs.contracts as enlisting
 use Rattle.listing.specs.contracts as listing
+
+-- what a frame comes to, as feeding it answers; and an epoch, if it is one
+abbrev pub handed : Happened → Result (Option Report) Refusal
+handed (Happened.Refused n) = Err (refusal_of n)
+handed Happened.Taken = Ok None
+handed (Happened.Epoch r) = Ok (Some r)
+
+abbrev pub reported : Happened → Option Report
+reported (Happened.Refused n) = None
+reported Happened.Taken = None
+reported (Happened.Epoch r) = Some r
+
+-- a whole capture: the collator and how many epochs each seat had, or why its roster is refused
+abbrev pub collated_as : Collated.Collated → Result code.Collated Refusal
+collated_as t = told_by (λ n. record { collator = t.collator; reports = t.reports }) t.number
 
 -- at every model of the logic, as every contract is stated
 module _ {M : Type 1} {𝓤 : Ura M} (𝓛 : Logic 𝓤) (mem : Memory → SProp 𝓤) (run : Routine → Fun 𝓤) where
@@ -66,41 +82,39 @@ module _ {M : Type 1} {𝓤 : Ura M} (𝓛 : Logic 𝓤) (mem : Memory → SProp
 
   -- a collator made and fed: the frame is that of the sender, type and payload handed in; a whole capture; a roster that grows; the listing
   pub record Collators : Type 1 where
-    pub make : Gives 𝓤 epochs.collating.Collator.made.ended (epochs.collating.Collator.made.clauses 𝓛 mem run) (λ κs roster. (made roster.now, tt))
+    pub empty : Gives 𝓤 epochs.collating.Collator.empty.ended (epochs.collating.Collator.empty.clauses 𝓛 mem run) (λ κs. ((made []).collator, tt))
+    pub make : Gives 𝓤 epochs.collating.Collator.made.ended (epochs.collating.Collator.made.clauses 𝓛 mem run) (λ κs roster. hands_back (rostering roster.now))
     pub feed : Gives 𝓤 epochs.collating.Collator.feed.ended (epochs.collating.Collator.feed.clauses 𝓛 mem run)
-        (λ κs c kind sender payload. (fed_frame c (record { kind = kind; sender = sender; payload = payload.now }), tt))
+        (λ κs c kind sender payload. let f = fed_frame c.now (record { kind = kind; sender = sender; payload = payload.now }) in (handed f.happened, (f.collator, tt)))
+    -- the same of a collator by value, handed back with what came of the frame
+    pub fed : Gives 𝓤 epochs.collating.Collator.fed.ended (epochs.collating.Collator.fed.clauses 𝓛 mem run)
+        (λ κs c kind sender payload. let f = fed_frame c (record { kind = kind; sender = sender; payload = payload.now }) in (record { collator = f.collator; happened = handed f.happened }, tt))
     -- a frame recognised for its sender's place, by the roster; and by itself, in two steps
-    pub recognise : Gives 𝓤 epochs.recognise.ended (epochs.recognise.clauses 𝓛 mem run)
-        (λ κs roster count kind sender payload.
-        hands_back (λ a. Recognised.For a.0 a.1) Recognised.Refused (placing (take count roster) (record { kind = kind; sender = sender; payload = payload.now })))
+    pub recognise : Gives 𝓤 epochs.seating.Roster.recognise.ended (epochs.seating.Roster.recognise.clauses 𝓛 mem run)
+        (λ κs roster kind sender payload. hands_back (placing (listed roster) (record { kind = kind; sender = sender; payload = payload.now })))
     pub read_packet : Gives 𝓤 packets.read_packet.ended (packets.read_packet.clauses 𝓛 mem run)
-        (λ κs kind s. hands_back PacketRead.Record PacketRead.Refused (record { tests = shape kind s.now; value = packet_in s.now }))
-    pub numbered : Gives 𝓤 packets.numbered.ended (packets.numbered.clauses 𝓛 mem run)
-        (λ κs p. hands_back PacketRead.Record PacketRead.Refused (record { tests = numbering p; value = p }))
+        (λ κs kind s. hands_back (record { tests = shape kind s.now; value = packet_in s.now }))
+    pub numbered : Gives 𝓤 packets.numbered.ended (packets.numbered.clauses 𝓛 mem run) (λ κs p. hands_back (record { tests = numbering p; value = p }))
     -- and the packet at that place: 47 for a counter that has come already
-    pub place_step : Gives 𝓤 groups.step.ended (groups.step.clauses 𝓛 mem run) (λ κs group p. hands_back Answered.To Answered.Refused (stepping group p))
-    pub outcome : Gives 𝓤 epochs.outcome.ended (epochs.outcome.clauses 𝓛 mem run) (λ κs sender p ended. (outcome sender p ended, tt))
-    pub new_seat : Gives 𝓤 enlisting.new_seat.ended (enlisting.new_seat.clauses 𝓛 mem run) (λ κs roster count sender. (new_seat roster count sender, tt))
-    pub collate : Gives 𝓤 captures.collate.ended (captures.collate.clauses 𝓛 mem run) (λ κs s roster. (collated s.now roster.now, tt))
-    pub enlist : Gives 𝓤 enlisting.enlist.ended (enlisting.enlist.clauses 𝓛 mem run) (λ κs c kind sender. (enlisted_to c kind sender, tt))
+    pub place_step : Gives 𝓤 groups.step.ended (groups.step.clauses 𝓛 mem run) (λ κs group p. hands_back (stepping group p))
+    pub outcome : Gives 𝓤 epochs.outcome.ended (epochs.outcome.clauses 𝓛 mem run) (λ κs sender p ended. (reported (outcome sender p ended), tt))
+    pub new_seat : Gives 𝓤 enlisting.new_seat.ended (enlisting.new_seat.clauses 𝓛 mem run) (λ κs roster sender. (new_seat roster.senders roster.count sender, tt))
+    pub collate : Gives 𝓤 captures.collate.ended (captures.collate.clauses 𝓛 mem run) (λ κs s roster. (collated_as (collated s.now roster.now), tt))
+    pub enlist : Gives 𝓤 enlisting.enlist.ended (enlisting.enlist.clauses 𝓛 mem run) (λ κs c kind sender. (tt, (enlisted_to c.now kind sender, tt)))
     pub list : Gives 𝓤 listing.list.ended (listing.list.clauses 𝓛 mem run) (λ κs s buf. puts (listing s.now (length buf.now)) (text_of s.now) buf.now)
 
   -- a reader that keeps the lent payload and its place
   pub record Observations : Type 1 where
-    pub make : Gives 𝓤 obs_reader.made.ended (obs_reader.made.clauses 𝓛 mem run) (λ κs kind payload. (record { kind = kind; payload = payload; at = 0 }, tt))
-    pub next : Gives 𝓤 obs_reader.next.ended (obs_reader.next.clauses 𝓛 mem run)
-        (λ κs reader.
-        let r = reader.now in
-        (variant_of ObservationRead.Record ObservationRead.Refused (reply (one_of_frame r.kind r.payload.now r.at)), (asked r, tt)))
+    pub make : Gives 𝓤 obs_reader.ObsReader.made.ended (obs_reader.ObsReader.made.clauses 𝓛 mem run) (λ κs kind payload. (record { kind = kind; payload = payload; at = 0 }, tt))
+    pub next : Gives 𝓤 obs_reader.ObsReader.next.ended (obs_reader.ObsReader.next.clauses 𝓛 mem run)
+        (λ κs reader. let r = reader.now in (result_of (reply (one_of_frame r.kind r.payload.now r.at)), (asked r, tt)))
     pub step_from : Gives 𝓤 obs_reader.step_from.ended (obs_reader.step_from.clauses 𝓛 mem run)
-        (λ κs kind payload at.
-        let a = reply (one_of_frame kind payload.now at) in
-        (record { answer = variant_of ObservationRead.Record ObservationRead.Refused a; at = at + moved_by a }, tt))
+        (λ κs kind payload at. let a = reply (one_of_frame kind payload.now at) in (record { answer = result_of a; at = at + moved_by a }, tt))
 
   -- phases, and flags by their bits
   pub record Told : Type 1 where
     pub carrier_phase : Gives 𝓤 phases.carrier_phase.ended (phases.carrier_phase.clauses 𝓛 mem run) (λ κs p. (phase_of p, tt))
-    pub phase_parts : Gives 𝓤 phases.phase_parts.ended (phases.phase_parts.clauses 𝓛 mem run) (λ κs z. hands_back PhaseParts.Parts PhaseParts.Refused (reading_phase z))
+    pub phase_parts : Gives 𝓤 phases.phase_parts.ended (phases.phase_parts.clauses 𝓛 mem run) (λ κs z. hands_back (reading_phase z))
     pub pos_ecef_fix : Gives 𝓤 flags.pos_ecef_fix.ended (flags.pos_ecef_fix.clauses 𝓛 mem run) (λ κs n. (chosen (n % 8) SinglePoint Float Fixed, tt))
     pub pos_llh_fix : Gives 𝓤 flags.pos_llh_fix.ended (flags.pos_llh_fix.clauses 𝓛 mem run) (λ κs n. (chosen (n % 8) SinglePoint Fixed Float, tt))
     pub baseline_fix : Gives 𝓤 flags.baseline_fix.ended (flags.baseline_fix.clauses 𝓛 mem run) (λ κs n. (chosen (n % 8) Float Fixed Reserved, tt))

@@ -10,7 +10,7 @@ use Rattle.flags.specs.Flags.{chosen}
 use Rattle.flags.specs.declared.flags.Fix.{Fix}
 use Rattle.flags.specs.declared.flags.Fix.TheVariants.{Reserved}
 use Rattle.flag_numbers.specs.Flagged.{table_for, fix_number, bit_number, above_sea_answer}
-use Rattle.flag_numbers.specs.declared.flagging.Table.TheVariants.{Nothing}
+use Rattle.std.specs.Prelude.{None}
 use Rattle.demands.specs.Exported.{mode_of, Flags, FlagsByType}
 
 -- a bit as a number is the bit
@@ -33,13 +33,13 @@ mode flags a b c = by (eqb (flags % 8) 0) (eqb (flags % 8) 1) (eqb (flags % 8) 2
     by false false true = refl
     by false false false = refl
 
-answers : {kind flags : ℕ} → table_for kind ≡ Nothing → Flags kind flags 21 21 21
+answers : {kind flags : ℕ} → table_for kind ≡ None → Flags kind flags 21 21 21
 answers none = record { mode = rw none; raim = rw none; repair = rw none }
 
 no_table : (kind flags : ℕ) → (kind ≡ 0x0200 → ⊥) → (kind ≡ 0x0201 → ⊥) → (kind ≡ 0x0202 → ⊥) → (kind ≡ 0x0203 → ⊥) → (kind ≡ 0x0207 → ⊥) → Flags kind flags 21 21 21
 unfolding table_for
 no_table kind flags a b c d e =
-    let none : table_for kind ≡ Nothing = rw (ne_eqb kind 0x0200 a, ne_eqb kind 0x0201 b, ne_eqb kind 0x0202 c, ne_eqb kind 0x0203 d, ne_eqb kind 0x0207 e) in
+    let none : table_for kind ≡ None = rw (ne_eqb kind 0x0200 a, ne_eqb kind 0x0201 b, ne_eqb kind 0x0202 c, ne_eqb kind 0x0203 d, ne_eqb kind 0x0207 e) in
     answers none
 
 not_llh : (kind flags : ℕ) → (kind ≡ 0x0201 → ⊥) → above_sea_answer kind flags ≡ 21

@@ -13,9 +13,9 @@ use Rattle.epochs.specs.Search.{names}
 use Rattle.epochs.specs.Collator.{for_place, fed_frame, fresh, rostering, as_made, made}
 use Rattle.epochs.specs.Epoch.{after}
 use Rattle.epochs.specs.declared.collating.Collator.{Collator}
-use Rattle.epochs.specs.declared.collating.Fed.{Fed}
-use Rattle.epochs.specs.declared.collating.Made.{Made}
-use Rattle.epochs.specs.declared.collating.Happened.TheVariants as H
+use Rattle.epochs.specs.Fed.{Fed}
+use Rattle.epochs.specs.Fed.{Made}
+use Rattle.epochs.specs.Happened as H
 use Rattle.epochs.proofs.Feeding.{fed_refused}
 
 lists_nobody : (roster : List ℕ) → ((made roster).number ≡ 0 → ⊥) → (made roster).collator ≡ fresh []

@@ -11,7 +11,7 @@ use Rattle.frames.specs.Frame.{Content}
 use Rattle.epochs.specs.Collator.{as_made, Move, moved, fed_frame, made, rostering, feeding}
 use Rattle.epochs.specs.declared.collating.Collator.{Collator}
 use Rattle.epochs.specs.declared.collating.Report.{Report}
-use Rattle.epochs.specs.declared.collating.Happened.TheVariants as H
+use Rattle.epochs.specs.Happened as H
 use Rattle.epochs.proofs.Feeding.{moves_told, never_refuses}
 use Rattle.layouts.specs.Description.{read_as}
 use Rattle.frame_writer.specs.Writer.{planned, with_frame}

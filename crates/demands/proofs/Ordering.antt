@@ -13,8 +13,8 @@ use Rattle.layouts.specs.Layout.{Layout, LengthOf, lengths}
 use Rattle.layouts.proofs.Layouts.{lengths_true, lengths_false}
 use Rattle.frames.specs.Frame.{Content}
 use Rattle.observation.specs.Edition.{obs, fitting, first, is_obs}
-use Rattle.payloads.specs.Checks.{document, tests_by}
-use Rattle.payloads.specs.Inner.{check_in}
+use Rattle.payloads.specs.Checks.{document}
+use Rattle.payloads.specs.Inner.{check_in, tests_found}
 use Rattle.payloads.specs.declared.check.Check.{Check}
 use Rattle.payloads.specs.declared.check.Check.TheVariants as C
 use Rattle.payloads.proofs.Agreed.{agreed, tests_agree}
@@ -25,8 +25,7 @@ use Rattle.packets.specs.declared.packet.Packet.{Packet}
 use Rattle.packets.proofs.Keys.{equal_key, same_key_lem}
 use Rattle.groups.specs.Group.{has_come}
 use Rattle.groups.specs.declared.grouping.Part.{Part}
-use Rattle.groups.specs.declared.grouping.Group.{Group}
-use Rattle.groups.specs.declared.grouping.Group.TheVariants.{Idle, Open}
+use Rattle.std.specs.Prelude.{Option, Some, None}
 use Rattle.epochs.specs.Search.{seat_of, names, repeats}
 use Rattle.obs_writer.specs.ObsWriter.{writing_obs}
 use Rattle.observation.specs.Obs.{one_observation}
@@ -191,9 +190,9 @@ come_order c x = by there.group refl
     p : Packet
     p = packet_in x.payload
 
-    by : (g : Group) → there.group ≡ g → (not (has_come g p) ≡ false) ↔ HasCome c x
-    by Idle e = (λ f. absurd (true≢false f), λ w. let z : ◌≡◌ {A = ℕ} 0 1 = cc in absurd (omega arith))
-    by (Open part) e = (
+    by : (g : Option Part) → there.group ≡ g → (not (has_come g p) ≡ false) ↔ HasCome c x
+    by None e = (λ f. absurd (true≢false f), λ w. let z : ◌≡◌ {A = ℕ} 0 1 = cc in absurd (omega arith))
+    by (Some part) e = (
       λ f.
           let tests = (and-eq-true_iff (same_key part.key p.key) (flag_at part.come p.counter)).0 ((fails_not _).0 f) in
           let key = equal_key part.key p.key tests.0 in
@@ -230,22 +229,22 @@ over_room k room = (λ e. omega (arith, leb-false (7 + k * 16 + 8) room e), λ h
 obs_buffer_order : (k room : ℕ) → InOrder ((31, 15 < k) ∷ buffer_cases (16 * k + 7) room) (writing_obs first k room).tests
 obs_buffer_order k room = (refl, over k 15, (refl, over_size k, (refl, over_room k room, tt)))
 
-by_column : (k : Check) (s : List ℕ) → tests_by k s ≡ column_tests k s
-by_column C.Unknown s = refl
-by_column (C.Length n) s = refl
-by_column (C.Ns n at) s = refl
-by_column (C.Fix n at last) s = refl
-by_column C.Obs s = refl
-by_column C.Log s = refl
+by_column : (k : Option Check) (s : List ℕ) → tests_found k s ≡ column_tests k s
+by_column None s = refl
+by_column (Some (C.Length n)) s = refl
+by_column (Some (C.Ns n at)) s = refl
+by_column (Some (C.Fix n at last)) s = refl
+by_column (Some C.Obs) s = refl
+by_column (Some C.Log) s = refl
 
 same_column : (cs : List (ℕ × Check)) (kind : ℕ) → check_in cs kind ≡ column_of cs kind
 unfolding check_in column_of
 same_column [] kind = refl
-same_column (c ∷ cs) kind = ap (λ (k : Check). cond (eqb kind c.0) c.1 k) (same_column cs kind)
+same_column (c ∷ cs) kind = ap (λ (k : Option Check). cond (eqb kind c.0) (Some c.1) k) (same_column cs kind)
 
 pub order : Order
 order = record {
-  any_payload = λ kind s. tests_agree table document agreed kind s ∙ by_column (check_in document kind) s ∙ ap (λ (k : Check). column_tests k s) (same_column document kind);
+  any_payload = λ kind s. tests_agree table document agreed kind s ∙ by_column (check_in document kind) s ∙ ap (λ (k : Option Check). column_tests k s) (same_column document kind);
   payload = λ R d s. (refl, long d.layout (length s), (refl, itself _, tt));
   obs_payload = λ s. (refl, obs_long (length s), tt);
   index = λ s i. index_order s i;

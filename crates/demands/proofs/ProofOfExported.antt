@@ -5,7 +5,7 @@ use Rattle.senders.proofs.Carrying.{carries_linked}
 use Rattle.row_reader.proofs.EachRead.{all_read}
 use Rattle.row_writer.proofs.WrittenTyped.{as_typed}
 use Rattle.epochs.specs.Epoch.{reports_in, reports_of}
-use Rattle.epochs.specs.declared.collating.Happened.{Happened}
+use Rattle.epochs.specs.Happened.{Happened}
 use Rattle.epochs.proofs.Making.{seated}
 use Rattle.epochs.proofs.Collations.{same_state, same_reports}
 use Rattle.epochs.proofs.Arrivals.{in_any_order}

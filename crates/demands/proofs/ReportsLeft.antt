@@ -9,8 +9,8 @@ use Rattle.layouts.specs.Field.{encode}
 use Rattle.layouts.proofs.Fields.{length-encode}
 use Rattle.frames.specs.Frame.{Content}
 use Rattle.epochs.specs.Collator.{Move}
-use Rattle.epochs.specs.declared.collating.Happened.{Happened}
-use Rattle.epochs.specs.declared.collating.Happened.TheVariants as H
+use Rattle.epochs.specs.Happened.{Happened}
+use Rattle.epochs.specs.Happened as H
 use Rattle.states.specs.Feed.{report_fields, report_row, happened_number, happened_stored, move_in, came_out, fed_in}
 
 module _ (buf : List ℕ) where

@@ -17,8 +17,7 @@ use Rattle.lent_rows.specs.Lent.{first_rows_stored}
 use Rattle.frames.specs.Frame.{Content}
 use Rattle.observation.specs.Edition.{is_obs}
 use Rattle.epochs.specs.Collator.{Move, feeding}
-use Rattle.epochs.specs.declared.seating.Seat.{Seat}
-use Rattle.epochs.specs.declared.seating.Seat.TheVariants.{At, Nowhere}
+use Rattle.std.specs.Prelude.{Option, Some, None}
 use Rattle.epochs.specs.declared.collating.Collator.{Collator}
 use Rattle.epochs.proofs.Feeding.{replied_moves}
 use Rattle.enlisting.proofs.Seating.{seat_eight}
@@ -71,10 +70,10 @@ after_stored (refused n) s = refl
 
 -- a seat that is taken is one of eight
 module _ (s : List ℕ) (sender : ℕ) where
-  after_seat : (seat : Seat) → new_seat_in s sender ≡ seat → drop state_size (seated_by seat s sender) ≡ drop state_size s
+  after_seat : (seat : Option ℕ) → new_seat_in s sender ≡ seat → drop state_size (seated_by seat s sender) ≡ drop state_size s
   unfolding seat_taken
-  after_seat Nowhere e = refl
-  after_seat (At i) e =
+  after_seat None e = refl
+  after_seat (Some i) e =
       after_count (i + 1) (row_stored seat_fields (sender, tt) s (seat_at i))
       ∙ after_row state_size seat_fields (sender, tt) s (seat_at i) (omega (arith, seat_eight (seats_in s) (senders_in s) sender e))
 

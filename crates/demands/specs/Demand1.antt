@@ -13,7 +13,7 @@ use Rattle.epochs.specs.Collator.{fed_frame, fresh, made}
 use Rattle.epochs.specs.Epoch.{after}
 use Rattle.captures.specs.Capture.{begun, collated}
 use Rattle.epochs.specs.declared.collating.Collator.{Collator}
-use Rattle.epochs.specs.declared.collating.Happened.TheVariants as H
+use Rattle.epochs.specs.Happened as H
 use Rattle.demands.specs.Order.{Order, LinkedOrder, IndexOrder}
 use Rattle.demands.specs.ReadOff.{ReadOff}
 

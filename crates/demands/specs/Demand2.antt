@@ -2,7 +2,7 @@
 -- resume rule give; every byte of a complete capture is in one frame or counted as passed over under one reason; a record written reads back
 -- bit for bit; an accepted payload written again gives the same bytes; an epoch is reported exactly when its packets stand as document 01 says,
 -- once each." Sentence by sentence, and then document 01's section on `sbplist`.
-use Rattle.std.specs.Prelude.{◌≡◌, Bool, true, ◌↔◌, ◌⊎◌, ℕ, ◌+◌, ◌*◌, ◌/◌, ◌%◌, ◌^◌, ◌≤◌, ◌<◌, ℤ, pos, ◌+ℤ◌, ◌*ℤ◌, length, get_or, take, drop, replicate}
+use Rattle.std.specs.Prelude.{◌≡◌, Bool, true, ◌↔◌, ◌⊎◌, ℕ, ◌+◌, ◌*◌, ◌/◌, ◌%◌, ◌^◌, ◌≤◌, ◌<◌, ℤ, pos, ◌+ℤ◌, ◌*ℤ◌, length, get_or, take, drop, replicate, Some}
 use mathlib.Core.List.{List, [], ◌∷◌, ◌++◌, map, flat_map}
 use Rattle.wire.specs.Number.{Bytes, number_at}
 use Rattle.refusals.specs.Refusals.{given, refused, reply}
@@ -33,7 +33,6 @@ use Rattle.packets.specs.declared.packet.Packet.{Packet}
 use Rattle.packets.specs.Packet.{Formed, AllFormed}
 use Rattle.groups.specs.InWords.{is_copy, EpochEnds, InWords}
 use Rattle.groups.specs.Group.{stepping, ended_of, left_open}
-use Rattle.groups.specs.declared.grouping.Ended.TheVariants.{Whole}
 use Rattle.in_order.specs.InOrder.{InOrder}
 use Rattle.epochs.specs.Search.{names}
 use Rattle.epochs.specs.Collator.{fed_frame, made}
@@ -41,7 +40,7 @@ use Rattle.epochs.specs.Epoch.{own_packet, after, reports, reports_of, EndsEpoch
 use Rattle.epochs.specs.Arrival.{InAnyOrder}
 use Rattle.captures.specs.Capture.{collated}
 use Rattle.epochs.specs.declared.collating.Report.{Report}
-use Rattle.epochs.specs.declared.collating.Happened.TheVariants as H
+use Rattle.epochs.specs.Happened as H
 use Rattle.text.specs.Decimal.{decimal}
 use Rattle.enlisting.specs.FirstEight.{obs_senders, different, obs_senders_in, roster_in}
 use Rattle.enlisting.specs.Enlisting.{AsOfTheFirst}
@@ -142,7 +141,7 @@ pub record EpochsReported : Type 0 where
       → ((fed_frame (after (made roster).collator xs) x).happened ≡ H.Refused 47) ↔ BringsCopy roster xs x
   -- both of the step itself, which `groups::step` makes by its line (`capture_calls`): from what a sender's packets have left open
   pub step_ends : (p : Packet) (past : List Packet) (total : ℕ) → AllFormed (p ∷ past)
-      → (ended_of (reply (stepping (left_open past) p)) ≡ Whole total) ↔ EpochEnds p past total
+      → (ended_of (reply (stepping (left_open past) p)) ≡ Some total) ↔ EpochEnds p past total
   pub step_copies : (p : Packet) (past : List Packet) → AllFormed (p ∷ past) → (reply (stepping (left_open past) p) ≡ refused 47) ↔ (is_copy past p ≡ true)
   -- within a sender, the order in which the packets of one group arrive changes nothing about its report
   pub any_order : (roster : List ℕ) → (made roster).number ≡ 0 → InAnyOrder roster

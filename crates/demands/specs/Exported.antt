@@ -10,7 +10,7 @@ use Rattle.groups.specs.AnyOrder.{Reordered}
 use Rattle.epochs.specs.Epoch.{reports_in, reports_of, SameFrames, EndsEpoch, BringsCopy, Epochs}
 use Rattle.epochs.specs.Arrival.{OneGroup}
 use Rattle.epochs.specs.declared.collating.Report.{Report}
-use Rattle.epochs.specs.declared.collating.Happened.TheVariants as H
+use Rattle.epochs.specs.Happened as H
 use Rattle.senders.specs.Carries.{CarriesLinked}
 use Rattle.flag_numbers.specs.Flagged.{fix_answer, available_answer, repaired_answer, above_sea_answer}
 use Rattle.places.specs.State.{state_in}

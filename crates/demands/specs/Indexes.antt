@@ -1,6 +1,6 @@
 -- Document 02, P5: "Support staff ask "where is the first heartbeat of sender 1228 after offset 40000" all day, and each question rescans." An index
 -- answers as a full reading does. Of the definitions, and of calls by what the contracts of the functions themselves ensure.
-use Rattle.std.specs.Prelude.{ℕ, ◌^◌, ◌<◌, ◌≡◌, List, length, take, drop}
+use Rattle.std.specs.Prelude.{ℕ, ◌^◌, ◌<◌, ◌≡◌, List, length, take, drop, Option, Some, None, Result, Ok, Err}
 use seplogic.Ra.Ura.{Ura}
 use base.Logic.{SProp, ent}
 use prog.Memory.{Memory}
@@ -12,13 +12,12 @@ use Rattle.std.specs.Borrow.{Bor, MutBor}
 use Rattle.wire.specs.Number.{Bytes, number_at}
 use Rattle.index.specs.Index.{empty}
 use Rattle.index.specs.declared.entry.Entry.{Entry}
-use Rattle.index.specs.declared.planning.Index.{Index}
-use Rattle.index.specs.declared.planning.Indexed.{Indexed}
-use Rattle.index.specs.declared.asking.Sought.{Sought}
-use Rattle.index.specs.declared.asking.Sought.TheVariants as Found
+use Rattle.index.specs.declared.index.Index.{Index}
+use Rattle.index.specs.declared.asking.Found.{Found}
 use Rattle.frames.specs.declared.step.Frame.{Frame}
-use Rattle.index.specs.declared.counting.Counted.{Counted}
-use Rattle.index.specs.declared.counting.Counted.TheVariants as Total
+use Rattle.refusals.specs.Refusals.{zero_or}
+use Rattle.refusals.specs.Numbers.{number_of, answer_of}
+use Rattle.refusals.specs.declared.Refusal.{Refusal}
 use Rattle.lent_index.specs.Bytes.{index_from_bytes}
 use Rattle.indexed.specs.Growing.{Grows, OfTheRest, Extension, CallsGrow, IndexOf, open_frames}
 use Rattle.indexed.specs.Asking.{Asked, Such, FirstOf, CallsFind, Tallied, CallsCount}
@@ -28,41 +27,49 @@ use Rattle.exports.specs.contracts as exports
 -- ---- calls, each with what it was lent and for how long, and what it left; and what it came to
 
 pub record Extend : Type 0 where
-  pub lives : Lfts 2
-  pub index : Index
+  pub lives : Lfts 3
+  pub index : MutBor Index
   pub capture : Bor (List ℕ)
   pub entries : MutBor (List Entry)
-  pub result : Indexed
+  pub result : Result (Unit {0}) Refusal
+  pub after : MutBor Index
   pub left : MutBor (List Entry)
 
 abbrev pub extend_came : Extend → Extension
-extend_came k =
-    record { room = 208; index = k.index; capture = k.capture.now; list = k.entries.now; answer = k.result.answer; after = k.result.index; left = k.left.now }
+extend_came k = record {
+  room = 208;
+  index = k.index.now;
+  capture = k.capture.now;
+  list = k.entries.now;
+  answer = zero_or (answer_of k.result);
+  after = k.after.now;
+  left = k.left.now;
+}
 
 pub record First : Type 0 where
-  pub lives : Lfts 1
-  pub index : Index
+  pub lives : Lfts 2
+  pub index : Bor Index
   pub entries : Bor (List Entry)
   pub kind : ℕ
   pub sender : ℕ
   pub offset : ℕ
-  pub result : Sought
+  pub result : Result (Option Found) Refusal
 
 -- its cases as numbers: 0 and a place, 1 for none, a refusal's own
-abbrev pub sought_number : Sought → ℕ
-sought_number (Found.At i e) = 0
-sought_number Found.Nowhere = 1
-sought_number (Found.Refused n) = n
+abbrev pub sought_number : Result (Option Found) Refusal → ℕ
+sought_number (Ok (Some f)) = 0
+sought_number (Ok None) = 1
+sought_number (Err e) = number_of e
 
-abbrev pub sought_place : Sought → ℕ
-sought_place (Found.At i e) = i
-sought_place Found.Nowhere = 0
-sought_place (Found.Refused n) = 0
+abbrev pub sought_place : Result (Option Found) Refusal → ℕ
+sought_place (Ok (Some f)) = f.place
+sought_place (Ok None) = 0
+sought_place (Err e) = 0
 
 abbrev pub first_came : First → Asked
 first_came k = record {
   room = 208;
-  index = k.index;
+  index = k.index.now;
   list = k.entries.now;
   kind = k.kind;
   sender = k.sender;
@@ -73,20 +80,21 @@ first_came k = record {
 }
 
 pub record Count : Type 0 where
-  pub index : Index
+  pub lives : Lfts 1
+  pub index : Bor Index
   pub kind : ℕ
-  pub result : Counted
+  pub result : Result ℕ Refusal
 
-abbrev pub count_number : Counted → ℕ
-count_number (Total.Frames n) = 0
-count_number (Total.Refused n) = n
+abbrev pub count_number : Result ℕ Refusal → ℕ
+count_number (Ok n) = 0
+count_number (Err e) = number_of e
 
-abbrev pub count_total : Counted → ℕ
-count_total (Total.Frames n) = n
-count_total (Total.Refused n) = 0
+abbrev pub count_total : Result ℕ Refusal → ℕ
+count_total (Ok n) = n
+count_total (Err e) = 0
 
 abbrev pub count_came : Count → Tallied
-count_came k = record { room = 208; index = k.index; kind = k.kind; number = count_number k.result; count = count_total k.result }
+count_came k = record { room = 208; index = k.index.now; kind = k.kind; number = count_number k.result; count = count_total k.result }
 
 -- the linked functions: the index is what its bytes stand for. A lent slice holds bytes, and fewer than 2^64 of anything
 pub record LinkedExtend : Type 0 where
@@ -157,7 +165,7 @@ module _ {M : Type 1} {𝓤 : Ura M} (𝓛 : Logic 𝓤) (mem : Memory → SProp
     -- by calls of `extend`, struct and entries, from an empty index on; a refusal leaves both as they were,
     pub extend_calls : CallsGrow 𝓤 extend_came
         (λ (k : Extend).
-        (index.extend.clauses 𝓛 mem run k.lives (k.index, (k.capture, (k.entries, tt)))).ensures tt k.result (k.index, (k.capture, (k.left, tt))))
+        (index.extend.clauses 𝓛 mem run k.lives (k.index, (k.capture, (k.entries, tt)))).ensures tt k.result (k.after, (k.capture, (k.left, tt))))
     -- and of `sbp_extend`, from the bytes that `sbp_index` made
     pub sbp_extend_calls : CallsGrow 𝓤 linked_extend_came
         (λ (k : LinkedExtend).
@@ -182,7 +190,7 @@ module _ {M : Type 1} {𝓤 : Ura M} (𝓛 : Logic 𝓤) (mem : Memory → SProp
         → ent 𝓤 P
         ((index.first.clauses 𝓛 mem run k.lives (k.index, (k.entries, (k.kind, (k.sender, (k.offset, tt)))))).ensures tt k.result
         (k.index, (k.entries, (k.kind, (k.sender, (k.offset, tt))))))
-        → k.result ≡ Found.At i e → IndexOf t k.index (take k.index.held k.entries.now)
+        → k.result ≡ Ok (Some (record { place = i; entry = e })) → IndexOf t k.index.now (take k.index.now.held k.entries.now)
         → ent 𝓤 P
         (fact 𝓤
         ((f : Frame) × FirstOf (Such k.kind k.sender k.offset) (open_frames t) i f
@@ -193,7 +201,7 @@ module _ {M : Type 1} {𝓤 : Ura M} (𝓛 : Logic 𝓤) (mem : Memory → SProp
         (k.index, (k.entries, (k.kind, (k.sender, (k.offset, (k.found, tt)))))))
     -- a type's count is the number of its frames among those read, and 21 is said exactly of a type without a reading
     pub count_calls : CallsCount 𝓤 count_came
-        (λ (k : Count). (index.count.clauses 𝓛 mem run tt (k.index, (k.kind, tt))).ensures tt k.result (k.index, (k.kind, tt)))
+        (λ (k : Count). (index.count.clauses 𝓛 mem run k.lives (k.index, (k.kind, tt))).ensures tt k.result (k.index, (k.kind, tt)))
     pub sbp_count_calls : CallsCount 𝓤 linked_count_came
         (λ (k : LinkedCount).
         (exports.sbp_count.clauses 𝓛 mem run k.lives (k.index, (k.kind, (k.count, tt)))).ensures tt k.number (k.index, (k.kind, (k.total, tt))))

@@ -1,6 +1,6 @@
 -- Document 01, "Order" and "Numbers given back", number by number: of each call the numbers of its refusals in order, and when each is given.
 -- A call is refused exactly when one of its own cases holds, by the first (`in_order`, Demand1.antt).
-use Rattle.std.specs.Prelude.{ℕ, ◌+◌, ◌-◌, ◌*◌, ◌/◌, ◌%◌, ◌^◌, ◌≤◌, ◌<◌, ◌≡◌, Bool, true, false, cond, ◌&&◌, List, [], ◌∷◌, ◌++◌, ◌↔◌, ◌⊎◌, ℤ, pos, neg_ℤ, leb, eqb, length, get_or, drop}
+use Rattle.std.specs.Prelude.{ℕ, ◌+◌, ◌-◌, ◌*◌, ◌/◌, ◌%◌, ◌^◌, ◌≤◌, ◌<◌, ◌≡◌, Bool, true, false, cond, ◌&&◌, List, [], ◌∷◌, ◌++◌, ◌↔◌, ◌⊎◌, ℤ, pos, neg_ℤ, leb, eqb, length, get_or, drop, Option, Some, None}
 use Rattle.std.specs.Int.Signed.{le_z}
 use Rattle.wire.specs.Number.{number_at}
 use Rattle.refusals.specs.Refusals.{Tests, Call}
@@ -26,7 +26,6 @@ use Rattle.row_writer.specs.WriteRow.{alone, body_of, writing_row}
 use Rattle.row_writer.specs.WriteObsRow.{writing_obs_row}
 use Rattle.epochs.specs.Search.{seat_of}
 use Rattle.groups.specs.declared.grouping.Part.{Part}
-use Rattle.groups.specs.declared.grouping.Group.TheVariants.{Open}
 use Rattle.epochs.specs.Collator.{seat_number, placing, idle, feeding, rostering, roster_of}
 use Rattle.epochs.specs.declared.collating.Collator.{Collator}
 use Rattle.listing.specs.Listing.{text_of, listing}
@@ -34,7 +33,7 @@ use Rattle.frame_rows.specs.Found.{finding}
 use Rattle.frame_rows.specs.Totals.{totalling}
 use Rattle.index.specs.Index.{extending, asking, counting}
 use Rattle.index.specs.declared.entry.Entry.{Entry}
-use Rattle.index.specs.declared.planning.Index.{Index}
+use Rattle.index.specs.declared.index.Index.{Index}
 use Rattle.lent_index.specs.Bytes.{in_bytes}
 use Rattle.indexed.specs.Growing.{counted_kinds}
 use Rattle.indexed.specs.Asking.{Among}
@@ -93,7 +92,7 @@ frame_cases roster x =
 -- document 02, P7: "whose counter has come already", at the sender's own place, which is open with the frame's tow, wn and n; bit i is counter i
 pub record HasCome (c : Collator) (x : Content) : Type 0 where
   pub part : Part
-  pub open_there : (get_or c.places (seat_number (seat_of (roster_of c) x.sender 0)) idle).group ≡ Open part
+  pub open_there : (get_or c.places (seat_number (seat_of (roster_of c) x.sender 0)) idle).group ≡ Some part
   pub tow : part.key.tow ≡ number_at 4 x.payload 0
   pub wn : part.key.wn ≡ number_at 2 x.payload 4
   pub n : part.key.n ≡ n_in x.payload
@@ -143,19 +142,19 @@ columns =
     (0x0401, C.Log) ∷
     []
 
-unfoldable pub column_of : List (ℕ × Check) → ℕ → Check
-column_of [] kind = C.Unknown
-column_of (c ∷ cs) kind = cond (eqb kind c.0) c.1 (column_of cs kind)
+unfoldable pub column_of : List (ℕ × Check) → ℕ → Option Check
+column_of [] kind = None
+column_of (c ∷ cs) kind = cond (eqb kind c.0) (Some c.1) (column_of cs kind)
 
 -- what a payload is tested for by its column: 21 for a type that is not there
-abbrev pub column_tests : Check → List ℕ → Tests
-column_tests C.Unknown s = (false, 21) ∷ []
-column_tests (C.Length n) s = (true, 21) ∷ (eqb (length s) n, 22) ∷ (true, 23) ∷ []
-column_tests (C.Ns n at) s =
+abbrev pub column_tests : Option Check → List ℕ → Tests
+column_tests None s = (false, 21) ∷ []
+column_tests (Some (C.Length n)) s = (true, 21) ∷ (eqb (length s) n, 22) ∷ (true, 23) ∷ []
+column_tests (Some (C.Ns n at)) s =
     let ns = value_at s32 s at in (true, 21) ∷ (eqb (length s) n, 22) ∷ (le_z (neg_ℤ (pos 500000)) ns && le_z ns (pos 500000), 23) ∷ []
-column_tests (C.Fix n at last) s = (true, 21) ∷ (eqb (length s) n, 22) ∷ (leb (value_at u8 s at % 8) last, 23) ∷ []
-column_tests C.Obs s = (true, 21) ∷ (eqb (length s % 16) 7 && leb (length s) 247, 22) ∷ (true, 23) ∷ []
-column_tests C.Log s = (true, 21) ∷ (leb 1 (length s) && leb (length s) 255, 22) ∷ (all_zero (from_zero (drop 1 s)), 23) ∷ []
+column_tests (Some (C.Fix n at last)) s = (true, 21) ∷ (eqb (length s) n, 22) ∷ (leb (value_at u8 s at % 8) last, 23) ∷ []
+column_tests (Some C.Obs) s = (true, 21) ∷ (eqb (length s % 16) 7 && leb (length s) 247, 22) ∷ (true, 23) ∷ []
+column_tests (Some C.Log) s = (true, 21) ∷ (leb 1 (length s) && leb (length s) 255, 22) ∷ (all_zero (from_zero (drop 1 s)), 23) ∷ []
 
 pub record Order : Type 1 where
   -- "Reading: 21, 22, 23." By document 01's table; and of the reader of one type

@@ -21,7 +21,7 @@ use Rattle.row_writer.specs.WriteRow.{body_of, writing_row, write_row, row_writt
 use Rattle.row_writer.specs.WriteObsRow.{observed_of, writing_obs_row, write_obs_row, obs_row_written}
 use Rattle.epochs.specs.Collator.{feeding, fed_frame, rostering, made}
 use Rattle.epochs.specs.declared.collating.Collator.{Collator}
-use Rattle.epochs.specs.declared.collating.Happened.TheVariants as H
+use Rattle.epochs.specs.Happened as H
 use Rattle.listing.specs.Listing.{text_of, listing, list_answer, with_listing}
 use Rattle.lent_rows.specs.Lent.{at_front}
 use Rattle.frame_rows.specs.Found.{found_fields, found_values, found_in, number_in, finding, next_answer, next_stored}

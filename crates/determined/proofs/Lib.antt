@@ -1,3 +1,4 @@
 pub mod Determining
+pub mod Said
 pub mod Public
 pub mod All

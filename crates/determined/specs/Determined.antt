@@ -33,17 +33,26 @@ SameLast κs (s ∷ ss) ks a v w = SameAt ((s.row κs).exit ks.0) a.0 v.0 w.0 (S
 
 -- the clauses c of a function, at a model of the logic; what is looked at of its result
 module _ {M : Type 1} (𝓤 : Ura M) (T : Ended) (c : Clauses 𝓤 T) where
+  -- where its `ensures` holds of two ends of a call, they are one
+  abbrev pub OneEnd : (Shown : Lfts T.signature.lifetimes → Type 0) → ((κs : Lfts T.signature.lifetimes) → Res T.signature κs → Shown κs) → Type 1
+  OneEnd Shown shown =
+      (k : Ends T) (g : (c k.lives k.inputs).ghost)
+      → ent 𝓤
+      (conj 𝓤
+      ((c k.lives k.inputs).ensures g k.one (at_exit T k.lives k.inputs k.one_last))
+      ((c k.lives k.inputs).ensures g k.other (at_exit T k.lives k.inputs k.other_last)))
+      (fact 𝓤 ((shown k.lives k.one ≡ shown k.lives k.other) × SameLast k.lives T.signature.params T.kept k.inputs k.one_last k.other_last))
+
   pub record DeterminedAs (Shown : Lfts T.signature.lifetimes → Type 0) (shown : (κs : Lfts T.signature.lifetimes) → Res T.signature κs → Shown κs) : Type 1 where
     -- it has no `requires`, and takes no ghost that a caller would have to find
     pub asks_nothing : (κs : Lfts T.signature.lifetimes) (a : Args T.signature κs) → (c κs a).ghost × ((g : (c κs a).ghost) → ent 𝓤 (emp 𝓤) ((c κs a).requires g))
-    -- where its `ensures` holds of two ends of a call, they are one
-    pub one_end : (k : Ends T) (g : (c k.lives k.inputs).ghost)
-        → ent 𝓤
-        (conj 𝓤
-        ((c k.lives k.inputs).ensures g k.one (at_exit T k.lives k.inputs k.one_last))
-        ((c k.lives k.inputs).ensures g k.other (at_exit T k.lives k.inputs k.other_last)))
-        (fact 𝓤 ((shown k.lives k.one ≡ shown k.lives k.other) × SameLast k.lives T.signature.params T.kept k.inputs k.one_last k.other_last))
+    pub one_end : OneEnd Shown shown
 
   -- the result itself
   abbrev pub Determined : Type 1
   Determined = DeterminedAs (λ κs. Res T.signature κs) (λ κs r. r)
+
+  -- the same of a function of any types: all that it asks is that the lifetimes of a call lie within those of its types, as they do at every call
+  pub record DeterminedWithin (Within : Lfts T.signature.lifetimes → Type 0) : Type 1 where
+    pub asks_lifetimes : (κs : Lfts T.signature.lifetimes) (a : Args T.signature κs) → Within κs → (c κs a).ghost × ((g : (c κs a).ghost) → ent 𝓤 (emp 𝓤) ((c κs a).requires g))
+    pub one_end : OneEnd (λ κs. Res T.signature κs) (λ κs r. r)

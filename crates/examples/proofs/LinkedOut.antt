@@ -16,7 +16,7 @@ use Rattle.frames.specs.Reading.{read_from, closed_steps, counts_of}
 use Rattle.frames.specs.Cursors.{next_of}
 use Rattle.epochs.specs.Collator.{made}
 use Rattle.epochs.specs.Epoch.{EndsEpoch}
-use Rattle.epochs.specs.declared.collating.Happened.TheVariants as H
+use Rattle.epochs.specs.Happened as H
 use Rattle.epochs.proofs.Searches.{names_at}
 use Rattle.epochs.proofs.Making.{accepted}
 use Rattle.payloads.proofs.Entries.{both}

@@ -19,7 +19,7 @@ use Rattle.epochs.specs.Collator.{fed_frame, made}
 use Rattle.epochs.specs.Epoch.{after, EndsEpoch}
 use Rattle.frames.specs.Frame.{Content}
 use Rattle.epochs.specs.declared.collating.Collator.{Collator}
-use Rattle.epochs.specs.declared.collating.Happened.TheVariants as H
+use Rattle.epochs.specs.Happened as H
 use Rattle.epochs.proofs.Searches.{names_at}
 use Rattle.epochs.proofs.Making.{accepted, seated}
 use Rattle.epochs.proofs.Collations.{epoch_outcome}

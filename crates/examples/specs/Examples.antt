@@ -18,8 +18,8 @@ use Rattle.payloads.specs.declared.Message.{Message}
 use Rattle.payloads.specs.declared.Message.TheVariants as M
 use Rattle.epochs.specs.Collator.{fed_frame, made}
 use Rattle.frames.specs.Frame.{Content}
-use Rattle.epochs.specs.declared.collating.Happened.{Happened}
-use Rattle.epochs.specs.declared.collating.Happened.TheVariants as H
+use Rattle.epochs.specs.Happened.{Happened}
+use Rattle.epochs.specs.Happened as H
 
 -- what an example asks, and what document 01 answers
 pub data Example : Type 0 where

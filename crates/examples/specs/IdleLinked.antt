@@ -9,7 +9,7 @@ use Rattle.frames.specs.declared.cursor.Next as Next
 use Rattle.epochs.specs.Collator.{made}
 use Rattle.epochs.specs.Epoch.{EndsEpoch}
 use Rattle.epochs.specs.declared.collating.Report.{Report}
-use Rattle.epochs.specs.declared.collating.Happened.TheVariants as H
+use Rattle.epochs.specs.Happened as H
 use Rattle.lent_rows.specs.Lent.{at_front}
 use Rattle.frame_rows.specs.Found.{found_fields, found_values, found_in, number_in, next_answer, next_stored}
 use Rattle.frame_rows.specs.Totals.{totals_fields, totals_row, totals_answer, totals_stored}

@@ -1,5 +1,5 @@
 -- The calls of an index, each by its own contract: in Rattle, and as C and Rust link them, with the index in the caller's bytes.
-use Rattle.std.specs.Prelude.{true, cond, List, [], map, ℕ, ◌-◌, ◌^◌, leb, length, replicate}
+use Rattle.std.specs.Prelude.{true, List, [], map, ℕ, length, replicate, Option, Some, None, Result}
 use seplogic.Ra.Ura.{Ura}
 use base.Logic.{SProp}
 use prog.Memory.{Memory}
@@ -7,17 +7,15 @@ use prog.Routine.{Routine}
 use types.Logic.{Logic}
 use contract.Monad.{Fun}
 use Rattle.std.specs.Borrow.{Bor, MutBor}
-use Rattle.refusals.specs.Refusals.{Answer, reply, leaves, as_number, zero_or}
+use Rattle.refusals.specs.Refusals.{Answer, Call, reply, mapped, leaves, zero_or}
 use Rattle.frames.specs.Reading.{steps, frames_of}
-use Rattle.index.specs.Index.{entry_of, written, extending, asking, sought_answer, counting}
+use Rattle.index.specs.Index.{entry_of, written, extending, Hit, at, nowhere, asking, counting}
 use Rattle.index.specs.declared.entry.Entry.{Entry}
-use Rattle.index.specs.declared.planning.Index.{Index}
-use Rattle.index.specs.declared.planning.Indexed.{Indexed}
-use Rattle.index.specs.declared.asking.Sought.TheVariants as Sought
-use Rattle.index.specs.declared.counting.Counted.TheVariants as Counted
+use Rattle.index.specs.declared.index.Index.{Index}
+use Rattle.index.specs.declared.asking.Found.{Found}
+use Rattle.refusals.specs.declared.Refusal.{Refusal}
 use Rattle.lent_index.specs.Bytes.{in_bytes, index_from_bytes, index_stored, hit_number, place_or}
-use Rattle.lent_index.specs.Inner.{settled_number, settled_in, unless_short}
-use Rattle.calls.specs.Replies.{hands_back, sought_of, fills}
+use Rattle.calls.specs.Replies.{result_of, hands_back, done_or, fills}
 use Rattle.calls.specs.Gives.{Gives}
 use Rattle.index.specs.contracts as index
 use Rattle.lent_index.specs.contracts as lent_index
@@ -42,13 +40,25 @@ Space = MutBor (List Entry)
 abbrev pub entered : Index → List ℕ → List Entry → List Entry
 entered x s = written x.held (map entry_of (frames_of (steps true s x.reached)))
 
--- 0 and the index, or a refusal's number and the index as it was
-abbrev pub indexed : Index → Answer Index → Indexed
-indexed x a = record { answer = zero_or a; index = leaves (λ new old. new) a x }
+-- nothing, or a refusal
+abbrev pub done : {A : Type 0} → Answer A → Result (Unit {0}) Refusal
+done a = done_or (zero_or a)
 
-abbrev pub extend_gives : Index → Lent → Space → Indexed × (List Entry × Unit {0})
+abbrev pub Kept : Type 0
+Kept = MutBor Index
+
+abbrev pub extend_gives : Kept → Lent → Space → Result (Unit {0}) Refusal × (Index × (List Entry × Unit {0}))
 extend_gives x capture entries =
-    let a = reply (extending x capture.now (length entries.now)) in (indexed x a, (leaves (λ new. entered x capture.now) a entries.now, tt))
+    let a = reply (extending x.now capture.now (length entries.now)) in
+    (done a, (leaves (λ new old. new) a x.now, (leaves (λ new. entered x.now capture.now) a entries.now, tt)))
+
+-- what was found of a hit
+abbrev pub found_of : Hit → Option Found
+found_of (at i e) = Some (record { place = i; entry = e })
+found_of nowhere = None
+
+abbrev pub found_by : Call Hit → Result (Option Found) Refusal × Unit {0}
+found_by c = (result_of (mapped found_of (reply c)), tt)
 
 abbrev pub make_gives : Buffer → ℕ × (List ℕ × Unit {0})
 make_gives bytes =
@@ -73,8 +83,8 @@ module _ {M : Type 1} {𝓤 : Ura M} (𝓛 : Logic 𝓤) (mem : Memory → SProp
     pub empty : Gives 𝓤 index.empty.ended (index.empty.clauses 𝓛 mem run) (λ κs. (record { reached = 0; held = 0; counts = replicate 24 0 }, tt))
     pub extend : Gives 𝓤 index.extend.ended (index.extend.clauses 𝓛 mem run) (λ κs. extend_gives)
     pub first : Gives 𝓤 index.first.ended (index.first.clauses 𝓛 mem run)
-        (λ κs x entries kind sender offset. hands_back sought_of Sought.Refused (asking x entries.now kind sender offset))
-    pub count : Gives 𝓤 index.count.ended (index.count.clauses 𝓛 mem run) (λ κs x kind. hands_back Counted.Frames Counted.Refused (counting x kind))
+        (λ κs x entries kind sender offset. found_by (asking x.now entries.now kind sender offset))
+    pub count : Gives 𝓤 index.count.ended (index.count.clauses 𝓛 mem run) (λ κs x kind. hands_back (counting x.now kind))
 
   -- what C and Rust link
   pub record LinkedIndexes : Type 1 where
@@ -85,15 +95,12 @@ module _ {M : Type 1} {𝓤 : Ura M} (𝓛 : Logic 𝓤) (mem : Memory → SProp
 
   -- the functions behind them
   pub record BehindIndexes : Type 1 where
-    pub make : Gives 𝓤 lent_index.make.ended (lent_index.make.clauses 𝓛 mem run) (λ κs. make_gives)
+    pub make : Gives 𝓤 lent_index.make.ended (lent_index.make.clauses 𝓛 mem run)
+        (λ κs bytes. let r = make_gives bytes in (done_or r.0, r.1))
     pub index_in : Gives 𝓤 lent_index.index_in.ended (lent_index.index_in.clauses 𝓛 mem run) (λ κs bytes. (index_from_bytes bytes.now, tt))
-    -- bytes that are too few stand for an index past every capture
-    pub extendable : Gives 𝓤 lent_index.extendable.ended (lent_index.extendable.clauses 𝓛 mem run)
-        (λ κs bytes. (cond (leb 208 (length bytes.now)) (index_from_bytes bytes.now) (record { reached = 2 ^ 64 - 1; held = 0; counts = replicate 24 0 }), tt))
-    pub settle : Gives 𝓤 lent_index.settle.ended (lent_index.settle.clauses 𝓛 mem run)
-        (λ κs bytes done. (settled_number (length bytes.now) done, (settled_in done bytes.now, tt)))
-    pub hand_place : Gives 𝓤 lent_index.hand_place.ended (lent_index.hand_place.clauses 𝓛 mem run)
-        (λ κs bytes sought place.
-        let a = unless_short (length bytes.now) (sought_answer sought) in
-        (as_number hit_number a, (leaves place_or a place.now, tt)))
-    pub count_in : Gives 𝓤 lent_index.count_in.ended (lent_index.count_in.clauses 𝓛 mem run) (λ κs. count_in_gives)
+    pub extend : Gives 𝓤 lent_index.extend.ended (lent_index.extend.clauses 𝓛 mem run)
+        (λ κs bytes capture entries. let r = extend_in_gives bytes capture entries in (done_or r.0, r.1))
+    pub first : Gives 𝓤 lent_index.first.ended (lent_index.first.clauses 𝓛 mem run)
+        (λ κs bytes entries kind sender offset. found_by (in_bytes bytes.now (asking (index_from_bytes bytes.now) entries.now kind sender offset)))
+    pub count : Gives 𝓤 lent_index.count.ended (lent_index.count.clauses 𝓛 mem run)
+        (λ κs bytes kind. hands_back (in_bytes bytes.now (counting (index_from_bytes bytes.now) kind)))

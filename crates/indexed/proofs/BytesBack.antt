@@ -23,7 +23,7 @@ use Rattle.frames.specs.Cursors.{plus}
 use Rattle.frames.specs.declared.step.Frame.{Frame}
 use Rattle.payloads.specs.Places.{message_count, place_for}
 use Rattle.index.specs.Index.{frames_from, counted, counted_all, empty, extended}
-use Rattle.index.specs.declared.planning.Index.{Index}
+use Rattle.index.specs.declared.index.Index.{Index}
 use Rattle.lent_index.specs.Bytes.{index_size, head_fields, count_fields, counts_at, count_at, index_from_bytes, head_row, count_row, index_stored, make_in, kept_in}
 use Rattle.indexed.proofs.InBytes.{in_bytes_lem}
 use Rattle.indexed.proofs.ReadsOn.{stop_inside}

@@ -13,10 +13,12 @@ use Rattle.refusals.specs.Refusals.{Answer, given, leaves, zero_or, reply}
 use Rattle.refusals.specs.Refusals as R
 use Rattle.payloads.specs.Payloads.{known_for}
 use Rattle.payloads.specs.Places.{place_for}
-use Rattle.index.specs.Index.{counting, count_in, count_answer}
+use Rattle.index.specs.Index.{counting, count_in}
 use Rattle.index.specs.declared.entry.Entry.{Entry}
-use Rattle.index.specs.declared.planning.Index.{Index}
-use Rattle.index.specs.declared.counting.Counted.{Counted}
+use Rattle.index.specs.declared.index.Index.{Index}
+use Rattle.std.specs.Prelude.{Result}
+use Rattle.refusals.specs.Numbers.{answer_of}
+use Rattle.refusals.specs.declared.Refusal.{Refusal}
 use Rattle.lent_index.specs.Bytes.{index_from_bytes, count_in_bytes, count_or}
 use Rattle.indexed.specs.Growing.{open_frames, IndexOf, number, counted_kinds}
 use Rattle.indexed.specs.Asking.{Tallied, Among, CallsCount}
@@ -88,9 +90,9 @@ module _ (room : ℕ) (x : Index) (kind : ℕ) where
   unfolding count_in
   judged_count e = subst Judged (sym e) judged
 
-  pub counts_by : (old n new : ℕ) (c : Counted) → count_answer c ≡ count_in x kind → n ≡ zero_or (count_answer c)
-      → new ≡ leaves (λ (m before : ℕ). m) (count_answer c) old → Tells (record { room = room; index = x; kind = kind; number = n; count = new })
-  counts_by old n new c e p q = tells_as old n new (count_answer c) (judged_count e) p q
+  pub counts_by : (old n new : ℕ) (c : Result ℕ Refusal) → answer_of c ≡ count_in x kind → n ≡ zero_or (answer_of c)
+      → new ≡ leaves (λ (m before : ℕ). m) (answer_of c) old → Tells (record { room = room; index = x; kind = kind; number = n; count = new })
+  counts_by old n new c e p q = tells_as old n new (answer_of c) (judged_count e) p q
 
 -- in bytes
 module _ (b : List ℕ) (kind : ℕ) where

@@ -16,9 +16,10 @@ use Rattle.refusals.specs.Refusals as R
 use Rattle.frames.specs.declared.step.Frame.{Frame}
 use Rattle.index.specs.Index.{entry_of, hits, Hit, at, nowhere, seek, asking, first_in, sought_answer}
 use Rattle.index.specs.declared.entry.Entry.{Entry}
-use Rattle.index.specs.declared.planning.Index.{Index}
-use Rattle.index.specs.declared.asking.Sought.{Sought}
-use Rattle.index.specs.declared.asking.Sought.TheVariants as F
+use Rattle.index.specs.declared.index.Index.{Index}
+use Rattle.std.specs.Prelude.{Option, Some, Result, Ok}
+use Rattle.refusals.specs.declared.Refusal.{Refusal}
+use Rattle.index.specs.declared.asking.Found.{Found}
 use Rattle.lent_index.specs.Bytes.{index_from_bytes, first_in_bytes, hit_number, place_or}
 use Rattle.indexed.specs.Growing.{open_frames, IndexOf}
 use Rattle.indexed.specs.Asking.{Such, NoneOf, FirstOf, Asked, Wanted, CallsFind}
@@ -136,7 +137,7 @@ module _ (room : ℕ) (x : Index) (list : List Entry) (kind sender offset : ℕ)
     finds_as b (short l e) p q = refused (inl (p ∙ ap (as_number hit_number) e, l)) (q ∙ ap (λ (c : Answer Hit). leaves place_or c old) e)
     finds_as b (unfit few e) p q = refused (inr (p ∙ ap (as_number hit_number) e, few)) (q ∙ ap (λ (c : Answer Hit). leaves place_or c old) e)
 
-  pub finds_by : (old n new : ℕ) (a : Sought) → sought_answer a ≡ first_in x list kind sender offset
+  pub finds_by : (old n new : ℕ) (a : Result (Option Found) Refusal) → sought_answer a ≡ first_in x list kind sender offset
       → n ≡ as_number hit_number (sought_answer a) → new ≡ leaves place_or (sought_answer a) old → Finds (come_to old n new)
   finds_by old n new a e p q = finds_as old n new (sought_answer a) (judged_first e) p q
 
@@ -145,18 +146,18 @@ module _ (room : ℕ) (x : Index) (list : List Entry) (kind sender offset : ℕ)
   gave (given h) = h
   gave (R.refused n) = nowhere
 
-  abbrev Some : Hit → Type 0
-  Some (at i e) = Unit {0}
-  Some nowhere = ⊥
+  abbrev There : Hit → Type 0
+  There (at i e) = Unit {0}
+  There nowhere = ⊥
 
-  pub entry_found : (t : List ℕ) (a : Sought) {i : ℕ} {e : Entry} → sought_answer a ≡ first_in x list kind sender offset → a ≡ F.At i e
+  pub entry_found : (t : List ℕ) (a : Result (Option Found) Refusal) {i : ℕ} {e : Entry} → sought_answer a ≡ first_in x list kind sender offset → a ≡ Ok (Some (record { place = i; entry = e }))
       → IndexOf t x (take x.held list) → (f : Frame) × FirstOf (Such kind sender offset) (open_frames t) i f × (e ≡ entry_of f)
   entry_found t a {i} {e} asked is of = by (sought_answer a) (judged_first asked) (ap sought_answer is)
     where
       by : (b : Answer Hit) → Judged b → b ≡ given (at i e) → (f : Frame) × FirstOf (Such kind sender offset) (open_frames t) i f × (e ≡ entry_of f)
       by b (looks fits q) p = first_told kind sender offset t x list (take x.held list) of refl i e (ap gave (sym q ∙ p))
-      by b (short l q) p = absurd (subst Some (ap gave (sym p ∙ q)) tt)
-      by b (unfit few q) p = absurd (subst Some (ap gave (sym p ∙ q)) tt)
+      by b (short l q) p = absurd (subst There (ap gave (sym p ∙ q)) tt)
+      by b (unfit few q) p = absurd (subst There (ap gave (sym p ∙ q)) tt)
 
 -- in bytes
 module _ (b : List ℕ) (list : List Entry) (kind sender offset : ℕ) where

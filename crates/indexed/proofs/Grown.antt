@@ -17,10 +17,9 @@ use Rattle.refusals.specs.Refusals.{Answer, given, leaves, zero_or, reply}
 use Rattle.refusals.specs.Refusals as R
 use Rattle.wire.specs.Number.{Bytes}
 use Rattle.stays.specs.Stays.{Leads}
-use Rattle.index.specs.Index.{entry_of, frames_from, entries_from, empty, extended, written, extending, extend_in, extended_by, entries_after}
+use Rattle.index.specs.Index.{entry_of, frames_from, entries_from, empty, extended, written, extending, extend_in, index_after, entries_after}
 use Rattle.index.specs.declared.entry.Entry.{Entry}
-use Rattle.index.specs.declared.planning.Index.{Index}
-use Rattle.index.specs.declared.planning.Indexed.{Indexed}
+use Rattle.index.specs.declared.index.Index.{Index}
 use Rattle.lent_index.specs.Bytes.{index_size, index_from_bytes, kept_in, extend_in_bytes, list_after}
 use Rattle.indexed.specs.Growing.{IndexOf, Grows, Extension, Why, Lent, Calls, CallsGrow}
 use Rattle.indexed.proofs.InBytes.{in_bytes_lem}
@@ -244,12 +243,11 @@ module _ (room : ℕ) (x : Index) (s : List ℕ) (list : List Entry) where
   extends_as a (stays m e why) n after left num new old l =
       refused (subst⁻¹ (Why room x s (length list)) (num ∙ ap zero_or e) why) (old m e) (l ∙ ap list_left e)
 
-  pub extends_by : (left : List Entry) (r : Indexed) → r ≡ extended_by x s (length list) → left ≡ entries_after x s list
-      → Extends (record { room = room; index = x; capture = s; list = list; answer = r.answer; after = r.index; left = left })
+  pub extends_by : (n : ℕ) (after : Index) (left : List Entry) → n ≡ zero_or (extend_in x s (length list)) → after ≡ index_after x s (length list)
+      → left ≡ entries_after x s list → Extends (record { room = room; index = x; capture = s; list = list; answer = n; after = after; left = left })
   unfolding extend_in
-  extends_by left r e l =
-      let kept : r.index ≡ leaves (λ (new old : Index). new) (reply (extending x s (length list))) x = ap (λ (i : Indexed). i.index) e in
-      extends_as (reply (extending x s (length list))) judged r.answer r.index left (ap (λ (i : Indexed). i.answer) e)
+  extends_by n after left e kept l =
+      extends_as (reply (extending x s (length list))) judged n after left e
       (λ inside fits g. kept ∙ ap (λ (a : Answer Index). leaves (λ (new old : Index). new) a x) g)
       (λ m g. kept ∙ ap (λ (a : Answer Index). leaves (λ (new old : Index). new) a x) g) l
 

@@ -10,7 +10,7 @@ use borrow.Author.Tests.{eqb-true, leb-true, eq-eqb, le-leb}
 use Rattle.frames.specs.declared.step.Frame.{Frame}
 use Rattle.index.specs.Index.{entry_of, hits, Hit, at, nowhere, seek}
 use Rattle.index.specs.declared.entry.Entry.{Entry}
-use Rattle.index.specs.declared.planning.Index.{Index}
+use Rattle.index.specs.declared.index.Index.{Index}
 use Rattle.indexed.specs.Growing.{open_frames, IndexOf}
 use Rattle.indexed.specs.Asking.{Such, NoneOf, FirstOf}
 

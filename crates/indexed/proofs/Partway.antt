@@ -11,7 +11,7 @@ use Rattle.frames.specs.Reading.{Positioned, steps, open_steps, frames_of, count
 use Rattle.stays.specs.Stays.{Leads}
 use Rattle.index.specs.Index.{entry_of, stop_from, entries_from, counted_all, empty, extended}
 use Rattle.index.specs.declared.entry.Entry.{Entry}
-use Rattle.index.specs.declared.planning.Index.{Index}
+use Rattle.index.specs.declared.index.Index.{Index}
 use Rattle.index.proofs.Onward.{few_frames}
 use Rattle.indexed.specs.Growing.{open_frames, IndexOf}
 use Rattle.indexed.proofs.ReadsOn.{reads_on, stopped_there, sum_append, frames_append, counted_append}

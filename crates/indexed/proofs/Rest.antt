@@ -18,7 +18,7 @@ use Rattle.frames.specs.declared.step.Step.TheVariants.{Finished, Junk, Short, B
 use Rattle.frames.specs.declared.step.Frame.{Frame}
 use Rattle.index.specs.Index.{entry_of, frames_from, stop_from, entries_from, counted_all, extended}
 use Rattle.index.specs.Index as index
-use Rattle.index.specs.declared.planning.Index.{Index}
+use Rattle.index.specs.declared.index.Index.{Index}
 use Rattle.indexed.specs.Growing.{lowered, raised, OfTheRest}
 
 -- the step at p by the five tests, none of which looks at p

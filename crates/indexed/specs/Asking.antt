@@ -7,7 +7,7 @@ use base.Logic.{SProp, ent}
 use contract.Monad.{fact}
 use Rattle.frames.specs.declared.step.Frame.{Frame}
 use Rattle.index.specs.declared.entry.Entry.{Entry}
-use Rattle.index.specs.declared.planning.Index.{Index}
+use Rattle.index.specs.declared.index.Index.{Index}
 use Rattle.indexed.specs.Growing.{IndexOf, open_frames, number, counted_kinds}
 
 -- a frame that is asked for

@@ -9,7 +9,7 @@ use Rattle.frames.specs.declared.step.Frame.{Frame}
 use Rattle.stays.specs.Stays.{Leads}
 use Rattle.index.specs.Index.{empty, extended, entries_from}
 use Rattle.index.specs.declared.entry.Entry.{Entry}
-use Rattle.index.specs.declared.planning.Index.{Index}
+use Rattle.index.specs.declared.index.Index.{Index}
 
 -- ---- the index of a capture, from its full open reading
 

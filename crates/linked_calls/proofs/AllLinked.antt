@@ -17,9 +17,13 @@ use Rattle.frame_rows.specs.Totals.{totals_for}
 use Rattle.states.specs.Feed.{made_in, move_in, fed_in}
 use Rattle.states.specs.Enlist.{growing_in, enlist_in}
 use Rattle.calls.proofs.Giving as by
+use Rattle.linked_calls.proofs.Numbered as numbered
 use Rattle.linked_calls.specs.LinkedCalls as linked
 
 ruleset givings = (by.plain, by.plain_stored, by.plain_stored_stored)
+
+-- of the functions behind them
+ruleset results = (by.answered, by.answered_stored, by.numbered_stored, numbered.found, numbered.ended)
 
 module _ {M : Type 1} {𝓤 : Ura M} (𝓛 : Logic 𝓤) (mem : Memory → SProp 𝓤) (run : Routine → Fun 𝓤) where
   pub reads : linked.Reads 𝓛 mem run
@@ -40,4 +44,4 @@ module _ {M : Type 1} {𝓤 : Ura M} (𝓛 : Logic 𝓤) (mem : Memory → SProp
 
   pub behind : linked.Behind 𝓛 mem run
   unfolding next_from totals_for read_row read_one planned with_frame write_row row_written write_obs_row obs_row_written made_in move_in fed_in growing_in enlist_in read_phase
-  behind = search givings
+  behind = search results

@@ -1,5 +1,5 @@
 -- Every function that C and Rust link, by its own contract, and those of the libraries that they pass their calls on to.
-use Rattle.std.specs.Prelude.{◌++◌, drop}
+use Rattle.std.specs.Prelude.{◌++◌, drop, length}
 use seplogic.Ra.Ura.{Ura}
 use base.Logic.{SProp}
 use prog.Memory.{Memory}
@@ -10,15 +10,17 @@ use Rattle.wire.specs.Number.{flag_at}
 use Rattle.crc.specs.Crc.{crc_from}
 use Rattle.senders.specs.Senders.{carried, writer_from}
 use Rattle.phases.specs.Phase.{phase_of}
+use Rattle.row_writer.specs.WriteRow.{writing_row}
+use Rattle.row_writer.specs.WriteObsRow.{writing_obs_row}
+use Rattle.calls.specs.Replies.{hands_back, puts}
 use Rattle.calls.specs.Gives.{Gives}
-use Rattle.phases.specs.contracts as phases
 use Rattle.row_reader.specs.contracts as row_reader
 use Rattle.row_writer.specs.contracts as row_writer
 use Rattle.frame_rows.specs.contracts as frame_rows
 use Rattle.flag_numbers.specs.contracts as flag_numbers
 use Rattle.states.specs.contracts as states
 use Rattle.exports.specs.contracts as exports
-use Rattle.linked_calls.specs.Linked.{next_gives, totals_gives, list_gives, answer_gives, read_gives, observation_gives, write_gives, write_obs_gives, write_log_gives, write_frame_gives, collator_gives, growing_gives, enlist_gives, feed_gives, parts_gives, fix_gives, available_gives, repaired_gives, above_sea_gives}
+use Rattle.linked_calls.specs.Linked.{next_gives, totals_gives, list_gives, answer_gives, read_gives, observation_gives, write_gives, write_obs_gives, write_log_gives, write_frame_gives, collator_gives, growing_gives, enlist_gives, feed_gives, parts_gives, fix_gives, available_gives, repaired_gives, above_sea_gives, row_bytes, obs_row_bytes, handed, done, found_by, ended_by, asking_fix, asking_available, asking_repaired, asking_above_sea}
 
 -- at every model of the logic, as every contract is stated
 module _ {M : Type 1} {𝓤 : Ura M} (𝓛 : Logic 𝓤) (mem : Memory → SProp 𝓤) (run : Routine → Fun 𝓤) where
@@ -62,21 +64,22 @@ module _ {M : Type 1} {𝓤 : Ura M} (𝓛 : Logic 𝓤) (mem : Memory → SProp
     pub sbp_nap_error : Gives 𝓤 exports.sbp_nap_error.ended (exports.sbp_nap_error.clauses 𝓛 mem run) (λ κs flags. (flag_at flags 2, tt))
     pub sbp_external_antenna : Gives 𝓤 exports.sbp_external_antenna.ended (exports.sbp_external_antenna.clauses 𝓛 mem run) (λ κs flags. (flag_at flags 31, tt))
 
-  -- the functions behind them
+  -- the functions behind them; a flag that is asked for, of a type that has it
   pub record Behind : Type 1 where
-    pub next_row : Gives 𝓤 frame_rows.next_row.ended (frame_rows.next_row.clauses 𝓛 mem run) (λ κs. next_gives)
-    pub totals_row : Gives 𝓤 frame_rows.totals_row.ended (frame_rows.totals_row.clauses 𝓛 mem run) (λ κs. totals_gives)
-    pub read_row : Gives 𝓤 row_reader.read_row.ended (row_reader.read_row.clauses 𝓛 mem run) (λ κs. read_gives)
-    pub read_observation_row : Gives 𝓤 row_reader.read_observation_row.ended (row_reader.read_observation_row.clauses 𝓛 mem run) (λ κs. observation_gives)
-    pub write_row : Gives 𝓤 row_writer.write_row.ended (row_writer.write_row.clauses 𝓛 mem run) (λ κs out kind writer. write_gives out kind (carried kind writer))
-    pub write_obs_row : Gives 𝓤 row_writer.write_obs_row.ended (row_writer.write_obs_row.clauses 𝓛 mem run) (λ κs out kind writer. write_obs_gives out kind (carried kind writer))
-    pub send_frame : Gives 𝓤 row_writer.send_frame.ended (row_writer.send_frame.clauses 𝓛 mem run) (λ κs out kind writer. write_frame_gives out kind (carried kind writer))
-    pub make : Gives 𝓤 states.make.ended (states.make.clauses 𝓛 mem run) (λ κs. collator_gives)
-    pub grow : Gives 𝓤 states.grow.ended (states.grow.clauses 𝓛 mem run) (λ κs. growing_gives)
-    pub enlist : Gives 𝓤 states.enlist.ended (states.enlist.clauses 𝓛 mem run) (λ κs. enlist_gives)
-    pub feed : Gives 𝓤 states.feed.ended (states.feed.clauses 𝓛 mem run) (λ κs. feed_gives)
-    pub hand_parts : Gives 𝓤 phases.hand_parts.ended (phases.hand_parts.clauses 𝓛 mem run) (λ κs. parts_gives)
-    pub fix_of : Gives 𝓤 flag_numbers.fix_of.ended (flag_numbers.fix_of.clauses 𝓛 mem run) (λ κs. fix_gives)
-    pub raim_available_of : Gives 𝓤 flag_numbers.raim_available_of.ended (flag_numbers.raim_available_of.clauses 𝓛 mem run) (λ κs. available_gives)
-    pub raim_repaired_of : Gives 𝓤 flag_numbers.raim_repaired_of.ended (flag_numbers.raim_repaired_of.clauses 𝓛 mem run) (λ κs. repaired_gives)
-    pub above_sea_of : Gives 𝓤 flag_numbers.above_sea_of.ended (flag_numbers.above_sea_of.clauses 𝓛 mem run) (λ κs. above_sea_gives)
+    pub next_row : Gives 𝓤 frame_rows.next_row.ended (frame_rows.next_row.clauses 𝓛 mem run) (λ κs capture at opened found. handed found_by (next_gives capture at opened found))
+    pub totals_row : Gives 𝓤 frame_rows.totals_row.ended (frame_rows.totals_row.clauses 𝓛 mem run) (λ κs capture counts. done (totals_gives capture counts))
+    pub read_row : Gives 𝓤 row_reader.read_row.ended (row_reader.read_row.clauses 𝓛 mem run) (λ κs kind payload row. done (read_gives kind payload row))
+    pub read_observation_row : Gives 𝓤 row_reader.read_observation_row.ended (row_reader.read_observation_row.clauses 𝓛 mem run)
+        (λ κs kind payload index row. done (observation_gives kind payload index row))
+    pub write_row : Gives 𝓤 row_writer.write_row.ended (row_writer.write_row.clauses 𝓛 mem run)
+        (λ κs out kind writer row. puts (writing_row kind row.now (length out.now)) (row_bytes kind (carried kind writer) row.now) out.now)
+    pub write_obs_row : Gives 𝓤 row_writer.write_obs_row.ended (row_writer.write_obs_row.clauses 𝓛 mem run)
+        (λ κs out kind writer head rows. puts (writing_obs_row kind head.now rows.now (length out.now)) (obs_row_bytes kind (carried kind writer) head.now rows.now) out.now)
+    pub make : Gives 𝓤 states.make.ended (states.make.clauses 𝓛 mem run) (λ κs state roster. done (collator_gives state roster))
+    pub grow : Gives 𝓤 states.grow.ended (states.grow.clauses 𝓛 mem run) (λ κs state. done (growing_gives state))
+    pub enlist : Gives 𝓤 states.enlist.ended (states.enlist.clauses 𝓛 mem run) (λ κs state kind sender. done (enlist_gives state kind sender))
+    pub feed : Gives 𝓤 states.feed.ended (states.feed.clauses 𝓛 mem run) (λ κs state kind sender payload report. handed ended_by (feed_gives state kind sender payload report))
+    pub fix_of : Gives 𝓤 flag_numbers.fix_of.ended (flag_numbers.fix_of.clauses 𝓛 mem run) (λ κs kind flags. hands_back (asking_fix kind flags))
+    pub raim_available_of : Gives 𝓤 flag_numbers.raim_available_of.ended (flag_numbers.raim_available_of.clauses 𝓛 mem run) (λ κs kind flags. hands_back (asking_available kind flags))
+    pub raim_repaired_of : Gives 𝓤 flag_numbers.raim_repaired_of.ended (flag_numbers.raim_repaired_of.clauses 𝓛 mem run) (λ κs kind flags. hands_back (asking_repaired kind flags))
+    pub above_sea_of : Gives 𝓤 flag_numbers.above_sea_of.ended (flag_numbers.above_sea_of.clauses 𝓛 mem run) (λ κs kind flags. hands_back (asking_above_sea kind flags))

@@ -10,10 +10,9 @@ use borrow.Author.Tests.{ltb-true, ltb-false, leb-true}
 use Rattle.wire.specs.Number.{number_at}
 use Rattle.wire.proofs.Numbers.{number_lt}
 use Rattle.wire.proofs.Doubles.{bits_double_of}
-use Rattle.formats.proofs.Extended.{extended}
 use Rattle.payloads.specs.Payloads.{entry_for}
 use Rattle.rows_back.specs.FieldRows.{widened16, row_types, AllWritten, FieldRows}
-use Rattle.rows_back.proofs.OneRead.{widens}
+use Rattle.rows_back.proofs.OneRead.{extended, widens}
 
 widens_16 : (n : ℕ) → n < 2 ^ 16 → of_z w64 (to_z w16 n) ≡ widened16 n
 widens_16 n h = by (ltb n 0x8000) refl

@@ -2,11 +2,11 @@
 use mathlib.Core.Path.{◌≡◌, refl, sym, ap, ◌∙◌}
 use mathlib.Core.Bool.{Bool, true, false, cond}
 use mathlib.Core.List.{List}
-use Prim.Native.Nat.{ℕ, ◌+◌, ◌*◌, ◌^◌, ◌≤◌, ◌<◌}
+use Prim.Native.Nat.{ℕ, ◌+◌, ◌-◌, ◌*◌, ◌^◌, ◌≤◌, ◌<◌}
 use native.Mathlib.Omega.{arith}
 use lib.Dec.{ltb}
-use mir.Syntax.{w32, w64}
-use mir.Val.{to_z, of_z}
+use mir.Syntax.{Width, w32, w64}
+use mir.Val.{bits, hbits, to_z, of_z}
 use mir.ValLaws.{to_z_pos}
 use borrow.Author.Tests.{ltb-true, ltb-false, leb-true, lt-ltb, le-ltb, le-leb, lt-leb, ne_eqb}
 use Rattle.refusals.specs.Refusals.{refused, given}
@@ -14,13 +14,16 @@ use Rattle.wire.specs.Number.{Bytes, number_at}
 use Rattle.wire.proofs.Numbers.{number_lt}
 use Rattle.layouts.specs.Field.{decode}
 use Rattle.formats.specs.Wide.{wide_row}
-use Rattle.formats.proofs.Extended.{extended}
 use Rattle.observation.specs.Edition.{observation, is_obs}
 use Rattle.row_reader.specs.ReadRow.{read_one}
 use Rattle.rows_back.specs.ObsRows.{Holds, widened, eight_at}
 use Rattle.rows_back.proofs.ObsRead.{no_fit, fits, counted}
 
 -- ---- the numbers
+
+-- a signed number's bits as those of a wider type: from the half on, all upper bits are set
+pub extended : (w : Width) (n : ℕ) → 2 ^ bits w ≤ 2 ^ 64 → 2 ^ hbits w ≤ n → n < 2 ^ bits w → n + (2 ^ 64 - 2 ^ bits w) ≡ of_z w64 (to_z w n)
+extended w n wide high f = rw (le-ltb n (2 ^ hbits w) high) (omega arith)
 
 pub widens : (n : ℕ) → n < 2 ^ 32 → of_z w64 (to_z w32 n) ≡ widened n
 widens n h = by (ltb n 0x80000000) refl

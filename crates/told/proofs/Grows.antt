@@ -7,7 +7,7 @@ use lib.ListN.{length}
 use Rattle.frames.specs.Frame.{Content}
 use Rattle.epochs.specs.Collator.{fed_frame}
 use Rattle.epochs.specs.declared.collating.Collator.{Collator}
-use Rattle.epochs.specs.declared.collating.Happened.{Happened}
+use Rattle.epochs.specs.Happened.{Happened}
 use Rattle.enlisting.specs.Enlisting.{enlisted_to, new_outcomes, new_after}
 use Rattle.enlisting.proofs.Growing.{as_of_the_first}
 use Rattle.places.specs.State.{state_size, state_in}

@@ -11,8 +11,8 @@ use Rattle.epochs.specs.Collator.{fed_frame, made}
 use Rattle.epochs.specs.Epoch.{after, outcomes, EndsEpoch, BringsCopy}
 use Rattle.epochs.specs.declared.collating.Collator.{Collator}
 use Rattle.epochs.specs.declared.collating.Report.{Report}
-use Rattle.epochs.specs.declared.collating.Happened.{Happened}
-use Rattle.epochs.specs.declared.collating.Happened.TheVariants as H
+use Rattle.epochs.specs.Happened.{Happened}
+use Rattle.epochs.specs.Happened as H
 use Rattle.epochs.proofs.Making.{seated}
 use Rattle.epochs.proofs.Collations.{epoch_outcome}
 use Rattle.epochs.proofs.Copies.{copy_outcome}

@@ -17,8 +17,8 @@ use Rattle.epochs.specs.Collator.{Move, feeding, moved, fed_frame}
 use Rattle.epochs.proofs.Feeding.{never_refuses}
 use Rattle.epochs.specs.declared.collating.Collator.{Collator}
 use Rattle.epochs.specs.declared.collating.Report.{Report}
-use Rattle.epochs.specs.declared.collating.Happened.{Happened}
-use Rattle.epochs.specs.declared.collating.Happened.TheVariants as H
+use Rattle.epochs.specs.Happened.{Happened}
+use Rattle.epochs.specs.Happened as H
 use Rattle.places.specs.State.{state_size, slot, slot_fields, slot_at, slot_of, state_in}
 use Rattle.states.specs.Feed.{report_fields, report_size, report_row, happened_number, happened_stored, move_in, FedIn, came_out, fed_in}
 use Rattle.told.specs.Told.{told_by, told}

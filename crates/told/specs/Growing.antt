@@ -4,7 +4,7 @@ use Rattle.std.specs.Prelude.{ℕ, ◌≤◌, ◌<◌, ◌≡◌, List, [], ◌�
 use Rattle.frames.specs.Frame.{Content}
 use Rattle.epochs.specs.Collator.{made}
 use Rattle.epochs.specs.Epoch.{after, outcomes}
-use Rattle.epochs.specs.declared.collating.Happened.{Happened}
+use Rattle.epochs.specs.Happened.{Happened}
 use Rattle.enlisting.specs.FirstEight.{first_eight}
 use Rattle.enlisting.specs.Enlisting.{enlisted_to, new_outcomes, new_after}
 use Rattle.places.specs.State.{state_in}

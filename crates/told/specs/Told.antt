@@ -4,8 +4,8 @@ use Rattle.wire.specs.Number.{Bytes, number_at}
 use Rattle.frames.specs.Frame.{Content}
 use Rattle.epochs.specs.Collator.{made}
 use Rattle.epochs.specs.declared.collating.Report.{Report}
-use Rattle.epochs.specs.declared.collating.Happened.{Happened}
-use Rattle.epochs.specs.declared.collating.Happened.TheVariants as H
+use Rattle.epochs.specs.Happened.{Happened}
+use Rattle.epochs.specs.Happened as H
 use Rattle.states.specs.Feed.{FedIn, fed_in}
 
 -- a frame as C has it: its payload is bytes, its sender a number of 16 bits

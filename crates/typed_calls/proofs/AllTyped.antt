@@ -14,40 +14,36 @@ use Rattle.logs.specs.Log.{read_log}
 use Rattle.calls.proofs.Giving as by
 use Rattle.typed_calls.specs.TypedCalls as typed
 
-ruleset givings = (by.plain, by.written_stored, by.gps_time, by.dilutions, by.pos_ecef, by.pos_llh, by.ecef_vector, by.ned_vector, by.baseline_heading, by.base_pos_llh, by.base_pos_ecef, by.ephemeris_gps, by.ephemeris_sbas, by.ephemeris_glo, by.ionosphere, by.sv_configuration_gps, by.group_delay, by.obs, by.one_observation, by.log, by.empty, by.read_by_index_req, by.start_up, by.heart_beat, by.reading, by.written)
+ruleset givings = (by.plain, by.answered, by.answered_stored, by.numbered)
 
 module _ {M : Type 1} {𝓤 : Ura M} (𝓛 : Logic 𝓤) (mem : Memory → SProp 𝓤) (run : Routine → Fun 𝓤) where
-  pub time_and_dops : typed.TimeAndDops 𝓛 mem run
+  pub messages : typed.Messages 𝓛 mem run
   unfolding read_as write_answer written_as
-  time_and_dops = search givings
+  messages = search givings
+
+  pub time_and_dops : typed.TimeAndDops 𝓛 mem run
+  time_and_dops = record { gps_time = messages _ _ _; dops = messages _ _ _ }
 
   pub positions : typed.Positions 𝓛 mem run
-  unfolding read_as write_answer written_as
-  positions = search givings
+  positions = record { pos_ecef = messages _ _ _; pos_llh = messages _ _ _ }
 
   pub baselines : typed.Baselines 𝓛 mem run
-  unfolding read_as write_answer written_as
-  baselines = search givings
+  baselines = record { baseline_ecef = messages _ _ _; vel_ecef = messages _ _ _; baseline_ned = messages _ _ _; vel_ned = messages _ _ _; baseline_heading = messages _ _ _ }
 
   pub base_positions : typed.BasePositions 𝓛 mem run
-  unfolding read_as write_answer written_as
-  base_positions = search givings
+  base_positions = record { base_pos_llh = messages _ _ _; base_pos_ecef = messages _ _ _ }
 
   pub gps_orbits : typed.GpsOrbits 𝓛 mem run
-  unfolding read_as write_answer written_as
-  gps_orbits = search givings
+  gps_orbits = record { ephemeris_gps = messages _ _ _ }
 
   pub orbits : typed.Orbits 𝓛 mem run
-  unfolding read_as write_answer written_as
-  orbits = search givings
+  orbits = record { ephemeris_sbas = messages _ _ _; ephemeris_glo = messages _ _ _ }
 
   pub atmosphere : typed.Atmosphere 𝓛 mem run
-  unfolding read_as write_answer written_as
-  atmosphere = search givings
+  atmosphere = record { iono = messages _ _ _; sv_configuration_gps = messages _ _ _; group_delay = messages _ _ _ }
 
   pub system : typed.System 𝓛 mem run
-  unfolding read_as write_answer written_as
-  system = search givings
+  system = record { settings_save = messages _ _ _; read_by_index_done = messages _ _ _; read_by_index_req = messages _ _ _; startup = messages _ _ _; heartbeat = messages _ _ _ }
 
   pub others : typed.Others 𝓛 mem run
   unfolding read_as write_answer written_as planned with_frame read_entry read_entry_of read_obs obs_write_answer obs_written read_log
