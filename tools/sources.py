@@ -2,8 +2,10 @@
 that these crates have, and says so (Unclear) where it meets another. Imported by tools/contracts and tools/reached.
 
 Public is what another crate or C can call: a `pub fn` of lib.rt or of a `pub mod`, one that is passed on by `pub use`, the `pub fn`s of a type
-that is reached so (`Type::name`), in whichever module of the crate their `impl` stands, and every `pub extern "C" fn`. A `pub fn` of a private
-module that nothing passes on is the crate's own, and so is a `pub(crate)` one.
+that is reached so (`Type::name`), in whichever module of the crate their `impl` stands, every function of an `impl` of one of these crates' traits,
+and every `pub extern "C" fn`. A `pub fn` of a private module that nothing passes on is the crate's own, and so is a `pub(crate)` one.
+A trait's function has clauses and no body, and that of an `impl` of it has these clauses: it is named as Rattle names it, by the type and then the
+trait (`PosEcefFixedMessage::take`, `U8InBytes::read`).
 """
 import os
 import re
@@ -16,7 +18,8 @@ CONST = re.compile(r"(?:pub(?:\([^)]*\))?\s+)?const\s+(\w+)")
 USE = re.compile(r"(pub(?:\([^)]*\))?\s+)?use\s+([^;]*);")
 MOD = re.compile(r"(pub\s+)?mod\s+(\w+)\s*;")
 TYPE = re.compile(r"(?:pub(?:\([^)]*\))?\s+)?(?:struct|enum)\s+(\w+)")
-IMPL = re.compile(r"impl(?:\s*<[^>]*>)?\s+(?:[\w:]+(?:<[^>]*>)?\s+for\s+)?([\w:]+)[^{]*\{")
+IMPL = re.compile(r"impl(?:\s*<[^>]*>)?\s+(?:([\w:]+)(?:<[^>]*>)?\s+for\s+)?([\w:]+)[^{]*\{")
+TRAIT = re.compile(r"(?:pub(?:\([^)]*\))?\s+)?trait\s+(\w+)[^{]*\{")
 FN = re.compile(r'(pub(?:\([^)]*\))?\s+)?(extern\s+"C"\s+)?fn\s+(\w+)')
 SPACE = re.compile(r"\s*")
 # a clause has a name of its own, where there are several
@@ -45,26 +48,58 @@ def paths(several):
     return [head + name for name in names.rstrip("}").split(",") if name] if names else [head]
 
 
-class Function:
-    """A function's head, clauses and body, in its module, and of the type `of`, if it is a method; `end` is where it ends in the text."""
+def past_generics(text, at):
+    """The index past the parameters in angle brackets that begin at `at`, if any do; `->` closes none."""
+    if not text.startswith("<", at):
+        return at
+    depth = 0
+    for i in range(at, len(text)):
+        depth += (text[i] == "<") - (text[i] == ">" and text[i - 1] != "-")
+        if depth == 0:
+            return i + 1
+    raise Unclear("a bracket is not closed")
 
-    def __init__(self, text, head, module, of=None):
+
+class Function:
+    """A function's head, clauses and body, in its module, and of the type `of`, if it is a method; `end` is where it ends in the text. A trait's
+    has no body; that of an `impl` of `trait` has the clauses that the trait gives it, which are put in once all crates are read."""
+
+    def __init__(self, text, head, module, of=None, trait=None, bodiless=False):
         self.name = head.group(3)
-        self.module, self.of = module, of
+        self.module, self.of, self.trait, self.promised = module, of, trait, None
         self.public = (head.group(1) or "").strip() == "pub"
         self.foreign = head.group(2) is not None
-        opens = text.index("(", head.end())
+        starts = past_generics(text, SPACE.match(text, head.end()).end())
+        self.generics = text[head.end():starts].strip()
+        opens = text.index("(", starts)
         closes = past(text, opens, "()")
-        body = re.compile(r"\b(?:requires|ensures|ghost)\b|\{").search(text, closes)
+        body = re.compile(r"\b(?:requires|ensures|ghost)\b|[{;]" if bodiless else r"\b(?:requires|ensures|ghost)\b|\{").search(text, closes)
         self.parameters = text[opens + 1:closes - 1]
         self.result = text[closes:body.start()].strip()
         self.clauses, at = [], body.start()
         while clause := CLAUSE.match(text, at):
             at = past(text, clause.end(), "{}")
             self.clauses.append((clause.group(1), text[clause.end() + 1:at - 1].strip()))
+        if bodiless:
+            self.end = SPACE.match(text, at).end()
+            if not text.startswith(";", self.end):
+                raise Unclear("a trait's function with a body: %s" % self.name)
+            self.end, self.body = self.end + 1, ""
+            return
+        if trait and self.clauses:
+            raise Unclear("a function of an `impl` of a trait with clauses of its own: %s" % self.name)
         opens = text.index("{", at)
         self.end = past(text, opens, "{}")
         self.body = text[opens:self.end]
+
+    def impl_name(self):
+        """Rattle's name of the `impl` of a trait that it stands in."""
+        kind = self.of.split("::")[-1]
+        return kind[0].upper() + kind[1:] + self.trait.split("::")[-1]
+
+    def full_name(self):
+        """Its name, as Type::name where it is a type's, by Rattle's name of the `impl` where it is of a trait."""
+        return "%s::%s" % (self.impl_name() if self.trait else self.of.split("::")[-1], self.name) if self.of else self.name
 
     def namesake(self, crates):
         """The function of the same name that it does nothing but call, with its own parameters in their order; else None."""
@@ -81,6 +116,7 @@ class Module:
         self.crate, self.above = crate, above
         self.root = above.root if above else self
         self.functions, self.methods, self.types, self.constants, self.uses, self.brought, self.modules = {}, [], set(), set(), [], {}, {}
+        self.traits = {}
         with open(path, encoding="utf-8") as file:
             self.text = COMMENT_OR_TEXT.sub(r"\1", file.read()).strip()
         folder = path[:-len(".rt")] if above and os.path.basename(path) != "mod.rt" else os.path.dirname(path)
@@ -108,11 +144,11 @@ class Module:
             return end + 1 if text[end] == ";" else past(text, end, "{}")
         elif m := IMPL.match(text, at):
             end = past(text, m.end() - 1, "{}")
-            inside = m.end()
-            while head := FN.search(text, inside, end):
-                method = Function(text, head, self, m.group(1))
-                self.methods.append(method)
-                inside = method.end
+            self.methods += self.functions_in(text, m.end(), end, of=m.group(2), trait=m.group(1))
+            return end
+        elif m := TRAIT.match(text, at):
+            end = past(text, m.end() - 1, "{}")
+            self.traits[m.group(1)] = {function.name: function for function in self.functions_in(text, m.end(), end, of=m.group(1), bodiless=True)}
             return end
         elif m := FN.match(text, at):
             function = Function(text, m, self)
@@ -121,6 +157,13 @@ class Module:
         else:
             raise Unclear("an item that is not known here: %s" % text[at:at + 60].split("\n")[0])
         return m.end()
+
+    def functions_in(self, text, inside, end, **where):
+        """The functions of a block."""
+        while head := FN.search(text, inside, end):
+            function = Function(text, head, self, **where)
+            inside = function.end
+            yield function
 
     def everywhere(self):
         yield self
@@ -131,7 +174,7 @@ class Module:
         """What a name means in this module; inside: it is followed by a further name of a path, so that it is no function."""
         if name in self.functions and not inside:
             return self.functions[name]
-        if name in self.types:
+        if name in self.types or name in self.traits:
             return self, name
         if name in self.modules:
             return self.modules[name][1]
@@ -144,7 +187,7 @@ class Module:
         head, *rest = path.split("::")
         if head in ("crate", "self", "super"):
             found = {"crate": self.root, "self": self, "super": self.above}[head]
-        elif used and head not in self.modules and head not in self.types:
+        elif used and head not in self.modules and head not in self.types and head not in self.traits:
             found = crates.get(head)
         else:
             found = self.item_named(head, crates, bool(rest)) or crates.get(head)
@@ -158,12 +201,14 @@ class Module:
         return found
 
     def methods_of(self, name):
-        """The methods of a type of this module, in all `impl`s of the crate."""
+        """The methods of a type of this module, in all `impl`s of the crate; or a trait's functions."""
+        if name in self.traits:
+            return list(self.traits[name].values())
         return [method for module in self.root.everywhere() for method in module.methods if module.leads_to(method.of, {}) == (self, name)]
 
     def public_here(self, prefix=""):
         """The functions that a caller of the crate can name, with their names."""
-        types = {(self, name) for name in self.types}
+        types = {(self, name) for name in (*self.types, *self.traits)}
         for name, function in self.functions.items():
             if function.public:
                 yield prefix + name, function
@@ -177,7 +222,7 @@ class Module:
                 raise Unclear("`pub use %s` names nothing of the crate" % path)
         for module, name in types:
             for method in module.methods_of(name):
-                if method.public:
+                if method.public or name in module.traits:
                     yield "%s%s::%s" % (prefix, name, method.name), method
         for name, (public, module) in self.modules.items():
             if public:
@@ -188,11 +233,13 @@ class Module:
         public, own = dict(self.public_here()), set()
         for module in self.everywhere():
             for method in module.methods:
-                if not isinstance(module.leads_to(method.of, {}), tuple):
+                if not method.trait and not isinstance(module.leads_to(method.of, {}), tuple):
                     raise Unclear("an `impl` of `%s`, which is no type of the crate" % method.of)
-            for function in [*module.functions.values(), *module.methods]:
-                name = "%s::%s" % (function.of.split("::")[-1], function.name) if function.of else function.name
-                if function.public and function.foreign:
+            for function in [*module.functions.values(), *module.methods, *(one for trait in module.traits.values() for one in trait.values())]:
+                name = function.full_name()
+                if function.promised:
+                    public[name] = function
+                elif function.public and function.foreign:
                     public[name] = function
                 elif function not in public.values():
                     own.add(name)
@@ -206,3 +253,16 @@ def crates(root="lib.rt"):
 
 def parsed(crate, root="lib.rt"):
     return Module(os.path.join(CRATES, crate, "src", root), crate)
+
+
+def promise(libraries):
+    """Gives each function of an `impl` of one of these crates' traits the clauses that the trait has for it."""
+    for root in libraries.values():
+        for module in root.everywhere():
+            for method in module.methods:
+                found = module.leads_to(method.trait, libraries) if method.trait else None
+                if isinstance(found, tuple) and found[1] in found[0].traits:
+                    method.promised = found[0].traits[found[1]].get(method.name)
+                    if method.promised is None:
+                        raise Unclear("%s: `%s` is no function of the trait" % (module.crate, method.full_name()))
+                    method.clauses = method.promised.clauses
