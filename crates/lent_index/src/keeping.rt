@@ -36,6 +36,7 @@ pub fn index_in(s: &[u8]) -> Index
     }
 }
 
+#[inline(always)]
 fn put_counts(s: &mut [u8], counts: &[u64; MESSAGES])
     ensures { s.new ≡ counts_stored counts.now s.old }
 {
@@ -44,6 +45,8 @@ fn put_counts(s: &mut [u8], counts: &[u64; MESSAGES])
     }
 }
 
+// Into its callers: an empty index is then zeros that are stored, and is built nowhere before.
+#[inline(always)]
 pub(crate) fn put_index(s: &mut [u8], index: &Index)
     ensures { s.new ≡ index_stored index.now s.old }
 {

@@ -16,7 +16,9 @@ pub fn store_bytes(buf: &mut [u8], at: usize, bytes: &[u8])
     ensures { buf.new ≡ bytes_stored bytes.now buf.old at }
 {
     if room(buf.len(), at, bytes.len()) {
-        let end = at + bytes.len();
-        buf[at..end].copy_from_slice(bytes);
+        // a loop, since copy_from_slice would have the library for C ask for memmove
+        for i in 0..bytes.len() {
+            buf[at + i] = bytes[i];
+        }
     }
 }

@@ -4,14 +4,42 @@ use Prim.Native.Nat.{◌+◌}
 use native.Mathlib.Omega.{arith}
 use borrow.Author.Tests.{leb-true, leb-false}
 use lib.ListN.{length}
-use Rattle.wire.proofs.Stored.{bytes_sets, bytes_nowhere, part_written}
+use Rattle.wire.proofs.Stored.{bytes_sets, bytes_nowhere}
+use Rattle.wire.proofs.Copies.{copied_none, copied_more, copied_all, copied_length}
 use Rattle.wire.proofs.store.store_bytes.Goals as goal
 
-pub returns-then-room : goal.returns-then-room
-returns-then-room c =
+pub loop-i-init : goal.loop-i-init
+loop-i-init c = let a = c.args in copied_none a.at a.buf.now a.bytes.now
+
+pub overflow_add-buf : goal.overflow_add-buf
+overflow_add-buf c =
     let a = c.args in
-    let fits = leb-true (a.at + length a.bytes.now) (length a.buf.now) (sym c.room.ensures ∙ c.if-room.true) in
-    part_written a.bytes.now a.buf.now c.copy_from_slice.new.self a.at _ fits c.copy_from_slice.ensures.after (omega arith) ∙ sym (bytes_sets a.bytes.now a.buf.now a.at fits)
+    omega (arith, leb-true (a.at + length a.bytes.now) (length a.buf.now) (sym c.room.ensures ∙ c.if-room.true))
+
+pub bounds-buf-at : goal.bounds-buf-at
+bounds-buf-at c =
+    let a = c.args in
+    omega (
+      arith,
+      leb-true (a.at + length a.bytes.now) (length a.buf.now) (sym c.room.ensures ∙ c.if-room.true),
+      copied_length a.at a.buf.now a.bytes.now c.loop-i.buf c.loop-i.i c.loop-i.invariant,
+    )
+
+pub loop-i-preserved : goal.loop-i-preserved
+loop-i-preserved c =
+    let a = c.args in
+    copied_more a.at a.buf.now a.bytes.now c.loop-i.buf c.loop-i.i c.loop-i.invariant c.loop-i-test.true
+
+pub shape_of-buf : goal.shape_of-buf
+shape_of-buf c =
+    let a = c.args in
+    copied_length a.at a.buf.now a.bytes.now c.loop-i.buf c.loop-i.i c.loop-i.invariant
+
+pub returns-after-loop-i : goal.returns-after-loop-i
+returns-after-loop-i c =
+    let a = c.args in
+    copied_all a.at a.buf.now a.bytes.now c.loop-i.buf c.loop-i.i c.loop-i.invariant c.loop-i-test.false
+    ∙ sym (bytes_sets a.bytes.now a.buf.now a.at (leb-true (a.at + length a.bytes.now) (length a.buf.now) (sym c.room.ensures ∙ c.if-room.true)))
 
 pub returns-else-room : goal.returns-else-room
 returns-else-room c =
