@@ -15,6 +15,7 @@ mod indexing;
 mod phasing;
 mod reading;
 mod rowing;
+mod sizes;
 mod texting;
 mod versioning;
 mod writing;

@@ -8,6 +8,8 @@ ghost use Rattle.row_writer.specs.WriteRow.{write_row, row_written};
 ghost use Rattle.logs.specs.Log.{log, logged};
 ghost use Rattle.senders.specs.Senders.{writer_from};
 
+use crate::sizes::size_or_code;
+
 // Every message without a tail, from one number for each field: 21 for a type that it does not write, 22 for another number of fields, 23 for a
 // number that its field cannot hold or that is outside its range, 31, 32.
 pub fn sbp_write(
@@ -23,7 +25,7 @@ pub fn sbp_write(
     ensures size_after { size.new ≡ size_left (write_row kind row.now (length out.old)) size.old }
 {
     let written = row_writer::write_row(out, kind, senders::writer_from(own, sender), row);
-    frame_writer::hand_on(written, size)
+    size_or_code(written, size)
 }
 
 // An OBS, from its header's three numbers and eight for each observation: 21, 22, 23, 31, 32.
@@ -47,7 +49,7 @@ pub fn sbp_write_obs(
         head,
         rows,
     );
-    frame_writer::hand_on(written, size)
+    size_or_code(written, size)
 }
 
 // A LOG: 23 for a zero in the text, 31 for a text and zeros over 254 bytes, then 32.
@@ -65,7 +67,7 @@ pub fn sbp_write_log(
     ensures size_after { size.new ≡ size_left (write_answer log (logged level text.now padding) (length out.old)) size.old }
 {
     let written = logs::write_log(out, senders::writer_from(own, sender), level, text, padding);
-    frame_writer::hand_on(written, size)
+    size_or_code(written, size)
 }
 
 // A frame of any type with any payload: 31 over 255 bytes, then 32.
@@ -82,5 +84,5 @@ pub fn sbp_write_frame(
     ensures size_after { size.new ≡ size_left (planned (length payload.now) (length out.old)) size.old }
 {
     let written = frame_writer::write_frame(out, kind, senders::writer_from(own, sender), payload);
-    frame_writer::hand_on(written, size)
+    size_or_code(written, size)
 }

@@ -1,6 +1,6 @@
 -- What a frame writer answers, and what it leaves in the buffer.
-use Rattle.std.specs.Prelude.{ℕ, ◌+◌, List, [], ◌∷◌, ◌++◌, leb, length, take, drop}
-use Rattle.refusals.specs.Refusals.{Answer, Tests, leaves, Call, reply}
+use Rattle.std.specs.Prelude.{ℕ, ◌+◌, List, [], ◌∷◌, ◌++◌, leb, length, take, drop, Result, Ok, Err}
+use Rattle.refusals.specs.Refusals.{Answer, given, refused, Tests, leaves, Call, reply}
 use Rattle.senders.specs.Senders.{carried}
 use Rattle.senders.specs.declared.Writer.{Writer}
 use Rattle.frames.specs.Frame.{frame_bytes, Content}
@@ -19,6 +19,11 @@ unfoldable pub planned : ℕ → ℕ → Answer ℕ
 planned n room = reply (planning n room)
 
 -- the number that a caller lends for the size: how many bytes were written, or what stood there
+-- by the number of a refusal, whichever it is
+abbrev pub written_answer : Result ℕ ℕ → Answer ℕ
+written_answer (Ok n) = given n
+written_answer (Err n) = refused n
+
 abbrev pub size_left : Answer ℕ → ℕ → ℕ
 size_left a before = leaves (λ n size. n) a before
 

@@ -2,24 +2,24 @@
 ghost use Rattle.std.specs.Prelude.{◌≡◌, length};
 ghost use Rattle.refusals.specs.Refusals.{zero_or};
 ghost use Rattle.refusals.specs.Numbers.{answer_of};
-ghost use Rattle.frame_writer.specs.Writer.{planned, size_left, sealed, with_frame};
+ghost use Rattle.frame_writer.specs.Writer.{written_answer, planned, size_left, sealed, with_frame};
 ghost use Rattle.frame_writer.specs.Inner.{headed};
 
 use refusals::Refusal;
 use senders::Writer;
 use wire::InBytes;
 
-// What was written as C and Rust are told it: 0 with the number of bytes through size, or the refusal's number.
-pub fn hand_on(written: Result<usize, Refusal>, size: &mut u64) -> u8
-    ensures value { result ≡ zero_or (answer_of written) }
-    ensures size_after { size.new ≡ size_left (answer_of written) size.old }
+// What was written as C and Rust are told it: 0 with the number of bytes through size, or a refusal's number, whichever it is.
+pub fn hand_on(written: Result<usize, u8>, size: &mut u64) -> u8
+    ensures value { result ≡ zero_or (written_answer written) }
+    ensures size_after { size.new ≡ size_left (written_answer written) size.old }
 {
     match written {
         Ok(n) => {
             *size = n as u64;
             0
         }
-        Err(e) => e.number(),
+        Err(number) => number,
     }
 }
 

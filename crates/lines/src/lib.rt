@@ -3,14 +3,13 @@
 // and say no more than the number that each hands back.
 #![tactic(auto)]
 
-ghost use Rattle.std.specs.Prelude.{◌≡◌, ◌+◌, ◌%◌, ◌^◌, length};
+ghost use Rattle.std.specs.Prelude.{◌≡◌, ◌+◌, ◌%◌, ◌^◌, length, Ok};
 ghost use Rattle.wire.specs.Number.{bytes_stored};
 ghost use Rattle.epochs.specs.Collator.{happened_of};
 ghost use Rattle.lines.specs.Lines.{frame_shown, totals_shown, epoch_part};
 
 use epochs::Report;
 use frames::{Counts, Frame};
-use refusals::Refusal;
 
 // `F` offset type sender length payload-answer
 pub fn put_frame(buf: &mut [u8], at: usize, f: Frame, answer: u8) -> usize
@@ -31,13 +30,13 @@ pub fn put_frame(buf: &mut [u8], at: usize, f: Frame, answer: u8) -> usize
     )
 }
 
-// `E` sender wn tow n observations, where the frame that was fed ended an epoch
+// `E` sender wn tow n observations, where an epoch ended; else nothing, whatever the frame was refused with
 #[tactic(auto, using(crate::proofs::Puts::nothing_stored))]
-pub fn put_epoch(buf: &mut [u8], at: usize, fed: Result<Option<Report>, Refusal>) -> usize
-    ensures value { result ≡ (at + length (epoch_part (happened_of fed))) % 2 ^ 64 }
-    ensures buf_after { buf.new ≡ bytes_stored (epoch_part (happened_of fed)) buf.old at }
+pub fn put_epoch(buf: &mut [u8], at: usize, ended: Option<Report>) -> usize
+    ensures value { result ≡ (at + length (epoch_part (happened_of (Ok ended)))) % 2 ^ 64 }
+    ensures buf_after { buf.new ≡ bytes_stored (epoch_part (happened_of (Ok ended))) buf.old at }
 {
-    let Ok(Some(epoch)) = fed else {
+    let Some(epoch) = ended else {
         return at;
     };
     text::put_line(

@@ -1,12 +1,24 @@
 // The lines of a listing, one after the other in a lent buffer.
-ghost use Rattle.std.specs.Prelude.{◌≡◌, ◌^◌, ◌≤◌, ◌<◌, leb, length};
+ghost use Rattle.std.specs.Prelude.{◌≡◌, ◌^◌, ◌≤◌, ◌<◌, leb, length, Ok};
 ghost use Rattle.std.proofs.lemmas.List.Edits.{sets};
 ghost use Rattle.refusals.specs.Numbers.{answer_of};
+ghost use Rattle.epochs.specs.Collator.{happened_of};
+ghost use Rattle.lines.specs.Lines.{epoch_part};
 ghost use Rattle.listing.specs.Listing.{text_of, most_listed, list_answer, with_listing};
 
-use epochs::Collator;
+use epochs::{Collator, Report};
 use frames::{Cursor, Next};
 use refusals::Refusal;
+
+// The epoch that a frame ended, if it did: a frame that is refused has no line of its own.
+fn ended(fed: Result<Option<Report>, Refusal>) -> Option<Report>
+    ensures { epoch_part (happened_of (Ok result)) ≡ epoch_part (happened_of fed) }
+{
+    match fed {
+        Ok(epoch) => epoch,
+        Err(_) => None,
+    }
+}
 
 // The text of a capture, in a buffer that may be too short for it; and its length. A sender has its seat before its frame is fed.
 // No `while let`: the end hands out the counts of the last line.
@@ -26,7 +38,7 @@ fn put_text(s: &[u8], buf: &mut [u8]) -> usize
                 at = lines::put_frame(buf, at, frame, answer);
                 enlisting::enlist(&mut collator, frame.kind, frame.sender);
                 let fed = collator.feed(frame.kind, frame.sender, payload);
-                at = lines::put_epoch(buf, at, fed);
+                at = lines::put_epoch(buf, at, ended(fed));
                 cursor = rest;
             }
             Next::End(last) => {

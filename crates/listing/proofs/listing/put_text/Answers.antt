@@ -1,7 +1,11 @@
 -- `listing::listing::put_text` meets its contract.
-use mathlib.Core.Path.{sym, ap₂, ◌∙◌}
+use mathlib.Core.Path.{sym, ap, ap₂, ◌∙◌}
+use mathlib.Core.List.{List}
+use Prim.Native.Nat.{ℕ, ◌+◌, ◌%◌, ◌^◌}
 use native.Mathlib.Omega.{arith}
+use lib.ListN.{length}
 use lib.Seq.{length-sets}
+use Rattle.wire.specs.Number.{bytes_stored}
 use Rattle.frames.proofs.CursorLoops.{left_fewer, never_needs}
 use Rattle.epochs.specs.Fed.{Fed}
 use Rattle.epochs.specs.Happened.{Happened}
@@ -23,7 +27,8 @@ loop-frame-preserved c =
     let fed = ap₂ {C = Fed} (λ (c : Collator) (h : Happened). record { collator = c; happened = h }) c.feed-fed.ensures.self_after c.feed-fed.ensures.value in
     putting_on c.args.s.now c.args.buf.now c.well_formed.0.0 c.requires c.loop-frame.invariant (sym c.next.ensures ∙ c.in-Frame.is) c.payload-payload.ensures
     (c.code-answer.ensures ∙ c.answer.ensures) c.put_frame-at.ensures.value c.put_frame-at.ensures.buf_after c.enlist.ensures fed
-    c.put_epoch-at.ensures.value c.put_epoch-at.ensures.buf_after
+    (c.put_epoch-at.ensures.value ∙ ap (λ (line : List ℕ). (c.put_frame-at.result + length line) % 2 ^ 64) c.ended.ensures)
+    (c.put_epoch-at.ensures.buf_after ∙ ap (λ (line : List ℕ). bytes_stored line c.put_frame-at.new.buf c.put_frame-at.result) c.ended.ensures)
 
 pub shape_of-buf-in-End : goal.shape_of-buf-in-End
 shape_of-buf-in-End c =
