@@ -84,6 +84,9 @@ module _ {M : Type 1} {𝓤 : Ura M} (𝓛 : Logic 𝓤) (mem : Memory → SProp
   pub record Collators : Type 1 where
     pub empty : Gives 𝓤 epochs.collating.Collator.empty.ended (epochs.collating.Collator.empty.clauses 𝓛 mem run) (λ κs. ((made []).collator, tt))
     pub make : Gives 𝓤 epochs.collating.Collator.made.ended (epochs.collating.Collator.made.clauses 𝓛 mem run) (λ κs roster. hands_back (rostering roster.now))
+    -- of a refused roster too: the collator that refuses every frame and never moves (demand 1's `refused_roster`)
+    pub made_or_empty : Gives 𝓤 epochs.collating.Collator.made_or_empty.ended (epochs.collating.Collator.made_or_empty.clauses 𝓛 mem run)
+        (λ κs roster. ((made roster.now).collator, tt))
     pub feed : Gives 𝓤 epochs.collating.Collator.feed.ended (epochs.collating.Collator.feed.clauses 𝓛 mem run)
         (λ κs c kind sender payload. let f = fed_frame c.now (record { kind = kind; sender = sender; payload = payload.now }) in (handed f.happened, (f.collator, tt)))
     -- the same of a collator by value, handed back with what came of the frame

@@ -334,6 +334,7 @@ module _ {M : Type 1} {𝓤 : Ura M} (𝓛 : Logic 𝓤) (mem : Memory → SProp
   pub record Epochs : Type 1 where
     pub empty : Determined 𝓤 epochs.collating.Collator.empty.ended (epochs.collating.Collator.empty.clauses 𝓛 mem run)
     pub made : Determined 𝓤 epochs.collating.Collator.made.ended (epochs.collating.Collator.made.clauses 𝓛 mem run)
+    pub made_or_empty : Determined 𝓤 epochs.collating.Collator.made_or_empty.ended (epochs.collating.Collator.made_or_empty.clauses 𝓛 mem run)
     pub listed : Determined 𝓤 epochs.collating.Collator.listed.ended (epochs.collating.Collator.listed.clauses 𝓛 mem run)
     pub feed : Determined 𝓤 epochs.collating.Collator.feed.ended (epochs.collating.Collator.feed.clauses 𝓛 mem run)
     pub fed : Determined 𝓤 epochs.collating.Collator.fed.ended (epochs.collating.Collator.fed.clauses 𝓛 mem run)

@@ -110,6 +110,16 @@ impl Collator {
         Ok(fresh(seats(roster), n))
     }
 
+    // The same where a collator is wanted in any case: of a roster that is refused it lists nobody, so that it refuses every frame.
+    pub fn made_or_empty(roster: &[u16]) -> Collator
+        ensures { result ≡ (made roster.now).collator }
+    {
+        match Collator::made(roster) {
+            Ok(collator) => collator,
+            Err(_) => Collator::empty(),
+        }
+    }
+
     pub fn listed(&self) -> Roster
         ensures senders { result.senders ≡ self.now.roster }
         ensures count { result.count ≡ self.now.count }
