@@ -6,7 +6,7 @@ use Rattle.refusals.specs.declared.Refusal.TheVariants.{CaptureTooLong, UnknownT
 
 -- ---- in Rattle: what was asked for, or a refusal
 
--- the refusal of a number; of a number that is none's, the last
+-- the refusal of a number, each by its numeral; of a number that is none's, the first
 abbrev pub refusal_of : ℕ → Refusal
 refusal_of n =
     cond (eqb n 11) CaptureTooLong
@@ -24,7 +24,8 @@ refusal_of n =
     (cond (eqb n 45) PastLast
     (cond (eqb n 46) NotObservations
     (cond (eqb n 47) Copied
-    (cond (eqb n 51) ListTooShort CaptureTooShort)))))))))))))))
+    (cond (eqb n 51) ListTooShort
+    (cond (eqb n 52) CaptureTooShort CaptureTooLong))))))))))))))))
 
 abbrev pub result_of : {A : Type 0} → Answer A → Result A Refusal
 result_of (given x) = Ok x

@@ -1,4 +1,6 @@
 // Whole captures collated: two with the same frames for each sender, in order, and shuffled between senders, with noise and an unlisted sender.
+use epochs::Collator;
+use refusals::Refusal;
 use senders::Writer;
 use std::io::Stdout;
 use wire::InBytes;
@@ -13,6 +15,9 @@ pub fn run(out: Stdout) {
     put_all(&mut shuffled, [18, 48, 98], [3, 68, 83]);
     put(&mut shuffled, 33, 77, 10, 0x21);
     counted(out, "shuffled", &shuffled);
+    nobody(out, &[]);
+    nobody(out, &[1, 2, 3, 4, 5, 6, 7, 8, 9]);
+    nobody(out, &[5, 6, 5]);
 }
 
 // The base's and the rover's frames at their places: an epoch of two, and of the base one of one, of the rover half of one.
@@ -47,4 +52,15 @@ fn counted(out: Stdout, name: &str, s: &[u8]) {
         }
         Err(e) => println!(out; "{name} {} 0 0", e.number()),
     };
+}
+
+// The collator of a refused roster lists nobody: a line where it takes a whole epoch of sender 5, and else none.
+fn nobody(out: Stdout, roster: &[u16]) {
+    let mut collator = Collator::made_or_empty(roster);
+    match collator.feed(0x0049, 5, &[10, 0, 0, 0, 0x6c, 0x07, 0x10]) {
+        Err(Refusal::NotListed) => {}
+        _ => {
+            let _ = println!(out; "taken for a refused roster");
+        }
+    }
 }

@@ -41,8 +41,10 @@ fn line(out: Stdout, n: u64) {
     let d = Double::read(&buf, 0);
     let is_nan = u8::from(d.value.is_nan());
     let kept = d.nan;
-    d.store(&mut buf, 0);
-    let written = u64::read(&buf, 0);
+    // into fresh bytes, so that a store that writes nothing is seen
+    let mut back = [0u8; 8];
+    d.store(&mut back, 0);
+    let written = u64::read(&back, 0);
     let _ = println!(out; "double {n:016x} {is_nan} {kept:016x} {written:016x}");
 }
 

@@ -7,7 +7,6 @@ use baselines::{BaselineEcef, EcefVector};
 use frame_writer::{read_message, write_message};
 use frames::Step;
 use senders::Writer;
-use std::io;
 use std::io::Stdout;
 
 // The example frame of 003, section 4.
@@ -38,15 +37,17 @@ fn sum_of(out: Stdout, name: &str, s: &[u8]) {
 // The one message that is read and written here as a record: of all the linked functions have the rows, which are proved to be the records.
 fn fields(out: Stdout, s: &[u8]) {
     if let Step::Found(f) = frames::step_at(s, 0) {
-        let _ = match read_message::<BaselineEcef>(frames::payload(s, f)) {
+        match read_message::<BaselineEcef>(frames::payload(s, f)) {
             Ok(r) => again(out, r),
-            Err(e) => println!(out; "baseline-ecef refused {}", e.number()),
-        };
+            Err(e) => {
+                let _ = println!(out; "baseline-ecef refused {}", e.number());
+            }
+        }
     }
 }
 
 // The fields, then the frame or the refusal.
-fn again(out: Stdout, r: EcefVector) -> io::Result<()> {
+fn again(out: Stdout, r: EcefVector) {
     let EcefVector {
         tow,
         x,
@@ -56,10 +57,10 @@ fn again(out: Stdout, r: EcefVector) -> io::Result<()> {
         n_sats,
         flags,
     } = r;
-    print!(out; "baseline-ecef {tow} {x} {y} {z} {accuracy} {n_sats} {flags}")?;
+    let _ = print!(out; "baseline-ecef {tow} {x} {y} {z} {accuracy} {n_sats} {flags}");
     let mut buf = [0u8; 28];
-    match write_message::<BaselineEcef>(&mut buf, Writer::made(0x0201), r) {
+    let _ = match write_message::<BaselineEcef>(&mut buf, Writer::made(0x0201), r) {
         Ok(n) => println!(out; " {}", Hex(front(&buf, n))),
         Err(e) => println!(out; " refused {}", e.number()),
-    }
+    };
 }
