@@ -38,7 +38,7 @@ module _ {H O : Type 0} (e : Edition H O) (s : List ℕ) (i : ℕ) where
   entry_given fits h = rw (fits, lt-ltb i (count_in e (length s)) h)
 
 module _ (s : List ℕ) where
-  obs_given : fitting first (length s) ≡ true → read_obs s ≡ given (obs_in s)
+  pub obs_given : fitting first (length s) ≡ true → read_obs s ≡ given (obs_in s)
   unfolding read_obs
   obs_given fits = rw fits
 

@@ -1,4 +1,4 @@
--- The messages by their type numbers, document 01's column Type. That these are the numbers of the one list is proved (proofs/Typed.antt).
+-- The messages by their type numbers, document 01's column Type. That these are the numbers of the one list is proved (proofs/TypesFound.antt).
 use Rattle.std.specs.Prelude.{ℕ, cond, List, [], ◌∷◌, eqb, Result, Ok, Err}
 use Rattle.refusals.specs.declared.Refusal.{Refusal}
 use Rattle.refusals.specs.declared.Refusal.TheVariants.{UnknownType}
