@@ -1,5 +1,6 @@
 -- A result comes back from the answer that a contract speaks of, so it is determined by it.
 use mathlib.Core.Path.{◌≡◌, refl, sym, ap, ◌∙◌}
+use mathlib.Core.List.{[], ◌∷◌, map}
 use Rattle.std.specs.Prelude.{ℕ, true, false, ltb, Result, Ok, Err}
 use Rattle.refusals.specs.Refusals.{Answer, as_number}
 use Rattle.refusals.specs.Numbers.{number_of, answer_of}
@@ -26,6 +27,11 @@ refusal_back NotObservations = refl
 refusal_back Copied = refl
 refusal_back ListTooShort = refl
 refusal_back CaptureTooShort = refl
+
+-- and each numeral is its refusal's, the first too, which stands for what is no refusal's number
+pub numbers_back : map (λ n. number_of (refusal_of n)) (11 ∷ 21 ∷ 22 ∷ 23 ∷ 25 ∷ 31 ∷ 32 ∷ 33 ∷ 41 ∷ 42 ∷ 43 ∷ 44 ∷ 45 ∷ 46 ∷ 47 ∷ 51 ∷ 52 ∷ [])
+    ≡ (11 ∷ 21 ∷ 22 ∷ 23 ∷ 25 ∷ 31 ∷ 32 ∷ 33 ∷ 41 ∷ 42 ∷ 43 ∷ 44 ∷ 45 ∷ 46 ∷ 47 ∷ 51 ∷ 52 ∷ [])
+numbers_back = refl
 
 pub result_back : {A : Type 0} → (r : Result A Refusal) → result_of (answer_of r) ≡ r
 result_back (Ok x) = refl
